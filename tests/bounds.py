@@ -204,12 +204,13 @@ def answer_to(bpf, ask):
 
 
 def endless(bpf):
-    """What is wrong with the answers to a text without end, where the command may have 256 MiB of memory, or nothing."""
-    for words in (["asm", "/dev/zero", "-"], ["explain", "--text", "/dev/zero"]):
+    """What is wrong with the answers to a text and to an image without end, where the command may have 256 MiB of memory, or nothing."""
+    unread, too_long = (3, b"", b"cannot read /dev/zero\n"), (1, b"no E1 at slot 0\n", b"")
+    for words, wanted in ((["asm", "/dev/zero", "-"], unread), (["explain", "--text", "/dev/zero"], unread), (["groups", "/dev/zero"], too_long)):
         room = lambda: resource.setrlimit(resource.RLIMIT_AS, (1 << 28, 1 << 28))
         done = subprocess.run([bpf, *words], preexec_fn=room, capture_output=True, timeout=SECONDS, check=False)
         got = done.returncode, done.stdout, done.stderr
-        if got != (3, b"", b"cannot read /dev/zero\n"):
+        if got != wanted:
             return f"{words}: {got}"
     return ""
 

@@ -4,6 +4,7 @@ generated:
 
 - texts about the limits of lines, functions and labels, a text cut at each byte, and long ones that are written again as they were;
 - the longest program, its work, its run, also on the plain machine of flat.py, and a longer one; as many functions as a certificate may have, and one more;
+  frames of which one slot lacks a byte;
 - generated programs with jumps to and fro, and loops in one another: what is proposed is certified, a run ends within its bound,
   and the deep search is as good as the plain one.
 
@@ -160,6 +161,32 @@ def hold_functions():
     return folder.commands
 
 
+def filled(lacking):
+    """A program that stores seven bytes in each slot of the frame, and six in one."""
+    stores = [f"*(u32 *)(r10 - {8 * slot}) = 0\n*(u16 *)(r10 - {8 * slot - 4}) = 0\n"
+              + ("" if slot == lacking else f"*(u8 *)(r10 - {8 * slot - 6}) = 0\n") for slot in range(1, 65)]
+    return "r0 = 0\n" + "".join(stores) + "exit\n"
+
+
+def claiming(lacking, mask):
+    """A certificate that claims seven bytes of each slot of the frame, and those of a mask of one."""
+    claims = "".join(f"s{slot} b{mask if slot == lacking else 127}\n" for slot in range(1, 65))
+    return "bpfcert 1 0 193\nfn 0 1 *\nat 0 193\nat 192 1\nr0 *\n" + claims + "end\n"
+
+
+def hold_slots():
+    """Whichever slot lacks a byte, that is missed where it is claimed, and is no harm where it isn't."""
+    folder = Folder()
+    for lacking in range(1, 65):
+        folder.put("p.asm", filled(lacking))
+        folder.put("six.cert", claiming(lacking, 63))
+        folder.put("seven.cert", claiming(lacking, 127))
+        folder.says("a filled frame", ["asm", "p.asm", "p.img"], "")
+        folder.says(f"six bytes of slot {lacking}", ["check", "p.img", "six.cert"], "yes length 0 bound 193\n")
+        folder.says(f"seven bytes of slot {lacking}", ["check", "p.img", "seven.cert"], "no C8 at slot 191\n")
+    return folder.commands
+
+
 # ---- what is generated
 
 def jumping(dice):
@@ -231,7 +258,7 @@ def hold_generated(pool):
 
 def main():
     with ThreadPoolExecutor(os.cpu_count()) as pool:
-        commands = hold_refused() + hold_cuts() + hold_migrations() + hold_longest() + hold_functions() + hold_generated(pool)
+        commands = hold_refused() + hold_cuts() + hold_migrations() + hold_longest() + hold_functions() + hold_slots() + hold_generated(pool)
     print(f"certificates: {commands} commands, no wrong answer")
 
 

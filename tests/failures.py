@@ -1,7 +1,8 @@
-"""failures.py BPF EXAMPLES SHIM MEMORY: the command under a library that refuses the Nth growth of memory, fails the Nth read or
-write, or shortens it. Right is the answer of the undisturbed command, or the named failure, with nothing half written: for want of
-memory the refusal of the step at which it ran out, or `no memory`; for a name the words that name it. So are calls that no command
-makes alone, by a program of their own."""
+"""failures.py BPF EXAMPLES SHIM CALLS: the command under a library that refuses the Nth growth of memory, fails the Nth open, read or
+write, or shortens it. For want of memory right is the answer of the undisturbed command, the refusal of the step at which it ran out, or
+`no memory`. A failure has to be told by its name, though the next try would go well: nothing is tried again. What is shortened changes
+nothing. Nothing is half written. CALLS is the program of crates/bpf_calls, which makes calls that no command makes alone."""
+import errno
 import os
 import pathlib
 import re
@@ -11,7 +12,7 @@ import sys
 import tempfile
 from concurrent.futures import ThreadPoolExecutor
 
-BPF, EXAMPLES, SHIM, MEMORY = sys.argv[1], pathlib.Path(sys.argv[2]), sys.argv[3], sys.argv[4]
+BPF, EXAMPLES, SHIM, CALLER = sys.argv[1], pathlib.Path(sys.argv[2]), sys.argv[3], sys.argv[4]
 OLD = b'what stood here before\n'
 # The refusal for want of memory: of an image, a certificate, a text, a search, a program to be hardened.
 E9, K4, A7, I5, H12 = 'no E9 at slot 0\n', 'no K4 at line 0\n', 'no A7 at line 0\n', 'no I5 at slot 0\n', 'no H12 at slot 0\n'
@@ -23,13 +24,11 @@ A7_TOLD, I5_TOLD = 'A7: out of memory\n', 'no certificate: I5, out of memory\n'
 MADE = ['OUT', 'standard output', '/dev/null', '/dev/zero']
 # What the line of an answer takes as it grows, in bytes: half a frame of a program.
 LINE = 256
-# Calls that no command makes alone, and their refusals.
-CALLS = {
-    'assemble': {'A7 at line 0'},
-    'decode_from': {'E9 at slot 0'},
-    'new': {'no list', 'E9 at slot 0'},
-    'verify': {'K4 at line 0'},
-}
+# How a read or write fails: by an error of the device, by an interruption, and without an error, where a write takes nothing.
+FAULTS = [errno.EIO, errno.EINTR, 0]
+# What calls that no command makes alone say where there is no memory, by their first words.
+WANT, WANT_OF_CERTIFICATE = 'out of memory', 'the certificate is refused: out of memory'
+CALLS = {'assemble': WANT, 'decode_from': WANT, 'new': WANT, 'verify': WANT_OF_CERTIFICATE}
 
 # The words of each command, and the refusal that want of memory may be at each of its steps, in their order.
 COMMANDS = [
@@ -180,26 +179,26 @@ def called(folder, **disturbed):
     """What the calls answer, by their names, and how often memory grew."""
     counts = folder / 'calls'
     env = {'LD_PRELOAD': SHIM, 'COUNT_FILE': str(counts), **{k: str(v) for k, v in disturbed.items()}}
-    done = subprocess.run([MEMORY], env=env, capture_output=True, timeout=60, check=True)
-    answers = dict(line.split(': ') for line in done.stdout.decode().splitlines())
+    done = subprocess.run([CALLER], env=env, capture_output=True, timeout=60, check=True)
+    answers = dict(line.split(': ', 1) for line in done.stdout.decode().splitlines())
     return answers, int(counts.read_text().split()[0])
 
 
 def show_calls(folder):
-    """Where one growth is refused, one call answers its refusal, and the others what they answer anyway. Each call has such growths."""
+    """Where one growth is refused, one call says so, and the others what they say anyway. Each call has such growths."""
     right, total = called(folder)
     seen = set()
     for n in range(1, total + 1):
         got, _ = called(folder, REFUSE_ALLOC=n)
-        others = [name for name in CALLS if got.get(name) != right[name]]
-        if list(got) != list(CALLS) or len(others) != 1 or got[others[0]] not in CALLS[others[0]]:
+        others = [name for name in right if got.get(name) != right[name]]
+        if list(got) != list(right) or len(others) != 1 or got[others[0]] != CALLS[others[0].split(',')[0]]:
             print(f'failures: allocation {n} of the calls\n  got   {got}\n  right {right}')
             sys.exit(1)
-        seen.add((others[0], got[others[0]]))
-    if seen != {(name, refusal) for name, refusals in CALLS.items() for refusal in refusals}:
+        seen.add(others[0])
+    if seen != set(right):
         print(f'failures: not each call was refused memory: {seen}')
         sys.exit(1)
-    print(f'{", ".join(CALLS)}: {total} allocations')
+    print(f'{"; ".join(right)}: {total} allocations')
 
 
 def try_memory(words, refusals, right):
@@ -218,11 +217,12 @@ def try_memory(words, refusals, right):
 
 
 def try_streams(words, right):
-    """Each read or write fails, and each is shortened."""
+    """Each read or write fails in each way, which is told, since none is tried again; and each is shortened."""
     for n in range(1, right.counts[3] + 1):
-        got = Answer(words, REFUSE_IO=n)
-        if got.told() != right.told() and not is_failure(got, right) or not whole_or_old(got, right):
-            wrong('read or write', n, got, right)
+        for fault in FAULTS:
+            got = Answer(words, REFUSE_IO=n, FAULT=fault)
+            if not is_failure(got, right) or not whole_or_old(got, right):
+                wrong('read or write', n, got, right)
     for n in range(1, right.counts[4] + 1):
         got = Answer(words, SHORT_IO=n)
         if got.told() != right.told() or got.left:

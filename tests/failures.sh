@@ -1,5 +1,5 @@
 #!/usr/bin/env bash
-# failures.sh: for every command, refuses each growth of memory in turn, fails each read and write in turn, and
+# failures.sh: for every command, refuses each growth of memory in turn, fails each open, read and write in turn, which must be told, and
 # shortens each; shows that runs and checks take no memory; refuses the growths of calls that no command makes; fails standard output
 # behind each byte, and standard error; and looks at what a search shows on a terminal. Prints what was tried; fails on any wrong
 # answer.
@@ -9,8 +9,8 @@ root=$(cd "$(dirname "${BASH_SOURCE[0]}")/.." && pwd)
 dir=$(mktemp -d)
 trap 'rm -rf "$dir"' EXIT
 "${CC:-cc}" -O2 -Wall -Wextra -shared -fPIC -o "$dir/refuse.so" "$root/tests/refuse.c" -ldl
-calls="$root/crates/bpf_memory/out/bpf_memory"
-[ -x "$calls" ] || (cd "$root/crates/bpf_memory" && rt run) >/dev/null
+calls="$root/crates/bpf_calls/out/bpf_calls"
+[ -x "$calls" ] || (cd "$root/crates/bpf_calls" && rt run) >/dev/null
 for script in failures streams; do
     python3 "$root/tests/$script.py" "${BPF:-$root/crates/bpf/out/bpf}" "$root/examples" "$dir/refuse.so" "$calls"
 done

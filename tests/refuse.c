@@ -2,6 +2,7 @@
  *
  *   REFUSE_ALLOC=N   the Nth growth of memory (malloc, calloc, realloc) is refused
  *   REFUSE_IO=N      the Nth read or write (also open, fsync, rename) fails
+ *   FAULT=N          the error with which that read or write fails; 0: a write takes nothing
  *   SHORT_IO=N       the Nth read or write of several bytes moves one
  *   OUT_LEFT=N       standard output takes N bytes more in all: a write takes what it can of them, and then writes fail
  *   ERR_LEFT=N       the same of standard error
@@ -30,7 +31,7 @@ extern void *__libc_calloc(size_t, size_t);
 extern void *__libc_realloc(void *, size_t);
 
 static long allocs, after, bytes, io, several, wrote;
-static long fail_alloc, fail_io, short_io, narrow;
+static long fail_alloc, fail_io, fault, short_io, narrow;
 /* of standard output and standard error; -1 where there is no limit */
 static long left[3] = {-1, -1, -1};
 /* -1 where the clock is the system's */
@@ -45,6 +46,7 @@ static long number(const char *name, long otherwise) {
 __attribute__((constructor)) static void begin(void) {
     fail_alloc = number("REFUSE_ALLOC", 0);
     fail_io = number("REFUSE_IO", 0);
+    fault = number("FAULT", EIO);
     short_io = number("SHORT_IO", 0);
     narrow = number("NARROW", 0);
     left[STDOUT_FILENO] = number("OUT_LEFT", -1);
@@ -74,6 +76,8 @@ void *malloc(size_t n) { return refused(n) ? (errno = ENOMEM, NULL) : __libc_mal
 void *calloc(size_t n, size_t m) { return refused(n * m) ? (errno = ENOMEM, NULL) : __libc_calloc(n, m); }
 void *realloc(void *p, size_t n) { return refused(n) ? (errno = ENOMEM, NULL) : __libc_realloc(p, n); }
 
+static int failed(long error) { return errno = error ? (int)error : EIO, -1; }
+
 /* -1: fail; else how many bytes to ask for. */
 static ssize_t asked(size_t n) {
     if (!on) return (ssize_t)n;
@@ -97,7 +101,7 @@ ssize_t read(int fd, void *to, size_t n) {
     ssize_t count = asked(n);
     if (!real) *(void **)&real = dlsym(RTLD_NEXT, "read");
     if (on) after = bytes = 0;
-    return count < 0 ? (errno = EIO, -1) : real(fd, to, (size_t)count);
+    return count < 0 ? failed(fault) : real(fd, to, (size_t)count);
 }
 
 ssize_t write(int fd, const void *from, size_t n) {
@@ -105,19 +109,30 @@ ssize_t write(int fd, const void *from, size_t n) {
     ssize_t count = taken(fd, asked(n));
     if (!real) *(void **)&real = dlsym(RTLD_NEXT, "write");
     if (on) wrote = 1;
-    return count < 0 ? (errno = EIO, -1) : real(fd, from, (size_t)count);
+    return count < 0 ? fault ? failed(fault) : 0 : real(fd, from, (size_t)count);
+}
+
+int open(const char *name, int flags, ...) {
+    static int (*real)(const char *, int, ...);
+    va_list more;
+    mode_t mode = 0;
+    va_start(more, flags);
+    if (flags & O_CREAT) mode = va_arg(more, mode_t);
+    va_end(more);
+    if (!real) *(void **)&real = dlsym(RTLD_NEXT, "open");
+    return on && ++io == fail_io ? failed(EIO) : real(name, flags, mode);
 }
 
 int fsync(int fd) {
     static int (*real)(int);
     if (!real) *(void **)&real = dlsym(RTLD_NEXT, "fsync");
-    return on && ++io == fail_io ? (errno = EIO, -1) : real(fd);
+    return on && ++io == fail_io ? failed(EIO) : real(fd);
 }
 
 int rename(const char *from, const char *to) {
     static int (*real)(const char *, const char *);
     if (!real) *(void **)&real = dlsym(RTLD_NEXT, "rename");
-    return on && ++io == fail_io ? (errno = EIO, -1) : real(from, to);
+    return on && ++io == fail_io ? failed(EIO) : real(from, to);
 }
 
 /* (by the system call, since a sanitizer looks at the clock from inside of dlsym) */

@@ -1,8 +1,8 @@
 """streams.py BPF EXAMPLES SHIM: the command where a stream takes so many bytes and then fails, and what it shows on a terminal.
 
-Where standard output takes so many bytes, 7 a write, what goes out is a beginning of the whole text: of explanations, graphs,
-checks, listings and runs it is tried with each length, of long texts at the edges of their pieces. Where it fails, that is told
-on standard error; where that fails as well, the status is all that is left. A context on the command line has up to 4,096 bytes.
+Where standard output takes so many bytes, 7 a write, what goes out is a beginning of the whole text: of each command that prints it is
+tried with each length, of long texts and a long image at the edges of their pieces. Where it fails, that is told on standard error;
+where that fails as well, the status is all that is left. A context on the command line has up to 4,096 bytes.
 A deep search shows its line on a terminal by a clock that goes on at each look, and shows nothing elsewhere."""
 import errno
 import os
@@ -15,7 +15,8 @@ import tty
 from concurrent.futures import ThreadPoolExecutor
 
 BPF, EXAMPLES, SHIM = os.path.abspath(sys.argv[1]), pathlib.Path(sys.argv[2]).absolute(), os.path.abspath(sys.argv[3])
-TOLD = b'cannot write standard output\n'
+# what is told where standard output fails: by its name, where it stands for OUT
+TOLD, TOLD_OF_OUT = b'cannot write standard output\n', b'cannot write -\n'
 CLEARED = '\r\x1b[K'
 # the longest text that is tried with each length
 LONGEST = 2_000
@@ -23,14 +24,15 @@ LONGEST = 2_000
 TEXTS = {
     'falling': 'r6 = 10\nr6 += -1\nif r6 != 0 goto -2\nr0 = 0\nexit\n',
     'endless': 'goto -1\n',
-    'long': 'r0 = 0\n' * 599 + 'exit\n',
+    'long': 'r0 = 0\n' * 1_199 + 'exit\n',
     'last-byte': 'r0 = *(u8 *)(r1 + 4095)\nexit\n',
     'nest': 'r0 = 0\nr6 = 3\na: r7 = 3\nb: r8 = 3\nc: r8 += -1\nif r8 != 0 goto c\n'
             'r7 += -1\nif r7 != 0 goto b\nr6 += -1\nif r6 != 0 goto a\nexit\n',
 }
 FILES = {
     'falling.cert': b'bpfcert 1 0 23\nfn 0 1 *\nat 0 23\nat 1 2 +1*r6\nr6 u1..10\nend\n',
-    'long.cert': b'bpfcert 1 0 600\nfn 0 1 *\nat 0 600\nend\n',
+    'long.cert': b'bpfcert 1 0 1200\nfn 0 1 *\nat 0 1200\nend\n',
+    'smallest.notes': b'bpfnotes 1\n0: first 0 entry 0 body 0\n1: first 1 entry 1 body 1 r0=same\n',
     'refused.img': b'\xb7\x10\0\0\0\0\0\0',
     'refused.asm': b'r0 = 0\nr1 = r11\n',
     'refused.cert': b'bpfcert 3 0 2\n',
@@ -53,12 +55,16 @@ CALLS = [
 ]
 # the words, and what they say
 LINES = [
+    ('groups smallest.img', b'base\n'),
     ('check smallest.img smallest.cert', b'yes length 0 bound 2\n'),
+    ('run-checked smallest.img smallest.cert none', b'done 0\n'),
+    ('follows smallest.img smallest.img smallest.notes 0', b'yes length 0 turns 65536\n'),
     ('list smallest.img', b'r0 = 0\nexit\n'),
+    ('migrate falling.cert -', b'bpfcert 2 0 0 23\nfn 0 1 *\nat 0 23\nat 1 2 +1*r6\nr6 u1..10\nend\n'),
     ('explain smallest.img', b'an image of 2 slots\n'),
     ('run smallest.img none --steps 2', b'done 0 steps 2\n'),
 ]
-LONG_CALLS = ['explain long.img long.cert', 'explain long.img long.cert --dot']
+LONG_CALLS = ['explain long.img long.cert', 'explain long.img long.cert --dot', 'list long.img', 'asm long.asm -']
 # the words, the status, and the one where standard error fails
 SILENT = [('groups nowhere', 3, 3), ('run smallest.img zz --steps 9', 2, 3), ('groups', 2, 2)]
 # the context, the status, and what is said on the two streams
@@ -100,7 +106,8 @@ def whole_of(words, status):
 def try_room(case):
     """Whether a beginning goes out where standard output takes so many bytes."""
     words, status, whole, room = case
-    right = (status, whole, b'') if room >= len(whole) else (3, whole[:room], TOLD)
+    told = TOLD_OF_OUT if words.endswith(' -') else TOLD
+    right = (status, whole, b'') if room >= len(whole) else (3, whole[:room], told)
     require(f'{words}: standard output takes {room} bytes', answer(words, OUT_LEFT=room, NARROW=7), right)
 
 

@@ -1,6 +1,6 @@
 -- Notes of the text that was read at a name.
 use Rattle.std.proofs.Common.{◌≡◌, ◌⊎◌, ◌<◌, ℕ, List, Option, Some, Result, Ok, Err, IfOk, IfErr, IfSome, MatchResult, length, subst, inr}
-use Rattle.bpf_follows.specs.declared.notes.Place.{Place}
+use Rattle.bpf_follows_law.specs.declared.notes.Place.{Place}
 use Rattle.bpf_follows_notes.specs.NotesText.{notes_text}
 use Rattle.bpf_follows_notes.specs.Refused.{IsRefused}
 use Rattle.bpf_follows_notes.specs.declared.error.NotesError.{NotesError}

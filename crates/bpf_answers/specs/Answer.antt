@@ -24,9 +24,9 @@ use Rattle.bpf_infer_error.specs.declared.error.InferError.{InferError}
 use Rattle.bpf_infer_error.specs.declared.error.InferError.TheVariants.{Unstable, NoBudget, Recursion, Fault as NoState, Memory as InferMemory}
 use Rattle.bpf_harden_notes.specs.RefusalNumbers.{harden_number, harden_slot}
 use Rattle.bpf_harden_notes.specs.declared.error.HardenError.{HardenError}
-use Rattle.bpf_follows.specs.MismatchNumbers.{mismatch_number, mismatch_slot}
+use Rattle.bpf_follows.specs.Mismatches.{mismatch_number, mismatch_slot}
 use Rattle.bpf_follows.specs.declared.mismatch.Mismatch.{Mismatch}
-use Rattle.bpf_follows.specs.declared.notes.Bounds.{Bounds}
+use Rattle.bpf_follows_law.specs.declared.notes.Bounds.{Bounds}
 use Rattle.bpf_follows_notes.specs.Refused.{refusal_number as notes_number, refusal_line as notes_line}
 use Rattle.bpf_follows_notes.specs.declared.error.NotesError.{NotesError}
 use Rattle.bpf_machine.specs.declared.outcome.Outcome.{Outcome}

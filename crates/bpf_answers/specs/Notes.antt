@@ -1,6 +1,6 @@
 -- Notes at a name.
 use Rattle.std.specs.Prelude.{◌≡◌, ◌⊎◌, ◌<◌, ℕ, List, length, Option}
-use Rattle.bpf_follows.specs.declared.notes.Place.{Place}
+use Rattle.bpf_follows_law.specs.declared.notes.Place.{Place}
 use Rattle.bpf_follows_notes.specs.NotesText.{notes_text}
 use Rattle.bpf_follows_notes.specs.Refused.{IsRefused}
 use Rattle.bpf_follows_notes.specs.declared.error.NotesError.{NotesError}

@@ -11,7 +11,8 @@ ghost use Rattle.bpf_answers.specs.Told.{OutputFails};
 
 use crate::failure::{DONE, Failure, say};
 use crate::refusal::refuse_at;
-use bpf_follows::{Bounds, Mismatch, Place};
+use bpf_follows::Mismatch;
+use bpf_follows_law::{Bounds, Place};
 use bpf_follows_notes::{NotesError, read};
 use bpf_places::{PlaceError, Places, read_up_to};
 use std::alloc::{AllocError, Global};

@@ -3,8 +3,8 @@ use Rattle.std.proofs.Common.{◌≡◌, ◌⊎◌, Some, None, ℕ, List, true,
 use Rattle.std.specs.Borrow.{Bor}
 use Rattle.bpf_insn.specs.Instruction.{Instructions}
 use Rattle.bpf_insn.specs.Image.{IsProgram, image}
-use Rattle.bpf_follows.specs.declared.notes.Place.{Place}
-use Rattle.bpf_follows.specs.Laws.{MatchingKeepsMeaning}
+use Rattle.bpf_follows_law.specs.declared.notes.Place.{Place}
+use Rattle.bpf_follows_law.specs.Laws.{MatchingKeepsMeaning}
 use Rattle.bpf_follows_notes.specs.NotesText.{notes_text}
 use Rattle.bpf_request.specs.declared.hardening.Hardening.{Hardening}
 use Rattle.bpf_places.specs.Opened.{Opening}

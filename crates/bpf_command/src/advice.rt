@@ -20,6 +20,13 @@ fn tell_line<H: Aside, D: Display + Drop>(aside: &H, line: D) {
     }
 }
 
+/// Tells a line on a terminal, as `write!` spells it.
+macro_rules! tell {
+    ($aside:expr, $text:expr) => {
+        tell_line($aside, format_args!($text))
+    };
+}
+
 /// The word for the order of an image, with a blank behind it.
 fn order_word(order: Order) -> &'static str {
     match order {
@@ -29,25 +36,6 @@ fn order_word(order: Order) -> &'static str {
 }
 
 // ---- a refusal of an image, a text or a certificate
-
-/// The command that tells more of a refusal.
-#[derive(Clone, Copy)]
-struct Told<'a> {
-    flags: &'static str,
-    order: Order,
-    input: &'a str,
-    certificate: Option<&'a str>,
-}
-
-impl<'a> Display for Told<'a> {
-    fn fmt<W: fmt::Write>(&self, f: &mut fmt::Formatter<W>) -> fmt::Result {
-        let (flags, order, input) = (self.flags, order_word(self.order), self.input);
-        match self.certificate {
-            Some(name) => write!(f, "`bpf explain {flags}{order}{input} {name}` tells why"),
-            None => write!(f, "`bpf explain {flags}{order}{input}` tells why"),
-        }
-    }
-}
 
 /// Names the command that tells why a request was refused, if one tells it of all its refusals. A search tells of its own.
 pub(crate) fn after_refusal<H: Aside>(aside: &H, request: Request<'_>) {
@@ -64,13 +52,14 @@ pub(crate) fn after_refusal<H: Aside>(aside: &H, request: Request<'_>) {
         } => ("", order, input, Some(certificate)),
         _ => return,
     };
-    let told = Told {
-        flags,
-        order,
-        input,
-        certificate,
-    };
-    tell_line(aside, told)
+    let order = order_word(order);
+    match certificate {
+        Some(name) => tell!(
+            aside,
+            "`bpf explain {flags}{order}{input} {name}` tells why"
+        ),
+        None => tell!(aside, "`bpf explain {flags}{order}{input}` tells why"),
+    }
 }
 
 // ---- a refusal of a search
@@ -110,33 +99,6 @@ impl<'a> Display for Explaining<'a> {
     }
 }
 
-/// What may help a program for which no certificate was found.
-#[derive(Clone, Copy)]
-struct Cures<'a> {
-    sought: Sought<'a>,
-    may_deepen: bool,
-    may_harden: bool,
-}
-
-impl<'a> Display for Cures<'a> {
-    fn fmt<W: fmt::Write>(&self, f: &mut fmt::Formatter<W>) -> fmt::Result {
-        let Sought { input, least, .. } = self.sought;
-        let (order, explaining) = (order_word(self.sought.order), Explaining(self.sought));
-        match (self.may_deepen, self.may_harden) {
-            (true, true) => write!(
-                f,
-                "try --deep, or `bpf harden {order}{input} {least} NEW`; {explaining} tells why"
-            ),
-            (true, false) => write!(f, "try --deep; {explaining} tells why"),
-            (false, true) => write!(
-                f,
-                "try `bpf harden {order}{input} {least} NEW`; {explaining} tells why"
-            ),
-            (false, false) => write!(f, "{explaining} tells why"),
-        }
-    }
-}
-
 /// Whether a program may be hardened so that it has a certificate, as far as the refusal tells.
 fn may_be_hardened(error: InferError) -> bool {
     match error {
@@ -164,91 +126,56 @@ pub(crate) fn after_search<H: Aside>(
     if let InferError::Memory = error {
         return;
     }
-    let cures = Cures {
-        sought,
-        may_deepen: !sought.deep && may_be_found(program, error),
-        may_harden: sought.least == sought.most && may_be_hardened(error),
-    };
-    tell_line(aside, cures)
+    let Sought { input, least, .. } = sought;
+    let (order, explaining) = (order_word(sought.order), Explaining(sought));
+    let may_deepen = !sought.deep && may_be_found(program, error);
+    let may_harden = sought.least == sought.most && may_be_hardened(error);
+    match (may_deepen, may_harden) {
+        (true, true) => tell!(
+            aside,
+            "try --deep, or `bpf harden {order}{input} {least} NEW`; {explaining} tells why"
+        ),
+        (true, false) => tell!(aside, "try --deep; {explaining} tells why"),
+        (false, true) => tell!(
+            aside,
+            "try `bpf harden {order}{input} {least} NEW`; {explaining} tells why"
+        ),
+        (false, false) => tell!(aside, "{explaining} tells why"),
+    }
 }
 
 // ---- what a hardened program is shown to keep
 
-/// What fails of a hardened program's notes.
-#[derive(Clone, Copy)]
-struct Unshown(Mismatch);
-
-impl Display for Unshown {
-    fn fmt<W: fmt::Write>(&self, f: &mut fmt::Formatter<W>) -> fmt::Result {
-        let (number, slot) = (self.0.number(), self.0.slot());
-        write!(f, "not shown to keep the meaning: M{number} at slot {slot}")
-    }
-}
-
-/// The runs for which a hardened program is shown to keep the meaning: those that leave so many of the lowest bytes of each frame to r10.
-#[derive(Clone, Copy)]
-struct Kept {
-    untouched: u32,
-}
-
-impl Display for Kept {
-    fn fmt<W: fmt::Write>(&self, f: &mut fmt::Formatter<W>) -> fmt::Result {
-        let untouched = self.untouched;
-        if untouched == 0 {
-            write!(f, "shown to keep the meaning")
-        } else {
-            write!(
-                f,
-                "shown to keep the meaning where the old program leaves the lowest {untouched} bytes of its frames alone"
-            )
-        }
-    }
-}
-
 /// Tells that notes show that a hardened program keeps the meaning, and for which runs.
 pub(crate) fn after_proof<H: Aside>(aside: &H, untouched: u32) {
-    tell_line(aside, Kept { untouched })
+    if untouched == 0 {
+        return tell_line(aside, "shown to keep the meaning");
+    }
+    tell!(
+        aside,
+        "shown to keep the meaning where the old program leaves the lowest {untouched} bytes of its frames alone"
+    )
 }
 
 /// Tells what of the notes of a hardened program fails.
 pub(crate) fn after_mismatch<H: Aside>(aside: &H, mismatch: Mismatch) {
-    tell_line(aside, Unshown(mismatch))
-}
-
-/// What fails of the notes of a program that was to be proved.
-#[derive(Clone, Copy)]
-struct Unproved(Mismatch);
-
-impl Display for Unproved {
-    fn fmt<W: fmt::Write>(&self, f: &mut fmt::Formatter<W>) -> fmt::Result {
-        let number = self.0.number();
-        write!(
-            f,
-            "M{number} of its notes; without --proved it is written, too"
-        )
-    }
+    let (number, slot) = (mismatch.number(), mismatch.slot());
+    tell!(
+        aside,
+        "not shown to keep the meaning: M{number} at slot {slot}"
+    )
 }
 
 /// Tells what fails of the notes of a program that isn't written for that.
 pub(crate) fn after_unshown<H: Aside>(aside: &H, mismatch: Mismatch) {
-    tell_line(aside, Unproved(mismatch))
+    let number = mismatch.number();
+    tell!(
+        aside,
+        "M{number} of its notes; without --proved it is written, too"
+    )
 }
 
 // ---- failures
-
-/// A word that spells no bytes.
-#[derive(Clone, Copy)]
-struct NoHex<'a>(&'a str);
-
-impl<'a> Display for NoHex<'a> {
-    fn fmt<W: fmt::Write>(&self, f: &mut fmt::Formatter<W>) -> fmt::Result {
-        let word = self.0;
-        write!(
-            f,
-            "`{word}` isn't two hexadecimal digits a byte, nor `none`: --context FILE takes the bytes of a file"
-        )
-    }
-}
 
 /// Which words of `explain` don't go together.
 fn clash_text(clash: Clash) -> &'static str {
@@ -286,8 +213,8 @@ fn context_word<'a>(request: Request<'a>) -> Option<&'a str> {
         Request::Run {
             contexts: Contexts::Word(word),
             ..
-        } => Some(word),
-        Request::RunChecked {
+        }
+        | Request::RunChecked {
             contexts: Contexts::Word(word),
             ..
         } => Some(word),
@@ -300,7 +227,10 @@ pub(crate) fn after_failure<H: Aside>(aside: &H, request: Request<'_>, failure: 
     match failure {
         Failure::BadContext(ContextError::BadHex) => {
             if let Some(word) = context_word(request) {
-                tell_line(aside, NoHex(word));
+                tell!(
+                    aside,
+                    "`{word}` isn't two hexadecimal digits a byte, nor `none`: --context FILE takes the bytes of a file"
+                );
             }
         }
         Failure::NotTogether => {

@@ -9,7 +9,8 @@ ghost use Rattle.bpf_command_core.specs.Followed.{FollowsFails, FollowsSays, Not
 use bpf_answers::{
     Failure, notes_at, program_at, refuse_match, refuse_new, refuse_notes, refuse_old, say_followed,
 };
-use bpf_follows::{Bounds, follows};
+use bpf_follows::follows;
+use bpf_follows_law::Bounds;
 use bpf_insn::Program;
 use bpf_places::Places;
 use bpf_request::Following;

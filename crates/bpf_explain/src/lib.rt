@@ -5,6 +5,6 @@
 mod program;
 
 pub use bpf_explain_inputs::{write_fault, write_program, write_refusal, write_text_refusal};
-pub use bpf_explain_program::{Shown, dot_plain, is_table, write_alone};
-pub use bpf_explain_search::{Found, explain_inferred, explain_searched, may_be_found};
+pub use bpf_explain_program::{Shown, is_table, write_alone};
+pub use bpf_explain_search::{Found, Search, explain_search, may_be_found};
 pub use program::explain;

@@ -20,7 +20,7 @@ const MAX_LIMIT: u64 = u64::MAX;
 const LONG_LINE: &str = "a line has at most 256 bytes";
 
 /// What a line of a certificate begins with.
-#[derive(Clone, Copy, PartialEq, Eq)]
+#[derive(Clone, Copy, PartialEq)]
 enum Kind {
     Header,
     Function,
@@ -92,12 +92,10 @@ impl fmt::Display for Limits {
     }
 }
 
-/// The same for what a line knows of a number, if it has one.
-fn number_limits(kind: Kind) -> &'static str {
+/// A text of what a line knows of a number, if it has one.
+fn if_number(kind: Kind, text: &'static str) -> &'static str {
     match kind {
-        Kind::Function | Kind::Register | Kind::Slot => {
-            "; u is 0 to 18446744073709551615, s -9223372036854775808 to 9223372036854775807, lo is at most hi, value and mask share no bit"
-        }
+        Kind::Function | Kind::Register | Kind::Slot => text,
         Kind::Header | Kind::Label | Kind::End | Kind::Other => "",
     }
 }
@@ -224,16 +222,6 @@ fn spelling_rule(kind: Kind) -> &'static str {
     }
 }
 
-/// The same for what a line knows of a number, if it has one.
-fn number_spelling(kind: Kind) -> &'static str {
-    match kind {
-        Kind::Function | Kind::Register | Kind::Slot => {
-            "; the parts of a number come in the order u, s, k, one that says nothing is left out, and 0 has no sign"
-        }
-        Kind::Header | Kind::Label | Kind::End | Kind::Other => "",
-    }
-}
-
 /// K2: why a line isn't the one spelling of what it says.
 fn tell_spelling<W: Tell>(out: &mut W, text: &[u8]) {
     let line = Line(text);
@@ -241,7 +229,11 @@ fn tell_spelling<W: Tell>(out: &mut W, text: &[u8]) {
         return write!(out, "{line}: a number has a needless zero in front\n");
     }
     let kind = kind_of(text);
-    let (rule, more) = (spelling_rule(kind), number_spelling(kind));
+    let rule = spelling_rule(kind);
+    let more = if_number(
+        kind,
+        "; the parts of a number come in the order u, s, k, one that says nothing is left out, and 0 has no sign",
+    );
     write!(out, "{line}: {rule}{more}\n");
 }
 
@@ -251,7 +243,11 @@ fn tell_limit<W: Tell>(out: &mut W, line: &[u8]) {
         return write!(out, "{LONG_LINE}\n");
     }
     let kind = kind_of(line);
-    let (line, limits, more) = (Line(line), Limits(kind), number_limits(kind));
+    let (line, limits) = (Line(line), Limits(kind));
+    let more = if_number(
+        kind,
+        "; u is 0 to 18446744073709551615, s -9223372036854775808 to 9223372036854775807, lo is at most hi, value and mask share no bit",
+    );
     write!(out, "{line}: {limits}{more}\n");
 }
 

@@ -51,15 +51,7 @@ fn choice_of(opcode: u8) -> Option<Choice> {
     }
 }
 
-/// E5: the values of the field that selects the operation.
-fn choices(opcode: u8) -> &'static str {
-    match choice_of(opcode) {
-        Some(choice) => choices_of(choice),
-        None => "no field selects the operation",
-    }
-}
-
-/// The values of a field that selects an operation.
+/// E5: the values of a field that selects the operation.
 fn choices_of(choice: Choice) -> &'static str {
     match choice {
         Choice::Signedness => "offset must be 0, without sign, or 1, with sign",
@@ -104,7 +96,7 @@ fn tell_fault<W: Tell>(out: &mut W, fields: Fields, fault: SlotFault) {
         SlotFault::Register => tell_register(out, fields),
         SlotFault::Unused { fields: wrong } => tell_unused(out, wrong),
         SlotFault::Selector => {
-            let text = choices(opcode);
+            let text = choice_of(opcode).map_or("no field selects the operation", choices_of);
             write!(out, "{text}\n");
         }
         SlotFault::Truncated => write!(

@@ -1,5 +1,6 @@
 //! A program alone, without a certificate.
 
+use crate::graph::tell_plain_dot;
 use crate::reach::tell_unreached;
 use bpf_explain_page::{Count, Page, Tell};
 use bpf_insn::{Code, Insn, MAX_SLOTS};
@@ -33,10 +34,14 @@ fn tell_alone<C: Code, W: Tell>(program: &C, out: &mut W) {
     tell_unreached(program, out);
 }
 
-/// Tells how many slots a program has, what looks like a lost relocation, and what nothing reaches. A fault of the writer, or a
-/// write of no bytes, ends it. It takes no memory.
-pub fn write_alone<C: Code, W: Write>(program: &C, out: &mut W) -> io::Result<()> {
+/// Draws the graph of a program (`is_graph`), or tells how many slots it has, what looks like a lost relocation, and what nothing reaches. A
+/// fault of the writer, or a write of no bytes, ends it. It takes no memory, and writes pieces of up to 4,096 bytes.
+pub fn write_alone<C: Code, W: Write>(program: &C, is_graph: bool, out: &mut W) -> io::Result<()> {
     let mut page = Page::new(out);
-    tell_alone(program, &mut page);
+    if is_graph {
+        tell_plain_dot(program, &mut page);
+    } else {
+        tell_alone(program, &mut page);
+    }
     page.finish()
 }

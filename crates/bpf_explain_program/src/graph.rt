@@ -19,10 +19,9 @@ use crate::reach::reached_from_start;
 use crate::slots::Slots;
 use bpf_cert::Certificate;
 use bpf_check::{Index, Refusal};
-use bpf_explain_page::{Page, Tell};
+use bpf_explain_page::Tell;
 use bpf_insn::Code;
 use std::fmt::Display;
-use std::io::{self, Write};
 
 /// What a graph shows.
 #[derive(Drop)]
@@ -135,21 +134,18 @@ pub fn tell_sketched_dot<C: Code, W: Tell, D: Display + Drop>(
     begin_title(page);
     write!(page, "{title}\n");
     end_title(page);
-    match certificate {
-        Some(certificate) => {
-            let index = Index::of(certificate);
-            write_scene(page, program, &scene_of(program, Some(&index), false, flaw))
-        }
-        None => write_scene(page, program, &scene_of(program, None, false, None)),
-    }
+    let flaw = certificate.and(flaw);
+    let index = certificate.map(Index::of);
+    write_scene(
+        page,
+        program,
+        &scene_of(program, index.as_ref(), false, flaw),
+    )
 }
 
-/// Writes the control-flow graph of a program alone as DOT text: its blocks, in functions that begin at slot 0 and where calls
-/// lead, and all edges. A fault of the writer, or a write of no bytes, ends it. It takes no memory, and writes pieces of up
-/// to 4,096 bytes.
-pub fn dot_plain<C: Code, W: Write>(program: &C, out: &mut W) -> io::Result<()> {
-    let mut page = Page::new(out);
-    write_style(&mut page);
-    write_scene(&mut page, program, &scene_of(program, None, false, None));
-    page.finish()
+/// Draws the control-flow graph of a program alone as DOT text: its blocks, in functions that begin at slot 0 and where calls lead, and all
+/// edges.
+pub fn tell_plain_dot<C: Code, W: Tell>(program: &C, page: &mut W) {
+    write_style(page);
+    write_scene(page, program, &scene_of(program, None, false, None))
 }

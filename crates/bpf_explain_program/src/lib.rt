@@ -23,7 +23,7 @@ mod whole;
 mod words;
 
 pub use alone::write_alone;
-pub use graph::{dot_plain, tell_sketched_dot};
+pub use graph::tell_sketched_dot;
 pub use judged::refusal_of;
 pub use known::{Name, Spelled};
 pub use listing::write_padded;

@@ -1,22 +1,26 @@
 //! What states know of places, of registers as of slots, and which places instructions write and compare.
 
+ghost use Rattle.std.specs.Prelude.{◌≤◌};
+
 use crate::sight::is_test;
 use bpf_cert::value_slot;
 use bpf_infer_base::{PLACES, PlaceSet};
 use bpf_insn::Insn;
 use bpf_state::{Place, Pointer, SlotState, State, Tag};
 
+/// A number of a slot, which is from 1 to 64.
+fn numbered(k: u8) -> u8
+    ensures low { 1 ≤ result }
+    ensures high { result ≤ 64 }
+{
+    k.max(1).min(64)
+}
+
 /// What a state knows of a place, of a register as of a slot.
 pub fn content(state: &State, place: Place) -> SlotState {
     match place {
         Place::Register(r) => value_slot(state.reg(r)),
-        Place::Slot(k) => {
-            if k >= 1 && k <= 64 {
-                state.slot(k)
-            } else {
-                SlotState::Bytes(0)
-            }
-        }
+        Place::Slot(k) => state.slot(numbered(k)),
     }
 }
 
@@ -24,13 +28,7 @@ pub fn content(state: &State, place: Place) -> SlotState {
 pub fn tag_at(state: &State, place: Place) -> Option<Tag> {
     match place {
         Place::Register(_) => state.tag(place),
-        Place::Slot(k) => {
-            if k >= 1 && k <= 64 {
-                state.tag(place)
-            } else {
-                None
-            }
-        }
+        Place::Slot(k) => state.tag(Place::Slot(numbered(k))),
     }
 }
 
@@ -39,11 +37,7 @@ pub fn take_over(state: &mut State, other: &State, place: Place) {
     other.valid();
     match place {
         Place::Register(r) => state.set_reg(r, other.reg(r)),
-        Place::Slot(k) => {
-            if k >= 1 && k <= 64 {
-                state.set_slot(k, other.slot(k));
-            }
-        }
+        Place::Slot(k) => state.set_slot(numbered(k), other.slot(numbered(k))),
     }
 }
 

@@ -9,14 +9,12 @@ pub struct Slots {
 impl Slots {
     /// No slot is in it.
     pub fn none() -> Self {
-        Slots { held: [0; 1024] }
+        Slots::filled(0)
     }
 
-    /// Each slot is in it.
-    pub fn all() -> Self {
-        Slots {
-            held: [u64::MAX; 1024],
-        }
+    /// Each word of 64 slots is this one.
+    pub fn filled(word: u64) -> Self {
+        Slots { held: [word; 1024] }
     }
 
     /// Puts a slot in, if it is at most 65,535.

@@ -50,10 +50,7 @@ impl<'a> SourceLines<'a> {
         if self.rest.is_empty() {
             return None;
         }
-        match cut(self.rest, b'\n') {
-            Some(parts) => Some(parts),
-            None => Some((self.rest, self.rest.get(..0).unwrap_or(&[]))),
-        }
+        Some(cut(self.rest, b'\n').unwrap_or((self.rest, &[])))
     }
 
     /// Reads one line, unless it is of a later slot. Whether one was read.

@@ -129,10 +129,7 @@ impl Trail {
 
     /// What a register holds.
     pub fn held(&self, reg: Reg) -> Held {
-        match self.held.get(reg as usize) {
-            Some(held) => *held,
-            None => Held::of(0),
-        }
+        self.held.get(reg as usize).copied().unwrap_or(Held::of(0))
     }
 
     /// A register as the instruction at a slot takes it.

@@ -137,14 +137,11 @@ fn write_reason<W: Tell>(out: &mut W, program: &Program, stop: &Stop, effort: Ef
 
 /// Whether an instruction at a slot or behind it leads back to the slot or in front of it.
 fn is_in_loop(program: &Program, slot: u32) -> bool {
-    for from in slot..program.slots().min(MAX_SLOTS as u32) {
-        if let Some(insn) = program.at(from) {
-            if jump_target(from, insn).is_some_and(|to| to <= slot) {
-                return true;
-            }
-        }
-    }
-    false
+    let leads_back = |from: u32| program
+        .at(from)
+        .and_then(|insn| jump_target(from.min(MAX_SLOTS as u32), insn))
+        .is_some_and(|to| to <= slot);
+    (slot..program.slots()).any(leads_back)
 }
 
 /// Tells of which round the states are. The plain inferrer ends where an instruction is refused, in whichever round of a loop that is; the deep
@@ -167,17 +164,14 @@ fn write_round<W: Tell>(out: &mut W, program: &Program, stop: &Stop, effort: Eff
     }
 }
 
+/// Whether an instruction leads back or calls a function.
+fn is_round(insn: &Insn) -> bool {
+    matches!(*insn, Insn::CallLocal { .. }) || insn.distance().is_some_and(|off| off < 0)
+}
+
 /// Whether a program has a loop or calls a function: elsewhere both searches know the same.
 fn goes_round(program: &Program) -> bool {
-    for slot in 0..program.slots() {
-        if let Some(insn) = program.at(slot) {
-            let calls = matches!(*insn, Insn::CallLocal { .. });
-            if calls || insn.distance().is_some_and(|off| off < 0) {
-                return true;
-            }
-        }
-    }
-    false
+    (0..program.slots()).any(|slot| program.at(slot).is_some_and(is_round))
 }
 
 /// Whether the deep search may find what the plain one refuses, as far as the refusal and the program tell.
@@ -281,19 +275,6 @@ fn explain_certified<W: Write>(
     })
 }
 
-/// Explains where a search stopped, in pieces of up to 4,096 bytes.
-fn explain_stop<W: Write>(
-    out: &mut W,
-    program: &Program,
-    stop: &Stop,
-    shown: Shown<'_>,
-    effort: Effort,
-) -> io::Result<()> {
-    let mut page = Page::new(out);
-    write_stop(&mut page, program, stop, shown, effort);
-    page.finish()
-}
-
 /// Explains what a search found. What was found, with the checker's answer, or the refusal.
 fn explain<W: Write>(
     out: &mut W,
@@ -313,7 +294,9 @@ fn explain<W: Write>(
             Ok(Ok(found))
         }
         Err(stop) => {
-            explain_stop(out, program, &stop, shown, effort)?;
+            let mut page = Page::new(out);
+            write_stop(&mut page, program, &stop, shown, effort);
+            page.finish()?;
             Ok(Err(stop.error))
         }
     }
@@ -365,67 +348,57 @@ fn with_walk(alloc: Global, quest: Quest<'_>, stop: Stop) -> Stop
     }
 }
 
-/// Shows a program with the certificate that the inferrer proposes for contexts of `least` to `most` bytes, at most 4,096, and the
-/// checker's answer; where it proposes none, with the states at its labels as far as it came, and in words why (I1 to I5), of a graph
-/// by number alone. The certificate with the checker's answer, or the refusal, is given back. A fault of the writer, or a write of no bytes, ends it.
-pub fn explain_inferred<W: Write>(
+/// A search for contexts of `least` to `most` bytes, the plain one or the deep one, and what is shown of what it finds.
+#[derive(Clone, Copy)]
+pub struct Search<'t> {
+    pub least: u32,
+    pub most: u32,
+    pub deep: bool,
+    pub shown: Shown<'t>,
+}
+
+/// Shows a program with the certificate that a search finds for contexts of at most 4,096 bytes, and the checker's answer; where it finds none,
+/// with the states at its labels as far as it came, and in words why (I1 to I5), of a graph by number alone. The certificate with the
+/// checker's answer, or the refusal, is given back. A fault of the writer, or a write of no bytes, ends it. Who watches is told how far the
+/// deep search is.
+pub fn explain_search<W: Write, H: Watch>(
     alloc: Global,
     program: &Program,
-    least: u32,
-    most: u32,
-    shown: Shown<'_>,
+    asked: Search<'_>,
+    watch: &mut H,
     out: &mut W,
 ) -> io::Result<Result<Found, InferError>>
-    requires order { least ≤ most }
-    requires short { most ≤ max_context }
+    requires order { asked.least ≤ asked.most }
+    requires short { asked.most ≤ max_context }
     ensures version { IfOk result (λ told. IfOk told (λ f. f.certificate.version ≡ 2)) }
-    ensures least { IfOk result (λ told. IfOk told (λ f. f.certificate.least ≡ least)) }
-    ensures most { IfOk result (λ told. IfOk told (λ f. f.certificate.most ≡ most)) }
+    ensures least { IfOk result (λ told. IfOk told (λ f. f.certificate.least ≡ asked.entry.least)) }
+    ensures most { IfOk result (λ told. IfOk told (λ f. f.certificate.most ≡ asked.entry.most)) }
     ensures certificate { IfOk result (λ told. IfOk told (λ f. IsCertificate f.certificate)) }
     ensures accepted { IfOk result (λ told. IfOk told (λ f. IfNone f.refusal (IsCertifiedBy program.now f.certificate))) }
     ensures refused { IfOk result (λ told. IfOk told (λ f. IfSome f.refusal (λ r. IsLeastFlaw program.now f.certificate (refusal_slot r) (refusal_number r)))) }
     ensures slot { IfOk result (λ told. IfErr told (λ e. infer_slot e < slots program.now.list)) }
 {
+    let Search {
+        least,
+        most,
+        deep,
+        shown,
+    } = asked;
     let quest = Quest {
         program,
         least,
         most,
     };
+    if deep {
+        let found = match search_or_stop(alloc, program, least, most, watch) {
+            Ok(certificate) => Ok(certificate),
+            Err(stop) => Err(with_walk(alloc, quest, stop)),
+        };
+        return explain(out, program, found, shown, Effort::Deep);
+    }
     let found = match infer(alloc, program, least, most) {
         Ok(certificate) => Ok(certificate),
         Err(error) => Err(stop_of(alloc, quest, error)),
     };
     explain(out, program, found, shown, Effort::Plain)
-}
-
-/// Explains the same of the deep search, with its own states where it proposes none. Who watches is told how far it is.
-pub fn explain_searched<W: Write, H: Watch>(
-    alloc: Global,
-    program: &Program,
-    least: u32,
-    most: u32,
-    watch: &mut H,
-    shown: Shown<'_>,
-    out: &mut W,
-) -> io::Result<Result<Found, InferError>>
-    requires order { least ≤ most }
-    requires short { most ≤ max_context }
-    ensures version { IfOk result (λ told. IfOk told (λ f. f.certificate.version ≡ 2)) }
-    ensures least { IfOk result (λ told. IfOk told (λ f. f.certificate.least ≡ least)) }
-    ensures most { IfOk result (λ told. IfOk told (λ f. f.certificate.most ≡ most)) }
-    ensures certificate { IfOk result (λ told. IfOk told (λ f. IsCertificate f.certificate)) }
-    ensures accepted { IfOk result (λ told. IfOk told (λ f. IfNone f.refusal (IsCertifiedBy program.now f.certificate))) }
-    ensures refused { IfOk result (λ told. IfOk told (λ f. IfSome f.refusal (λ r. IsLeastFlaw program.now f.certificate (refusal_slot r) (refusal_number r)))) }
-    ensures slot { IfOk result (λ told. IfErr told (λ e. infer_slot e < slots program.now.list)) }
-{
-    let quest = Quest {
-        program,
-        least,
-        most,
-    };
-    let found = match search_or_stop(alloc, program, least, most, watch) {
-        Ok(certificate) => Ok(certificate),
-        Err(stop) => Err(with_walk(alloc, quest, stop)),
-    };
-    explain(out, program, found, shown, Effort::Deep)
 }

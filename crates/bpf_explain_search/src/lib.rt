@@ -5,4 +5,4 @@
 mod inferred;
 mod obstacles;
 
-pub use inferred::{Found, explain_inferred, explain_searched, may_be_found};
+pub use inferred::{Found, Search, explain_search, may_be_found};

@@ -3,46 +3,14 @@ use Rattle.std.proofs.Common.{◌≡◌, ◌↔◌, ◌==◌, Bool, true, false,
 use Rattle.std.specs.Ordering.{int_eq}
 use Rattle.std.proofs.lemmas.Bool.{false≢true, eqb-true, and_from}
 use Rattle.std.proofs.lemmas.Bool.Decides.{Decides-int_eq, Decides-eqb}
-use Rattle.bpf_insn.specs.declared.instruction.Reg.{Reg}
-use Rattle.bpf_insn.specs.declared.instruction.Reg.TheVariants.{R0, R1, R2, R3, R4, R5, R6, R7, R8, R9, R10}
 use Rattle.bpf_insn.specs.contracts.instruction.RegPartialEq.TheImpl as reg_eq
-use Rattle.bpf_follows.specs.declared.notes.Area.{Area}
-use Rattle.bpf_follows.specs.declared.notes.Area.TheVariants.{Given, Own}
-use Rattle.bpf_follows.specs.contracts.notes.AreaPartialEq.TheImpl as area_eq
-use Rattle.bpf_follows.specs.declared.notes.Kind.{Kind}
-use Rattle.bpf_follows.specs.declared.notes.Kind.TheVariants.{Nothing, Unset, Same, Both, Number, Natural, Inner, Length, Sized, Closing, Ending, Head, Offset, Fixed, Within, Start, Base, Moved, Address, Saved, Kept, Constant, Counter, Turn, Alone, Returns}
-use Rattle.bpf_follows.specs.contracts.notes.KindPartialEq.TheImpl as kind_eq
-
-both_true : (a b : Bool) → (a && b) ≡ true → (a ≡ true) × (b ≡ true)
-both_true true b e = (refl, e)
-both_true false b e = absurd (false≢true e)
-
-reg_same : (a b : Reg) → (reg_eq.ghosts).eq a b ≡ true → a ≡ b
-reg_same R0 R0 e = refl
-reg_same R1 R1 e = refl
-reg_same R2 R2 e = refl
-reg_same R3 R3 e = refl
-reg_same R4 R4 e = refl
-reg_same R5 R5 e = refl
-reg_same R6 R6 e = refl
-reg_same R7 R7 e = refl
-reg_same R8 R8 e = refl
-reg_same R9 R9 e = refl
-reg_same R10 R10 e = refl
-reg_same a b e = absurd (false≢true e)
-
-reg_self : (a : Reg) → (reg_eq.ghosts).eq a a ≡ true
-reg_self R0 = refl
-reg_self R1 = refl
-reg_self R2 = refl
-reg_self R3 = refl
-reg_self R4 = refl
-reg_self R5 = refl
-reg_self R6 = refl
-reg_self R7 = refl
-reg_self R8 = refl
-reg_self R9 = refl
-reg_self R10 = refl
+use Rattle.bpf_insn.proofs.InsnLemmas.{both_true, reg_same, reg_self}
+use Rattle.bpf_follows_law.specs.declared.notes.Area.{Area}
+use Rattle.bpf_follows_law.specs.declared.notes.Area.TheVariants.{Given, Own}
+use Rattle.bpf_follows_law.specs.contracts.notes.AreaPartialEq.TheImpl as area_eq
+use Rattle.bpf_follows_law.specs.declared.notes.Kind.{Kind}
+use Rattle.bpf_follows_law.specs.declared.notes.Kind.TheVariants.{Nothing, Unset, Same, Both, Number, Natural, Inner, Length, Sized, Closing, Ending, Head, Offset, Fixed, Within, Start, Base, Moved, Address, Saved, Kept, Constant, Counter, Turn, Alone, Returns}
+use Rattle.bpf_follows_law.specs.contracts.notes.KindPartialEq.TheImpl as kind_eq
 
 area_same : (a b : Area) → (area_eq.ghosts).eq a b ≡ true → a ≡ b
 area_same Given Given e = refl

@@ -4,11 +4,11 @@ use Rattle.std.proofs.lemmas.Bool.{false≢true}
 use Rattle.std.proofs.lemmas.Option.{same_Some}
 use Rattle.bpf_insn.specs.Instruction.{Instructions, insn_at}
 use Rattle.bpf_insn.specs.declared.instruction.Insn.{Insn}
-use Rattle.bpf_follows.specs.declared.notes.Kind.{Kind}
-use Rattle.bpf_follows.specs.declared.notes.Place.{Place}
-use Rattle.bpf_follows.specs.declared.site.Front.{Front}
-use Rattle.bpf_follows.specs.declared.site.Site.{Site}
-use Rattle.bpf_follows.specs.Matching.{IsSite}
+use Rattle.bpf_follows_law.specs.declared.notes.Kind.{Kind}
+use Rattle.bpf_follows_law.specs.declared.notes.Place.{Place}
+use Rattle.bpf_follows_law.specs.declared.site.Front.{Front}
+use Rattle.bpf_follows_law.specs.declared.site.Site.{Site}
+use Rattle.bpf_follows_law.specs.Matching.{IsSite}
 
 abbrev site : ℕ → Insn → ℕ → Insn → List Kind → Site
 site slot insn new_slot moved kinds = record { slot = slot; insn = insn; new_slot = new_slot; moved = moved; kinds = kinds }

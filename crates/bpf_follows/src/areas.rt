@@ -2,9 +2,9 @@
 
 ghost use Rattle.std.specs.Prelude.{◌≡◌};
 ghost use Rattle.bpf_insn.specs.Instruction.{register_number};
-ghost use Rattle.bpf_follows.specs.Areas.{origin, is_own, same_area, size_of, first_of, area_of, is_offset, are_alike, unbounded, is_homed_by};
+ghost use Rattle.bpf_follows_law.specs.Areas.{origin, is_own, same_area, size_of, first_of, area_of, is_offset, are_alike, unbounded, is_homed_by};
 
-use crate::notes::{Area, Kind};
+use bpf_follows_law::{Area, Kind};
 use bpf_insn::{FRAME_BYTES, Reg};
 use bpf_packets::HEAD_BYTES;
 

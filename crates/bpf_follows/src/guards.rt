@@ -2,14 +2,13 @@
 
 ghost use Rattle.std.specs.Prelude.{◌≡◌, pos, ◌+ℤ◌, ◌-ℤ◌};
 ghost use Rattle.bpf_packets.specs.Blocks.{head_bytes};
-ghost use Rattle.bpf_follows.specs.Guards.{range_of, offset_range, fixed_in, added_to, added_range, is_near, clipped, natural_part, bounds_range, range_in, is_most, is_least, is_other, is_long, end_in, is_before, is_behind, ends_behind, is_reached, reached, reached_by, reaches, passes_constant, passes, at_most, at_least, passed_by};
+ghost use Rattle.bpf_follows_law.specs.Guards.{range_of, offset_range, fixed_in, added_to, added_range, is_near, clipped, natural_part, bounds_range, range_in, is_most, is_least, is_other, is_long, end_in, is_before, is_behind, ends_behind, is_reached, reached, reached_by, reaches, passes_constant, passes, at_most, at_least, passed_by};
 
 use crate::areas::{first_of, same_area, size_of};
 use crate::extras::{is_taken, offset_in};
 use crate::keeps::given_in;
 use crate::kinds::{is_register, kind_in};
-use crate::notes::{Area, Kind, Kinds};
-use crate::site::{Front, Range, Span};
+use bpf_follows_law::{Area, Front, Kind, Kinds, Range, Span};
 use bpf_insn::{AluOp, Cond, Insn, Operand, Reg, Width, extended};
 use bpf_packets::HEAD_BYTES;
 

@@ -1,12 +1,12 @@
 //! Extra instructions that put what the new program keeps into its frame, and take it out again.
 
 ghost use Rattle.std.specs.Prelude.{◌≡◌, ◌<◌, IfSome};
-ghost use Rattle.bpf_follows.specs.Extras.{frame_slot, own_kind, kept_kind, free_slot, stored, given_in, closing, restored, taken, packet_length, constant_put, moved_by};
+ghost use Rattle.bpf_follows_law.specs.Extras.{frame_slot, own_kind, kept_kind, free_slot, stored, given_in, closing, restored, taken, packet_length, constant_put, moved_by};
 
 use crate::extras::{copied, is_base, is_same};
 use crate::frame::{is_r10, slot_of};
 use crate::kinds::{REGISTERS, is_free, is_register, kind_in, kind_of};
-use crate::notes::{Area, Kind, Kinds};
+use bpf_follows_law::{Area, Kind, Kinds};
 use bpf_insn::{Insn, Reg, Size};
 
 /// The slot of the own frame that begins so far from a register.
@@ -93,7 +93,7 @@ fn closing(by: u32, have: Kind) -> Kind
 }
 
 /// What is put back of what was saved, in the place of what is of a kind.
-#[tactic(auto, unfolding(crate::specs::Extras::restored))]
+#[tactic(auto, unfolding(bpf_follows_law::specs::Extras::restored))]
 pub fn restored(r: Reg, have: Kind, kind: Kind) -> Kind
     ensures { result ≡ restored r have kind }
 {

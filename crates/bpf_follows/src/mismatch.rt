@@ -1,7 +1,7 @@
 //! Why it isn't shown that a program keeps the meaning of another one.
 
 ghost use Rattle.std.specs.Prelude.{◌≡◌};
-ghost use Rattle.bpf_follows.specs.MismatchNumbers.{fault_number, mismatch_number, mismatch_slot};
+ghost use Rattle.bpf_follows.specs.Mismatches.{fault_number, mismatch_number, mismatch_slot};
 
 /// What fails at a slot of the old program.
 #[derive(Clone, Copy, Debug, PartialEq, Eq)]

@@ -1,14 +1,14 @@
 //! Instructions at which the old program is surely stuck, by what is said of its registers.
 
 ghost use Rattle.std.specs.Prelude.{◌≡◌, ◌+ℤ◌, pos};
-ghost use Rattle.bpf_follows.specs.Relation.{kind_in};
-ghost use Rattle.bpf_follows.specs.Stuck.{points, operand_points, is_misused, is_torn, is_wrong, may_lie, is_outside, goes_outside, is_stuck};
+ghost use Rattle.bpf_follows_law.specs.Relation.{kind_in};
+ghost use Rattle.bpf_follows_law.specs.Stuck.{points, operand_points, is_misused, is_torn, is_wrong, may_lie, lies_outside, goes_outside, is_stuck};
 
 use crate::areas::{is_homed_by, size_of};
 use crate::frame::{is_r10, slot_of};
 use crate::inner::first_at;
 use crate::kinds::kind_in;
-use crate::notes::{Kind, Kinds};
+use bpf_follows_law::{Kind, Kinds};
 use bpf_insn::{Access, AluOp, Insn, Operand, Reg, Size, Width};
 
 // ---- pointers where only numbers serve
@@ -94,8 +94,8 @@ fn first_byte(offset: i32, access: Access) -> i64
 }
 
 /// Whether an access by a register of this kind surely lies outside.
-fn is_outside(length: u32, kind: Kind, access: Access) -> bool
-    ensures { result ≡ is_outside length kind access }
+fn lies_outside(length: u32, kind: Kind, access: Access) -> bool
+    ensures { result ≡ lies_outside length kind access }
 {
     match kind {
         Kind::Fixed { area, offset } => !may_lie(
@@ -119,7 +119,7 @@ fn goes_outside(length: u32, kinds: &Kinds, insn: &Insn) -> bool
     ensures { result ≡ goes_outside length (kind_in kinds.now) insn.now }
 {
     match insn.access() {
-        Some(access) => is_outside(length, kind_in(kinds, access.base), access),
+        Some(access) => lies_outside(length, kind_in(kinds, access.base), access),
         None => false,
     }
 }

@@ -5,11 +5,11 @@ use Rattle.std.specs.Fmt.{signed_decimal}
 use Rattle.bpf_insn.specs.Limits.{max_slots}
 use Rattle.bpf_insn.specs.Instruction.{register_number}
 use Rattle.bpf_insn.specs.declared.instruction.Reg.{Reg}
-use Rattle.bpf_follows.specs.declared.notes.Area.{Area}
-use Rattle.bpf_follows.specs.declared.notes.Area.TheVariants.{Given, Own}
-use Rattle.bpf_follows.specs.declared.notes.Kind.{Kind}
-use Rattle.bpf_follows.specs.declared.notes.Kind.TheVariants.{Nothing, Unset, Same, Both, Number, Natural, Inner, Length, Sized, Ending, Closing, Offset, Fixed, Within, Start, Head, Base, Moved, Address, Saved, Kept, Constant, Counter, Turn, Alone, Returns}
-use Rattle.bpf_follows.specs.declared.notes.Place.{Place}
+use Rattle.bpf_follows_law.specs.declared.notes.Area.{Area}
+use Rattle.bpf_follows_law.specs.declared.notes.Area.TheVariants.{Given, Own}
+use Rattle.bpf_follows_law.specs.declared.notes.Kind.{Kind}
+use Rattle.bpf_follows_law.specs.declared.notes.Kind.TheVariants.{Nothing, Unset, Same, Both, Number, Natural, Inner, Length, Sized, Ending, Closing, Offset, Fixed, Within, Start, Head, Base, Moved, Address, Saved, Kept, Constant, Counter, Turn, Alone, Returns}
+use Rattle.bpf_follows_law.specs.declared.notes.Place.{Place}
 
 -- ---- what has a text
 

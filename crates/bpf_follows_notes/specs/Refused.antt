@@ -1,7 +1,7 @@
 -- Why a text is none of notes: the first line that isn't one.
 use Rattle.std.specs.Prelude.{◌≡◌, ◌≢◌, ◌⊎◌, ℕ, ◌+◌, List, [], ◌++◌, length, Option}
 use Rattle.bpf_insn.specs.Limits.{max_slots}
-use Rattle.bpf_follows.specs.declared.notes.Place.{Place}
+use Rattle.bpf_follows_law.specs.declared.notes.Place.{Place}
 use Rattle.bpf_follows_notes.specs.declared.error.NotesError.{NotesError}
 use Rattle.bpf_follows_notes.specs.declared.error.NotesError.TheVariants.{Form, Memory}
 use Rattle.bpf_follows_notes.specs.NotesText.{NoteFits, note_line, note_lines, head_line}

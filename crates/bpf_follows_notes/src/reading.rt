@@ -2,7 +2,7 @@
 
 ghost use Rattle.std.specs.Prelude.{◌≡◌, ◌⊎◌, ◌++◌, List, Option, Ok, Err, option_map, IfOk, IfErr, MatchResult};
 ghost use Rattle.bpf_insn.specs.Limits.{max_slots};
-ghost use Rattle.bpf_follows.specs.declared.notes.Place.{Place};
+ghost use Rattle.bpf_follows_law.specs.declared.notes.Place.{Place};
 ghost use Rattle.bpf_follows_notes.specs.declared.error.NotesError.TheVariants.{Memory};
 ghost use Rattle.bpf_follows_notes.specs.NotesText.{AreNotes, notes_text};
 ghost use Rattle.bpf_follows_notes.specs.Refused.{IsRefused};
@@ -12,7 +12,7 @@ use crate::digits::behind;
 use crate::error::NotesError;
 use crate::note::note_in;
 use crate::writing::{HEAD, put_line};
-use bpf_follows::Place;
+use bpf_follows_law::Place;
 use bpf_insn::MAX_SLOTS;
 use std::alloc::{AllocError, Global};
 

@@ -5,7 +5,7 @@ ghost use Rattle.std.specs.Fmt.{signed_decimal};
 ghost use Rattle.bpf_insn.specs.Instruction.{register_number};
 ghost use Rattle.bpf_follows_notes.specs.NotesText.{entry_text, behind_text, bounds_text, kept_text, beside_text, area_text, held_text, kinds_text, place_text, note_line, notes_text};
 
-use bpf_follows::{Area, Kind, Kinds, PLACES, Place};
+use bpf_follows_law::{Area, Kind, Kinds, PLACES, Place};
 use bpf_insn::Reg;
 use itoa::{Buffer, Integer};
 use std::alloc::{AllocError, Global};

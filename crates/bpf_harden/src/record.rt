@@ -8,18 +8,18 @@ use std::alloc::{AllocError, Global};
 
 /// What was done at each slot of a new program.
 fn notes_of(alloc: Global, draft: &Draft) -> Result<Vec<Note>, AllocError> {
-    let mut notes = Vec::new(alloc);
-    for new in 0..draft.program.slots() {
+    let note_at = |new| {
         let owner = draft.owner(new);
-        if let (Some(change), true) = (owner.change, owner.is_first) {
-            notes.push(Note {
-                old: owner.old,
-                new,
-                change,
-            })?;
-        }
-    }
-    Ok(notes)
+        let change = owner.change.filter(|_change| owner.is_first)?;
+        Some(Note {
+            old: owner.old,
+            new,
+            change,
+        })
+    };
+    (0..draft.program.slots())
+        .filter_map(note_at)
+        .collect(alloc)
 }
 
 /// How a function was hardened, if it was kept.

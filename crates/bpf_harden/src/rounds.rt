@@ -38,10 +38,13 @@ impl<'a> Rounds<'a> {
         if is_changed {
             return Ok(());
         }
-        match &trial.verdict {
-            Verdict::Uncounted(loops) => Err(self.without_counter(trial, loops)),
-            _ => Err(HardenError::NoBudget { slot: 0 }),
-        }
+        // At the first loop that isn't counted though it has a counter of turns.
+        let label = match &trial.verdict {
+            Verdict::Uncounted(loops) => loops.first(),
+            _ => None,
+        };
+        let slot = label.map_or(0, |label| trial.draft.owner(*label).old);
+        Err(HardenError::NoBudget { slot })
     }
 
     /// Mends all faults.
@@ -98,14 +101,6 @@ impl<'a> Rounds<'a> {
             }
         }
         is_changed
-    }
-
-    /// The refusal of the first loop that isn't counted though it has a counter of turns.
-    fn without_counter(&self, trial: &Trial, loops: &[u32]) -> HardenError {
-        let slot = loops
-            .first()
-            .map_or(0, |label| trial.draft.owner(*label).old);
-        HardenError::NoBudget { slot }
     }
 
     /// The first text that has a certificate.

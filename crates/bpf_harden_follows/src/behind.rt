@@ -3,8 +3,8 @@
 use crate::facts::{Facts, REGISTERS, offset_area, offset_bounds, slot_at};
 use bpf_follows::inner::misses;
 use bpf_follows::numbers::{number_kind, told};
-use bpf_follows::site::Site;
-use bpf_follows::{Area, Kind, by_exact, is_blurred};
+use bpf_follows::{by_exact, is_blurred};
+use bpf_follows_law::{Area, Kind, Site};
 use bpf_insn::{Access, AluOp, FRAME_BYTES, Insn, Operand, Reg, Size, Width};
 
 /// What a copy of a register holds.
@@ -65,30 +65,15 @@ fn combined(facts: &Facts, op: AluOp, dst: Reg, src: Reg) -> Kind {
     }
 }
 
-/// What a 64-bit operation with a register leaves in its own.
-fn computed_by(facts: &Facts, op: AluOp, dst: Reg, src: Reg) -> Kind {
-    match op {
-        AluOp::Mov => copied(facts, src),
-        AluOp::Add => combined(facts, op, dst, src),
-        AluOp::Sub => combined(facts, op, dst, src),
-        _ => Kind::Same,
-    }
-}
-
-/// What a 64-bit operation with a constant leaves in its register.
-fn computed_with(facts: &Facts, op: AluOp, dst: Reg, by: i32) -> Kind {
-    match op {
-        AluOp::Add => moved(facts, dst, Some(by)),
-        AluOp::Sub => moved(facts, dst, None),
-        _ => Kind::Same,
-    }
-}
-
 /// What a 64-bit operation leaves in its register.
 fn computed(facts: &Facts, op: AluOp, dst: Reg, src: Operand) -> Kind {
-    match src {
-        Operand::Reg(src) => computed_by(facts, op, dst, src),
-        Operand::Imm(by) => computed_with(facts, op, dst, by),
+    match (op, src) {
+        (AluOp::Mov, Operand::Reg(src)) => copied(facts, src),
+        (AluOp::Add, Operand::Reg(src)) => combined(facts, op, dst, src),
+        (AluOp::Sub, Operand::Reg(src)) => combined(facts, op, dst, src),
+        (AluOp::Add, Operand::Imm(by)) => moved(facts, dst, Some(by)),
+        (AluOp::Sub, Operand::Imm(_by)) => moved(facts, dst, None),
+        _ => Kind::Same,
     }
 }
 
@@ -101,6 +86,15 @@ fn constant(off: i16, imm: i32) -> Kind {
             least: imm,
             most: imm,
         },
+        _ => Kind::Same,
+    }
+}
+
+/// What a slot is behind a store of a register to it.
+fn kept(facts: &Facts, src: Reg) -> Kind {
+    match (facts.get(src), offset_area(src, facts.get(src))) {
+        (Kind::Number { .. }, _) | (Kind::Fixed { .. }, Some(Area::Given)) => facts.get(src),
+        (_, Some(Area::Given)) => Kind::Offset { area: Area::Given },
         _ => Kind::Same,
     }
 }
@@ -123,16 +117,8 @@ fn stored(facts: &Facts, insn: &Insn) -> Kind {
         src,
     } = *insn
     {
-        if slot_at(off).is_none() {
-            return Kind::Same;
-        }
-        match (facts.get(src), offset_area(src, facts.get(src))) {
-            (Kind::Number { .. }, _) => return facts.get(src),
-            (Kind::Fixed { .. }, Some(Area::Given)) => return facts.get(src),
-            (_, Some(Area::Given)) => {
-                return Kind::Offset { area: Area::Given };
-            },
-            _ => {}
+        if slot_at(off).is_some() {
+            return kept(facts, src);
         }
     }
     Kind::Same
@@ -213,23 +199,21 @@ fn moved_by(facts: &Facts, insn: &Insn) -> Kind {
 
 /// Whether the end of the own frame is moved to a register, and the new instruction puts its offset there.
 fn is_framed(insn: &Insn, moved: &Insn) -> bool {
-    let is_end = matches!(
-        *insn,
-        Insn::Alu {
-            op: AluOp::Mov,
-            width: Width::W64,
-            src: Operand::Reg(Reg::R10),
-            ..
-        }
-    );
-    let is_offset = matches!(
-        *moved,
-        Insn::Alu {
-            src: Operand::Imm(_),
-            ..
-        }
-    );
-    is_end && is_offset
+    matches!(
+        (*insn, *moved),
+        (
+            Insn::Alu {
+                op: AluOp::Mov,
+                width: Width::W64,
+                src: Operand::Reg(Reg::R10),
+                ..
+            },
+            Insn::Alu {
+                src: Operand::Imm(_),
+                ..
+            },
+        )
+    )
 }
 
 /// What the instruction puts into its register.

@@ -2,10 +2,12 @@
 
 ghost use Rattle.bpf_insn.specs.Limits.{frame_bytes};
 ghost use Rattle.std.specs.Prelude.{◌≡◌, ◌≤◌, IfOk, IfSome, MatchOption};
-ghost use Rattle.bpf_follows.specs.Matching.{IsMismatch, Matches};
+ghost use Rattle.bpf_follows_law.specs.Matching.{Matches};
+ghost use Rattle.bpf_follows.specs.Mismatches.{IsMismatch};
 
 use crate::places::places_of;
-use bpf_follows::{Bounds, Mismatch, Place, follows};
+use bpf_follows::{Mismatch, follows};
+use bpf_follows_law::{Bounds, Place};
 use bpf_harden_notes::Hardened;
 use bpf_insn::{FRAME_BYTES, Program};
 use std::alloc::{AllocError, Global};
@@ -62,27 +64,17 @@ pub fn evidence_of(
     ensures exact { IfOk result (λ found. MatchOption found.mismatch (Matches old.now new.now.program found.notes.items (record { length = runs.length; padded = runs.padded; turns = runs.turns; untouched = found.untouched }))
         (IsMismatch old.now new.now.program found.notes.items (record { length = runs.length; padded = runs.padded; turns = runs.turns; untouched = found.untouched }))) }
 {
-    let Bounds {
-        length,
-        padded,
-        turns,
-        ..
-    } = runs;
     let each = Bounds {
-        length,
-        padded,
-        turns,
         untouched: 0,
+        ..runs
     };
     let first = judged(alloc, old, new, each)?;
     if first.mismatch.is_none() {
         return Ok(first);
     }
     let fewer = Bounds {
-        length,
-        padded,
-        turns,
         untouched: taken(new),
+        ..runs
     };
     let second = judged(alloc, old, new, fewer)?;
     if second.mismatch.is_none() {

@@ -1,19 +1,16 @@
 //! Extra instructions: what they leave in the new program's registers, while the old one stands still.
 
-use crate::facts::{Facts, is_free, slot_at};
+use crate::facts::{Facts, between, ends_of, is_free, offset_area, slot_at};
 use bpf_follows::keeps::restored;
-use bpf_follows::{Area, Kind};
+use bpf_follows_law::{Area, Kind};
 use bpf_insn::{AluOp, Cond, Insn, Operand, Reg, Size, Width};
 use bpf_packets::HEAD_BYTES;
 
 /// The old register whose offset a register holds, what that is counted in, and what it was moved by.
 fn offset_in(r: Reg, kind: Kind) -> Option<(Area, Reg, i32)> {
     match kind {
-        Kind::Offset { area } => Some((area, r, 0)),
-        Kind::Fixed { area, .. } => Some((area, r, 0)),
-        Kind::Within { area, .. } => Some((area, r, 0)),
         Kind::Moved { area, of, by } => Some((area, of, by)),
-        _ => None,
+        _ => Some((offset_area(r, kind)?, r, 0)),
     }
 }
 
@@ -28,27 +25,14 @@ fn base_of(r: Reg, kind: Kind) -> Option<Area> {
 
 /// What a copy holds.
 fn copied(from: Reg, kind: Kind) -> Kind {
+    if let Some((area, of, by)) = offset_in(from, kind) {
+        return Kind::Moved { area, of, by };
+    }
     match kind {
-        Kind::Offset { area } => Kind::Moved {
-            area,
-            of: from,
-            by: 0,
-        },
-        Kind::Fixed { area, .. } => Kind::Moved {
-            area,
-            of: from,
-            by: 0,
-        },
-        Kind::Within { area, .. } => Kind::Moved {
-            area,
-            of: from,
-            by: 0,
-        },
         Kind::Start | Kind::Head => Kind::Base,
         Kind::Length { .. } => Kind::Ending { by: 0 },
-        Kind::Base | Kind::Moved { .. } | Kind::Address { .. } | Kind::Constant { .. } => kind,
-        Kind::Ending { .. } => kind,
         Kind::Closing { by, .. } => Kind::Ending { by },
+        Kind::Base | Kind::Address { .. } | Kind::Constant { .. } | Kind::Ending { .. } => kind,
         _ => Kind::Nothing,
     }
 }
@@ -229,30 +213,15 @@ fn guarded(kind: Kind, cond: Cond, imm: i32) -> Kind {
     let Ok(bound) = u32::try_from(imm) else {
         return kind;
     };
-    match (kind, cond) {
-        (Kind::Number { least, most }, Cond::Gt) => Kind::Number {
-            least,
-            most: most.min(bound),
-        },
-        (Kind::Number { least, most }, Cond::Lt) => Kind::Number {
-            least: least.max(bound),
-            most,
-        },
-        (Kind::Offset { area }, Cond::Gt) => Kind::Within {
+    match (kind, ends_of(kind), cond) {
+        (Kind::Inner { .. }, _, _) => kind,
+        (Kind::Offset { area }, _, Cond::Gt) => Kind::Within {
             area,
             least: 0,
             most: bound,
         },
-        (Kind::Within { area, least, most }, Cond::Gt) => Kind::Within {
-            area,
-            least,
-            most: most.min(bound),
-        },
-        (Kind::Within { area, least, most }, Cond::Lt) => Kind::Within {
-            area,
-            least: least.max(bound),
-            most,
-        },
+        (_, Some((least, most)), Cond::Gt) => between(kind, (least, most.min(bound))),
+        (_, Some((least, most)), Cond::Lt) => between(kind, (least.max(bound), most)),
         _ => kind,
     }
 }

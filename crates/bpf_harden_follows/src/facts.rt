@@ -1,6 +1,6 @@
 //! What registers and slots of the frame hold at a place.
 
-use bpf_follows::{Area, Bounds, Kind, Kinds, PLACES};
+use bpf_follows_law::{Area, Bounds, Kind, Kinds, PLACES};
 use bpf_insn::{FRAME_BYTES, Reg};
 use bpf_packets::HEAD_BYTES;
 
@@ -26,11 +26,9 @@ pub fn slot_at(off: i16) -> Option<usize> {
 /// Whether the old program has nothing in a slot of this kind.
 pub fn is_free(kind: Kind) -> bool {
     match kind {
-        Kind::Unset | Kind::Base | Kind::Moved { .. } | Kind::Address { .. } => true,
-        Kind::Saved { .. } | Kind::Kept { .. } => true,
-        Kind::Constant { .. } | Kind::Counter { .. } | Kind::Turn { .. } => true,
-        Kind::Ending { .. } => true,
-        _ => false,
+        Kind::Unset | Kind::Base | Kind::Constant { .. } => true,
+        Kind::Counter { .. } | Kind::Turn { .. } | Kind::Ending { .. } => true,
+        _ => beside(kind).is_some(),
     }
 }
 
@@ -62,9 +60,7 @@ fn beside(kind: Kind) -> Option<Reg> {
 /// What the offset is counted in that a register holds of the old one.
 pub fn offset_area(r: Reg, kind: Kind) -> Option<Area> {
     match kind {
-        Kind::Offset { area } => Some(area),
-        Kind::Fixed { area, .. } => Some(area),
-        Kind::Within { area, .. } => Some(area),
+        Kind::Offset { area } | Kind::Fixed { area, .. } | Kind::Within { area, .. } => Some(area),
         Kind::Moved { area, of, by } => if of == r && by == 0 { Some(area) } else { None },
         _ => None,
     }
@@ -73,9 +69,9 @@ pub fn offset_area(r: Reg, kind: Kind) -> Option<Area> {
 /// Whether it is said by another register, or by r10.
 fn is_of_other(kind: Kind) -> bool {
     match kind {
-        Kind::Offset { area } => area == Area::Own,
-        Kind::Fixed { area, .. } => area == Area::Own,
-        Kind::Within { area, .. } => area == Area::Own,
+        Kind::Offset { area } | Kind::Fixed { area, .. } | Kind::Within { area, .. } => {
+            area == Area::Own
+        }
         _ => beside(kind).is_some(),
     }
 }
@@ -108,41 +104,55 @@ fn is_same(kind: Kind) -> bool {
     matches!(kind, Kind::Same | Kind::Start) || is_sure(kind)
 }
 
+/// The least and the greatest that a kind is bounded by.
+type Ends = (u32, u32);
+
+/// The bounds of a number, an offset or a pointer into the own frame, if it has some.
+pub fn ends_of(kind: Kind) -> Option<Ends> {
+    match kind {
+        Kind::Number { least, most } | Kind::Inner { least, most } => Some((least, most)),
+        Kind::Within { least, most, .. } => Some((least, most)),
+        _ => None,
+    }
+}
+
+/// The same between other bounds.
+pub fn between(kind: Kind, (least, most): Ends) -> Kind {
+    match kind {
+        Kind::Number { .. } => Kind::Number { least, most },
+        Kind::Inner { .. } => Kind::Inner { least, most },
+        Kind::Within { area, .. } => Kind::Within { area, least, most },
+        _ => kind,
+    }
+}
+
+/// The bounds of two that differ in nothing else.
+fn ends_of_both(a: Kind, b: Kind) -> Option<(Ends, Ends)> {
+    let (of_a, of_b) = (ends_of(a)?, ends_of(b)?);
+    (between(a, of_b) == b).then_some((of_a, of_b))
+}
+
 /// The bounds of both.
+fn wider((least, most): Ends, (low, high): Ends) -> Ends {
+    (least.min(low), most.max(high))
+}
+
+/// What both are of two values that both programs have.
 pub fn joined_numbers(a: Kind, b: Kind) -> Kind {
-    match (a, b) {
-        (
-            Kind::Number { least, most },
-            Kind::Number {
-                least: low,
-                most: high,
-            },
-        ) => Kind::Number {
-            least: least.min(low),
-            most: most.max(high),
+    if let Some((of_a, of_b)) = ends_of_both(a, b) {
+        return between(a, wider(of_a, of_b));
+    }
+    match (natural_half(a), natural_half(b)) {
+        (Some(half), Some(more)) => Kind::Natural {
+            half: half.max(more),
         },
-        (
-            Kind::Inner { least, most },
-            Kind::Inner {
-                least: low,
-                most: high,
-            },
-        ) => Kind::Inner {
-            least: least.min(low),
-            most: most.max(high),
-        },
-        _ => match (natural_half(a), natural_half(b)) {
-            (Some(half), Some(more)) => Kind::Natural {
-                half: half.max(more),
-            },
-            _ if is_sure(a) && is_sure(b) => Kind::Both,
-            _ => Kind::Same,
-        },
+        _ if is_sure(a) && is_sure(b) => Kind::Both,
+        _ => Kind::Same,
     }
 }
 
 /// The bounds of an offset that isn't below 0, if they are known.
-pub fn offset_bounds(kind: Kind) -> Option<(u32, u32)> {
+pub fn offset_bounds(kind: Kind) -> Option<Ends> {
     match kind {
         Kind::Within { least, most, .. } => Some((least, most)),
         Kind::Fixed { offset, .. } => {
@@ -156,58 +166,32 @@ pub fn offset_bounds(kind: Kind) -> Option<(u32, u32)> {
 /// What holds of two offsets into an area.
 fn joined_offsets(area: Area, a: Kind, b: Kind) -> Kind {
     match (offset_bounds(a), offset_bounds(b)) {
-        (Some((least, most)), Some((low, high))) => Kind::Within {
-            area,
-            least: least.min(low),
-            most: most.max(high),
-        },
+        (Some(of_a), Some(of_b)) => {
+            let (least, most) = wider(of_a, of_b);
+            Kind::Within { area, least, most }
+        }
         _ => Kind::Offset { area },
     }
 }
 
 /// Bounds that grew again and again, and now grow at once: up to the next of these stops, or farther.
 pub fn grown(before: Kind, after: Kind, stops: &[u32]) -> Kind {
-    match (before, after) {
-        (
-            Kind::Number { least, most },
-            Kind::Number {
-                least: low,
-                most: high,
-            },
-        ) => Kind::Number {
-            least: lower(least, low),
-            most: higher(most, high, stops),
-        },
-        (
-            Kind::Within { area, least, most },
-            Kind::Within {
-                least: low,
-                most: high,
-                ..
-            },
-        ) => Kind::Within {
-            area,
-            least: lower(least, low),
-            most: higher(most, high, stops),
-        },
-        (Kind::Natural { half }, Kind::Natural { half: more }) if half < more => {
+    match (before, after, ends_of_both(before, after)) {
+        (Kind::Natural { half }, Kind::Natural { half: more }, _) if half < more => {
             Kind::Natural {
                 half: higher_half(more),
             }
         }
-        (
-            Kind::Inner { least, most },
-            Kind::Inner {
-                least: low,
-                most: high,
-            },
-        ) => grown_inner(least, most, low, high),
+        (Kind::Inner { .. }, _, Some((old, new))) => grown_inner(old, new),
+        (_, _, Some((old, new))) => {
+            between(before, (lower(old.0, new.0), higher(old.1, new.1, stops)))
+        }
         _ => after,
     }
 }
 
 /// Bounds of a pointer into the own frame that grew: down to its first byte, or up to its end. Farther away it points to nothing.
-fn grown_inner(least: u32, most: u32, low: u32, high: u32) -> Kind {
+fn grown_inner((least, most): Ends, (low, high): Ends) -> Kind {
     let end = FRAME_BYTES as u32;
     if high > end {
         return Kind::Both;
@@ -238,18 +222,11 @@ fn higher(most: u32, high: u32, stops: &[u32]) -> u32 {
     if high <= most {
         return high;
     }
-    let mut next = 0xffff_ffff;
-    for stop in [0xffff, 0x7fff_ffff] {
-        if high <= stop && stop < next {
-            next = stop;
-        }
-    }
-    for stop in stops {
-        if high <= *stop && *stop < next {
-            next = *stop;
-        }
-    }
-    next
+    let stops = stops.iter().chain(&[0xffff, 0x7fff_ffff]).copied();
+    stops
+        .filter(|stop| high <= *stop)
+        .min()
+        .unwrap_or(0xffff_ffff)
 }
 
 /// What holds on both ways to a place.
@@ -328,10 +305,7 @@ impl Facts {
 
     /// What a place holds.
     pub fn at(&self, place: usize) -> Kind {
-        match self.kinds.get(place) {
-            Some(kind) => *kind,
-            None => Kind::Nothing,
-        }
+        self.kinds.get(place).copied().unwrap_or(Kind::Nothing)
     }
 
     /// The new program's place holds this from now on.

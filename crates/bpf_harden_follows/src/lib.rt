@@ -6,6 +6,7 @@ mod behind;
 mod evidence;
 mod extra;
 mod facts;
+mod lists;
 mod places;
 mod returns;
 

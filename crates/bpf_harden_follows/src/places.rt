@@ -3,11 +3,12 @@
 use crate::behind::{Frames, step};
 use crate::extra::{pass, taken, tested};
 use crate::facts::Facts;
+use crate::lists::{at, put};
 use crate::returns::Returns;
-use bpf_follows::site::Site;
-use bpf_follows::{Bounds, Kind, PLACES, Place, is_far, is_homed, is_stuck, may_fall, may_lead};
+use bpf_follows::{is_far, is_homed, is_stuck, may_fall, may_lead};
+use bpf_follows_law::{Bounds, Kind, PLACES, Place, Site};
 use bpf_harden_notes::{Change, Hardened};
-use bpf_insn::{AluOp, Insn, Operand, Program, Reg, Width};
+use bpf_insn::{AluOp, Insn, MAX_SLOTS, Operand, Program, Reg, Width, target};
 use std::alloc::{AllocError, Global};
 
 /// The most instructions that are looked at in front of an old one.
@@ -48,28 +49,9 @@ struct Finder<'a> {
     stops: Vec<u32>,
 }
 
-/// An element, if the list is so long.
-fn at<T: Copy>(list: &[Option<T>], index: u32) -> Option<T> {
-    match list.get(index as usize) {
-        Some(Some(element)) => Some(*element),
-        _ => None,
-    }
-}
-
-/// Makes this the element, if the list is so long.
-fn put<T: Drop>(list: &mut Vec<T>, index: u32, element: T) {
-    if let Some(place) = list.get_mut(index as usize) {
-        *place = element;
-    }
-}
-
 /// The slot to which an instruction jumps or calls.
 fn led(slot: u32, insn: &Insn) -> Option<u32> {
-    let distance = insn.distance()?;
-    let to = i64::from(slot)
-        .saturating_add(1)
-        .saturating_add(i64::from(distance));
-    u32::try_from(to).ok()
+    target(slot.min(MAX_SLOTS as u32), insn.distance()?)
 }
 
 /// Whether an instruction takes a turn from a register.
@@ -162,10 +144,7 @@ impl<'a> Finder<'a> {
     /// Where calls of a function lead that begins at an old slot; else as `first`.
     fn entry(&self, slot: u32) -> Option<u32> {
         let first = self.first(slot)?;
-        match at(&self.entries, slot) {
-            Some(entry) => Some(entry),
-            None => Some(first),
-        }
+        Some(at(&self.entries, slot).unwrap_or(first))
     }
 
     /// Whether the new instruction at a slot stands for the old one itself.
@@ -178,10 +157,8 @@ impl<'a> Finder<'a> {
 
     /// The new slot behind an instruction.
     fn behind(&self, slot: u32) -> u32 {
-        match self.new.program.at(slot) {
-            Some(insn) => slot.saturating_add(insn.slots()),
-            None => slot.saturating_add(1),
-        }
+        let slots = self.new.program.at(slot).map_or(1, |insn| insn.slots());
+        slot.saturating_add(slots)
     }
 
     /// Where the instruction itself stands.
@@ -351,10 +328,7 @@ impl<'a> Finder<'a> {
         }
         let first = self.first(slot)?;
         let body = self.body(slot)?;
-        let moved = match self.new.program.at(body) {
-            Some(moved) => *moved,
-            None => insn,
-        };
+        let moved = self.new.program.at(body).copied().unwrap_or(insn);
         Some(Site {
             slot,
             insn,
@@ -366,16 +340,11 @@ impl<'a> Finder<'a> {
 
     /// Whether an instruction may reach the frames of other functions, where all that leads to it is known.
     fn is_reaching(&self) -> bool {
-        for slot in 0..self.old.slots() {
-            if let Some(facts) = at(&self.facts, slot) {
-                if let Some(site) = self.site(slot, &facts) {
-                    if is_far(&site.insn) && !is_homed(&site) {
-                        return true;
-                    }
-                }
-            }
-        }
-        false
+        let reaches = |slot| {
+            let site = at(&self.facts, slot).and_then(|facts| self.site(slot, &facts));
+            site.is_some_and(|site| is_far(&site.insn) && !is_homed(&site))
+        };
+        (0..self.old.slots()).any(reaches)
     }
 
     /// Goes on from an old slot.

@@ -1,7 +1,8 @@
 //! What functions give back to those that call them.
 
 use crate::facts::{grown, joined_numbers};
-use bpf_follows::Kind;
+use crate::lists::{at, put};
+use bpf_follows_law::Kind;
 use std::alloc::{AllocError, Global};
 
 /// How often bounds grow before they grow at once.
@@ -9,11 +10,7 @@ const PATIENCE: u32 = 3;
 
 /// The least number of ones alone that isn't below one.
 fn ones(n: u32) -> u32 {
-    let two = n | n >> 1;
-    let four = two | two >> 2;
-    let eight = four | four >> 4;
-    let sixteen = eight | eight >> 8;
-    sixteen | sixteen >> 16
+    u32::MAX.checked_shr(n.leading_zeros()).unwrap_or(0)
 }
 
 /// By old slots: a function stands at its first one.
@@ -39,27 +36,19 @@ impl Returns {
 
     /// A way leads to a slot in the function that begins at `owner`.
     pub fn reach(&mut self, slot: u32, owner: u32) {
-        if let Some(place) = self.owners.get_mut(slot as usize) {
-            if place.is_none() {
-                *place = Some(owner);
-            }
+        if at(&self.owners, slot).is_none() {
+            put(&mut self.owners, slot, Some(owner));
         }
     }
 
     /// Where the function begins that a slot belongs to.
     pub fn owner(&self, slot: u32) -> u32 {
-        match self.owners.get(slot as usize) {
-            Some(Some(owner)) => *owner,
-            _ => 0,
-        }
+        at(&self.owners, slot).unwrap_or(0)
     }
 
     /// What a function gives back, if an EXIT of it is found.
     pub fn given(&self, function: u32) -> Option<Kind> {
-        match self.given.get(function as usize) {
-            Some(Some(kind)) => Some(*kind),
-            _ => None,
-        }
+        at(&self.given, function)
     }
 
     /// What the function gives back that a slot belongs to, if it is called.
@@ -72,8 +61,7 @@ impl Returns {
 
     /// An EXIT of a function gives this back. Whether that is new.
     pub fn give(&mut self, function: u32, kind: Kind) -> bool {
-        let index = function as usize;
-        let times = self.times.get(index).copied().unwrap_or(0);
+        let times = self.times.get(function as usize).copied().unwrap_or(0);
         let number = match kind {
             Kind::Number { .. } => kind,
             _ => Kind::Same,
@@ -90,12 +78,8 @@ impl Returns {
                 return false;
             }
         }
-        if let Some(place) = self.given.get_mut(index) {
-            *place = Some(found);
-        }
-        if let Some(place) = self.times.get_mut(index) {
-            *place = times.saturating_add(1);
-        }
+        put(&mut self.given, function, Some(found));
+        put(&mut self.times, function, times.saturating_add(1));
         true
     }
 }

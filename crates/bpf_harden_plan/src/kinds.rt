@@ -3,7 +3,7 @@
 use bpf_state::RegState;
 
 /// What a register of the old program holds.
-#[derive(Clone, Copy, Debug, PartialEq, Eq)]
+#[derive(Clone, Copy, PartialEq)]
 pub enum Kind {
     Number,
     /// A pointer into the context.

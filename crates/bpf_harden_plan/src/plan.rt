@@ -8,7 +8,7 @@ use bpf_insn::{Access, Insn, Reg};
 use std::alloc::{AllocError, Global};
 
 /// Bytes beside a base, by displacements: from the first one to before the end.
-#[derive(Clone, Copy, Debug)]
+#[derive(Clone, Copy)]
 pub struct Span {
     pub from: i64,
     pub to: i64,
@@ -34,7 +34,7 @@ impl Span {
 }
 
 /// A test in front of an access, which leads to the trap where the access would leave its region.
-#[derive(Clone, Copy, Debug)]
+#[derive(Clone, Copy)]
 pub struct Guard {
     /// The bytes that must lie in the region: those of the access, and of further ones that surely follow.
     pub span: Span,
@@ -50,7 +50,7 @@ pub struct Guard {
 }
 
 /// A test of what is added to the base of an access, where it is added. It tells of both registers.
-#[derive(Clone, Copy, Debug)]
+#[derive(Clone, Copy)]
 pub struct Early {
     /// The slot of the access.
     pub access: u32,

@@ -118,13 +118,9 @@ impl Space {
     /// How many places there are, but for one slot in which registers are saved.
     fn places(&self) -> u32 {
         let used = (self.uses.depth / 8).saturating_add(self.slots);
-        let mut count = FRAME_SLOTS.saturating_sub(used).saturating_sub(1);
-        for r in KEPT_IN {
-            if self.is_free(r) {
-                count = count.saturating_add(1);
-            }
-        }
-        count
+        let registers = KEPT_IN.into_iter().filter(|r| self.is_free(*r)).count();
+        let slots = FRAME_SLOTS.saturating_sub(used).saturating_sub(1);
+        slots.saturating_add(u32::try_from(registers).unwrap_or(0))
     }
 
     /// A register or else a slot.
@@ -265,12 +261,12 @@ impl Rooms {
     /// Takes note whether a function may come to a trap of its own.
     fn note_traps(&mut self, old: &Old, plan: &Plan, function: usize) {
         let uses = old.uses(function);
-        let mut traps = plan.options.padded && (function == 0 || uses.needs_context);
-        for slot in uses.first..uses.end {
-            let is_tested = plan.at(slot).guard.is_some() || plan.at(slot).counts;
-            traps = traps || is_tested || leads_out(old, plan, slot);
-        }
-        self.set_traps(function, traps);
+        let may_trap = |slot| {
+            let planned = plan.at(slot);
+            planned.guard.is_some() || planned.counts || leads_out(old, plan, slot)
+        };
+        let is_short = plan.options.padded && (function == 0 || uses.needs_context);
+        self.set_traps(function, is_short || (uses.first..uses.end).any(may_trap));
     }
 
     /// Takes note whether a function may come to a trap.
@@ -295,12 +291,9 @@ impl Rooms {
 
 /// How many loops of a function share their counter: all, where they jump into one another or there is no place for one each.
 fn sharing(plan: &Plan, function: usize, space: &Space) -> u32 {
-    let mut count = 0u32;
-    for slot in space.uses.first..space.uses.end {
-        if plan.at(slot).counts {
-            count = count.saturating_add(1);
-        }
-    }
+    let slots = space.uses.first..space.uses.end;
+    let count = slots.filter(|slot| plan.at(*slot).counts).count();
+    let count = u32::try_from(count).unwrap_or(u32::MAX);
     if plan.of(function).shares || count > space.places() {
         count
     } else {

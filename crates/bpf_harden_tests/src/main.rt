@@ -10,7 +10,8 @@
 ghost use Rattle.std.specs.Prelude.{◌≤◌, IfSome, length};
 ghost use Rattle.bpf_insn.specs.Limits.{max_context};
 
-use bpf_follows::{Bounds, Mismatch};
+use bpf_follows::Mismatch;
+use bpf_follows_law::Bounds;
 use bpf_harden::{Options, harden};
 use bpf_harden_follows::evidence_of;
 use bpf_insn::{MAX_CONTEXT, Order, Program, decode};

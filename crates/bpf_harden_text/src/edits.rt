@@ -77,26 +77,6 @@ fn operand(src: Operand) -> Operand {
     }
 }
 
-/// Whether an instruction takes the frame pointer as a value.
-pub fn takes_frame_pointer(insn: &Insn) -> bool {
-    match *insn {
-        Insn::Alu { src, .. } | Insn::JumpIf { src, .. } => src == Operand::Reg(Reg::R10),
-        Insn::Store { src, .. } => src == Reg::R10,
-        Insn::Neg { .. }
-        | Insn::MovSx { .. }
-        | Insn::End { .. }
-        | Insn::LoadImm64 { .. }
-        | Insn::Load { .. }
-        | Insn::LoadSx { .. }
-        | Insn::StoreImm { .. }
-        | Insn::Atomic { .. }
-        | Insn::Ja { .. }
-        | Insn::JaLong { .. }
-        | Insn::CallLocal { .. }
-        | Insn::Exit => false,
-    }
-}
-
 /// The instruction with an offset in the place of the frame pointer where it is a value.
 pub fn with_offset(insn: &Insn) -> Insn {
     match *insn {

@@ -2,7 +2,7 @@
 
 use crate::access::Site;
 use crate::draft::Draft;
-use crate::edits::{takes_frame_pointer, widened, with_offset};
+use crate::edits::{widened, with_offset};
 use crate::parts::{JUMP, add_constant, fetch, keep};
 use crate::piece::Goal;
 use crate::region::Region;
@@ -185,7 +185,7 @@ impl<'a> Writer<'a> {
         if self.plan.at(slot).widens {
             return Ok(self.put(slot, widened(&edited), goal, Some(Change::Widened))?);
         }
-        let takes_offset = self.plan.frames && takes_frame_pointer(insn);
+        let takes_offset = edited != *insn;
         Ok(self.put(slot, edited, goal, takes_offset.then_some(Change::Offset))?)
     }
 }

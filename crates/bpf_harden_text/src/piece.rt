@@ -4,7 +4,7 @@ use bpf_harden_notes::Change;
 use bpf_insn::Insn;
 
 /// Where a new instruction leads.
-#[derive(Clone, Copy, Debug)]
+#[derive(Clone, Copy)]
 pub enum Goal {
     /// To no place of its own.
     Next,
@@ -17,7 +17,7 @@ pub enum Goal {
 }
 
 /// A new instruction.
-#[derive(Clone, Copy, Debug)]
+#[derive(Clone, Copy)]
 pub struct Piece {
     /// With a distance of 0 where it leads somewhere.
     pub insn: Insn,

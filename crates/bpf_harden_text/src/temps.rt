@@ -10,7 +10,7 @@ use bpf_state::Place;
 use std::alloc::AllocError;
 
 /// How a register is come by.
-#[derive(Clone, Copy, PartialEq, Eq)]
+#[derive(Clone, Copy, PartialEq)]
 pub enum Way {
     /// It holds nothing that is read later, or is loaded.
     Free,

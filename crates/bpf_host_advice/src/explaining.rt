@@ -8,7 +8,8 @@ ghost use Rattle.bpf_host_advice.specs.Explained.{IsSomeImage, IsRefusedImage, I
 ghost use Rattle.bpf_host_advice.specs.declared.explanation.Judged.TheVariants.{Accepted, Refused};
 
 use crate::explanation::{Given, Judged, checked, read_alone, searched, shown_of};
-use crate::proposal::{Wanted, give};
+use crate::proposal::give;
+use bpf_explain::Search;
 use bpf_host_runs::{BAD_CALL, BpfRefusal, DONE, NO_MEMORY, REFUSED, order_of};
 use bpf_insn::MAX_CONTEXT;
 use std::alloc::Global;
@@ -129,13 +130,14 @@ pub fn explain_search(
     let Some(shown) = shown_of(shown, slot, lines) else {
         return BAD_CALL;
     };
-    let wanted_of = Wanted {
+    let asked = Search {
         least,
         most,
         deep: deep == 1,
+        shown,
     };
     let mut words = Vec::new(alloc);
-    let judged = searched(alloc, &mut words, Given { image, order }, wanted_of, shown);
+    let judged = searched(alloc, &mut words, Given { image, order }, asked);
     answer(judged, &words, text, wanted, refusal)
 }
 

@@ -14,19 +14,16 @@ ghost use Rattle.bpf_host_advice.specs.Explained.{IsReadAs, IsCheckedAs, IsSearc
 ghost use Rattle.bpf_host_runs.specs.declared.answers.BpfRefusal.{BpfRefusal as Told};
 ghost use Rattle.bpf_host_advice.specs.declared.explanation.Judged.TheVariants.{Accepted, Refused};
 
-use crate::proposal::Wanted;
 use crate::refusals::of_inference;
 use bpf_cert::{CertError, read};
 use bpf_check::{Refusal, VerifyError};
 use bpf_explain::{
-    Found, Shown, dot_plain, explain, explain_inferred, explain_searched, is_table, write_alone,
-    write_fault, write_refusal,
+    Search, Shown, explain, explain_search, is_table, write_alone, write_fault, write_refusal,
 };
 use bpf_host_runs::{BpfRefusal, of_check, of_image, of_verify};
 use bpf_infer::{InferError, Unwatched};
-use bpf_insn::{Code, DecodeError, Order, Program, ProgramView, decode};
+use bpf_insn::{DecodeError, Order, ProgramView, decode};
 use std::alloc::Global;
-use std::io;
 
 /// How an image is judged while it is explained.
 #[derive(Clone, Copy)]
@@ -70,15 +67,6 @@ fn refused_image(out: &mut Vec<u8>, given: Given<'_>, error: DecodeError) -> Opt
     }
 }
 
-/// Writes a program by itself: its graph, or what there is to say of it.
-fn write_program<C: Code>(out: &mut Vec<u8>, program: &C, is_graph: bool) -> io::Result<()> {
-    if is_graph {
-        dot_plain(program, out)
-    } else {
-        write_alone(program, out)
-    }
-}
-
 /// Explains an image by itself, or draws the graph of its program; None where memory ran out.
 pub(crate) fn read_alone(out: &mut Vec<u8>, given: Given<'_>, is_graph: bool) -> Option<Judged>
     ensures { IfSome result (IsReadAs given.entry.order given.entry.image.now) }
@@ -87,7 +75,7 @@ pub(crate) fn read_alone(out: &mut Vec<u8>, given: Given<'_>, is_graph: bool) ->
         Ok(program) => program,
         Err(error) => return refused_image(out, given, error),
     };
-    match write_program(out, &program, is_graph) {
+    match write_alone(&program, is_graph, out) {
         Ok(()) => Some(Judged::Accepted),
         Err(_) => None,
     }
@@ -131,30 +119,6 @@ pub(crate) fn checked(
     }
 }
 
-/// Explains what a search finds for a program, and hands it on with the checker's answer.
-fn found(
-    alloc: Global,
-    out: &mut Vec<u8>,
-    program: &Program,
-    wanted: Wanted,
-    shown: Shown<'_>,
-) -> io::Result<Result<Found, InferError>>
-    requires order { wanted.least ≤ wanted.most }
-    requires short { wanted.most ≤ max_context }
-    ensures least { IfOk result (λ told. IfOk told (λ f. f.certificate.least ≡ wanted.least)) }
-    ensures most { IfOk result (λ told. IfOk told (λ f. f.certificate.most ≡ wanted.most)) }
-    ensures accepted { IfOk result (λ told. IfOk told (λ f. IfNone f.refusal (IsCertifiedBy program.now f.certificate))) }
-    ensures refused { IfOk result (λ told. IfOk told (λ f. IfSome f.refusal (λ r. IsLeastFlaw program.now f.certificate (refusal_slot r) (refusal_number r)))) }
-    ensures slot { IfOk result (λ told. IfErr told (λ e. infer_slot e < slots program.now.list)) }
-{
-    let (least, most) = (wanted.least, wanted.most);
-    if wanted.deep {
-        explain_searched(alloc, program, least, most, &mut Unwatched, shown, out)
-    } else {
-        explain_inferred(alloc, program, least, most, shown, out)
-    }
-}
-
 /// What is told of a program and a certificate, by the checker's refusal.
 fn told_of(refusal: Option<Refusal>) -> Judged
     ensures accepted { IfNone refusal (result ≡ Accepted) }
@@ -171,19 +135,18 @@ pub(crate) fn searched(
     alloc: Global,
     out: &mut Vec<u8>,
     given: Given<'_>,
-    wanted: Wanted,
-    shown: Shown<'_>,
+    asked: Search<'_>,
 ) -> Option<Judged>
-    requires order { wanted.least ≤ wanted.most }
-    requires short { wanted.most ≤ max_context }
-    ensures { IfSome result (IsSearchedAs given.entry.order given.entry.image.now wanted.least wanted.most) }
+    requires order { asked.least ≤ asked.most }
+    requires short { asked.most ≤ max_context }
+    ensures { IfSome result (IsSearchedAs given.entry.order given.entry.image.now asked.entry.least asked.entry.most) }
 {
     let program = match decode(alloc, given.image, given.order) {
         Ok(program) => program,
         Err(DecodeError::Memory) => return None,
         Err(error) => return refused_image(out, given, error),
     };
-    match found(alloc, out, &program, wanted, shown) {
+    match explain_search(alloc, &program, asked, &mut Unwatched, out) {
         Ok(Ok(found)) => Some(told_of(found.refusal)),
         Ok(Err(InferError::Memory)) => None,
         Ok(Err(error)) => Some(Judged::Refused(of_inference(error))),

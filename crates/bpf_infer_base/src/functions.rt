@@ -47,7 +47,7 @@ fn first_recursion(
     functions: &Blocks,
     calls: Vec<Arc>,
 ) -> Result<Option<u32>, AllocError> {
-    let graph = Graph::of(alloc, functions.count(), calls)?;
+    let graph = Graph::of(functions.count(), calls);
     let components = Components::of(alloc, &graph)?;
     let found = graph.arcs().iter().find(|call| components.contains(call));
     Ok(found.and_then(|call| u32::try_from(call.path).ok()))
@@ -64,12 +64,6 @@ fn deepen(depths: &mut Vec<u32>, calls: &[Arc]) {
     }
 }
 
-/// The first slot of the lowest function that is too deep.
-fn first_too_deep(depths: &[u32], functions: &Blocks) -> Option<u32> {
-    let deep = depths.iter().position(|depth| *depth > MAX_DEPTH)?;
-    Some(functions.label(deep))
-}
-
 /// The depth of each function: 1 plus the greatest depth of those that it calls. I3 at the lowest call of a recursion;
 /// I2 at the first slot of the lowest function with a depth above 8.
 pub fn depths_of(
@@ -82,9 +76,10 @@ pub fn depths_of(
     for _ in 0..MAX_DEPTH {
         deepen(&mut depths, &arcs);
     }
-    let Some(slot) = first_too_deep(&depths, functions) else {
+    let Some(deep) = depths.iter().position(|depth| *depth > MAX_DEPTH) else {
         return Ok(depths);
     };
+    let slot = functions.label(deep);
     match first_recursion(alloc, functions, arcs)? {
         Some(slot) => Err(InferError::Recursion { slot }),
         None => Err(InferError::NoBudget { slot }),

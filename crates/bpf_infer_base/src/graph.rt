@@ -35,28 +35,6 @@ pub struct Graph {
     count: usize,
     /// By the nodes that they leave.
     arcs: Vec<Arc>,
-    /// By nodes, the number of the first arc that leaves this one or a later one.
-    starts: Vec<usize>,
-}
-
-/// By nodes, how many arcs leave the node before; the first is 0.
-fn counts_of(alloc: Global, count: usize, arcs: &[Arc]) -> Result<Vec<usize>, AllocError> {
-    let mut counts = vec![in alloc; 0usize; count.saturating_add(1)]?;
-    for arc in arcs {
-        let next = arc.from.saturating_add(1);
-        let more = number_in(&counts, next).saturating_add(1);
-        put(&mut counts, next, more);
-    }
-    Ok(counts)
-}
-
-/// Makes each number the sum of those up to it.
-fn sum_up(counts: &mut Vec<usize>) {
-    let mut sum = 0usize;
-    for count in counts.iter_mut() {
-        sum = sum.saturating_add(*count);
-        *count = sum;
-    }
 }
 
 /// Arcs that lead the other way.
@@ -67,14 +45,8 @@ fn turned(alloc: Global, arcs: &[Arc]) -> Result<Vec<Arc>, AllocError> {
 
 impl Graph {
     /// A graph of so many nodes, with arcs that rise by the nodes that they leave.
-    pub fn of(alloc: Global, count: usize, arcs: Vec<Arc>) -> Result<Graph, AllocError> {
-        let mut starts = counts_of(alloc, count, &arcs)?;
-        sum_up(&mut starts);
-        Ok(Graph {
-            count,
-            arcs,
-            starts,
-        })
+    pub fn of(count: usize, arcs: Vec<Arc>) -> Graph {
+        Graph { count, arcs }
     }
 
     /// How many nodes there are.
@@ -89,12 +61,12 @@ impl Graph {
 
     /// The number of the first arc that leaves a node or a later one.
     pub fn start(&self, node: usize) -> usize {
-        number_in(&self.starts, node)
+        self.arcs.partition_point(|arc| arc.from < node)
     }
 
     /// The number of the first arc that leaves a later node.
     pub fn end(&self, node: usize) -> usize {
-        number_in(&self.starts, node.saturating_add(1))
+        self.arcs.partition_point(|arc| arc.from <= node)
     }
 
     /// The node that the arc with a number leads to.
@@ -111,7 +83,7 @@ impl Graph {
     pub fn reversed(&self, alloc: Global) -> Result<Graph, AllocError> {
         let mut arcs = turned(alloc, &self.arcs)?;
         arcs.sort_by_key(|arc| arc.from)?;
-        Graph::of(alloc, self.count, arcs)
+        Ok(Graph::of(self.count, arcs))
     }
 
     /// Which nodes a node leads to, itself where it lies on a cycle, on paths that meet no barred node. A barred node counts
@@ -193,8 +165,7 @@ impl<'a> Growth<'a> {
     /// Meets the nodes that arcs from a node lead to.
     fn grow(&mut self, node: usize) -> Result<(), AllocError> {
         for number in self.graph.start(node)..self.graph.end(node) {
-            if let Some(arc) = self.graph.arcs.get(number) {
-                let arc = *arc;
+            if let Some(arc) = self.graph.arcs.get(number).copied() {
                 if !get_or(&self.is_met, arc.to, true) {
                     self.meet(arc.to)?;
                     self.tree.push(arc)?;
@@ -292,13 +263,11 @@ pub fn nodes_on_cycles(alloc: Global, graph: &Graph) -> Result<usize, AllocError
 /// anything rose.
 fn raise(graph: &Graph, lengths: &[i128], heights: &mut Vec<i128>) -> bool {
     let mut has_risen = false;
-    for number in (0..graph.arcs.len()).rev() {
-        if let (Some(arc), Some(length)) = (graph.arcs.get(number), lengths.get(number)) {
-            let height = get_or(heights, arc.to, 0).saturating_add(*length);
-            if height > get_or(heights, arc.from, i128::MAX) {
-                put(heights, arc.from, height);
-                has_risen = true;
-            }
+    for (arc, length) in graph.arcs.iter().zip(lengths).rev() {
+        let height = get_or(heights, arc.to, 0).saturating_add(*length);
+        if height > get_or(heights, arc.from, i128::MAX) {
+            put(heights, arc.from, height);
+            has_risen = true;
         }
     }
     has_risen

@@ -11,6 +11,7 @@ mod fault;
 mod flow;
 mod functions;
 mod graph;
+mod joined_states;
 mod joins;
 mod labels;
 mod lines;
@@ -33,19 +34,19 @@ pub use counter::{Counter, Shift};
 pub use fault::Fault;
 pub use flow::Flow;
 pub use graph::{Arc, Components, Graph, longest_paths, nodes_on_cycles, number_in};
+pub use joined_states::JoinedStates;
 pub use joins::{join, join_register, join_slots};
 pub use labels::{LabelState, labels_of, load, load_at};
 pub use lines::{Line, Span};
 pub use lists::{get_or, held, put, vacant};
-pub use losses::{Losses, Tracker};
-pub use meter::{DEEP_WORK, LABEL_WORK, Meter, PLAIN_WORK, Tally};
+pub use losses::{Losses, losses_in};
+pub use meter::{DEEP_WORK, LABEL_WORK, Meter, PLAIN_WORK};
 pub use places::{
-    PLACES, PlaceSet, REGISTERS, number_at, place, places_known, said, slots_touched, tag_own,
-    tight_number,
+    PLACES, PlaceSet, REGISTERS, number_at, place, said, slots_touched, tag_own, tight_number,
 };
 pub use proposal::Proposal;
 pub use quest::Quest;
-pub use sketch::{Halt, Limit, Loss, Move, Obstacle, Sketch, Stop, Tangle, Trial};
+pub use sketch::{Limit, Loss, Move, Obstacle, Sketch, Stop, Tangle, Trial};
 pub use task::{Callee, Edge, Task, Visitor, compared};
 pub use watch::{Unwatched, Watch};
 pub use widen::Stops;

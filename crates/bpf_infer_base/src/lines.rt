@@ -50,43 +50,41 @@ impl Line {
         slope: 0,
     };
 
+    /// A constant and a slope.
+    fn new(constant: i128, slope: i128) -> Line {
+        Line { constant, slope }
+    }
+
     /// What a counter still allows, so many times.
     pub fn of(counter: Counter, weight: i128) -> Line {
         match counter {
-            Counter::Falling(_) => Line {
-                constant: 0,
-                slope: weight,
-            },
-            Counter::Rising(_, limit) => Line {
-                constant: weight.saturating_mul(limit as i128),
-                slope: 0i128.saturating_sub(weight),
-            },
+            Counter::Falling(_) => Line::new(0, weight),
+            Counter::Rising(_, limit) => Line::new(weight.saturating_mul(limit as i128), 0).minus(
+                Line::new(0, weight),
+            ),
         }
     }
 
     /// The line at a place that holds an offset more.
     pub fn moved(self, offset: i64) -> Line {
         let more = self.slope.saturating_mul(offset as i128);
-        Line {
-            constant: self.constant.saturating_add(more),
-            slope: self.slope,
-        }
+        self.plus(Line::new(more, 0))
     }
 
     /// Both together.
     pub fn plus(self, other: Line) -> Line {
-        Line {
-            constant: self.constant.saturating_add(other.constant),
-            slope: self.slope.saturating_add(other.slope),
-        }
+        Line::new(
+            self.constant.saturating_add(other.constant),
+            self.slope.saturating_add(other.slope),
+        )
     }
 
     /// What is left of it beside another.
     pub fn minus(self, other: Line) -> Line {
-        Line {
-            constant: self.constant.saturating_sub(other.constant),
-            slope: self.slope.saturating_sub(other.slope),
-        }
+        Line::new(
+            self.constant.saturating_sub(other.constant),
+            self.slope.saturating_sub(other.slope),
+        )
     }
 
     /// The greatest that it gives.

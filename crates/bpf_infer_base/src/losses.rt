@@ -7,7 +7,7 @@ use crate::sketch::Loss;
 use crate::task::{Edge, Task, Visitor};
 use bpf_insn::{AluOp, Insn, Operand, Reg, Width};
 use bpf_num::Num;
-use bpf_state::{Entries, Place, RegState, SlotState, State, Tag};
+use bpf_state::{Entries, Place, RegState, State, Tag};
 use std::alloc::AllocError;
 
 /// By places, why each isn't followed; None of one that is.
@@ -80,22 +80,13 @@ fn doubt_at(slot: u32, insn: &Insn, state: &State) -> Option<Doubt> {
     })
 }
 
-/// Whether a place holds a number or a pointer.
-fn is_followed(state: &State, number: usize) -> bool {
-    match place(number) {
-        Place::Register(r) => !matches!(state.reg(r), RegState::Any),
-        Place::Slot(k) => !matches!(state.slot(k), SlotState::Bytes(_)),
-    }
-}
-
 /// A walk over a loop, from each of its labels to the next ones, that looks where the numbers of its places are lost.
 #[derive(Drop)]
-pub struct Tracker<'a> {
-    task: Task<'a>,
+struct Tracker<'a> {
     /// The loop's blocks, rising.
     blocks: &'a [usize],
     /// By places, why each isn't followed through the loop.
-    pub losses: Losses,
+    losses: Losses,
     /// By the numbers of tags, why what they stand for was lost in this block.
     lost: [Option<Loss>; TERMS],
     /// What the instruction that is done may lose.
@@ -103,17 +94,6 @@ pub struct Tracker<'a> {
 }
 
 impl<'a> Tracker<'a> {
-    /// Nothing is lost yet in a loop of these blocks. Callees may return any number.
-    pub fn new(task: Task<'a>, blocks: &'a [usize]) -> Self {
-        Tracker {
-            task: Task { rets: &[], ..task },
-            blocks,
-            losses: [None; PLACES],
-            lost: [None; TERMS],
-            doubt: None,
-        }
-    }
-
     /// Takes note that a place is lost. That it is given another value is told first.
     fn lose(&mut self, number: usize, loss: Loss) {
         if let Some(held) = self.losses.get_mut(number) {
@@ -123,14 +103,13 @@ impl<'a> Tracker<'a> {
         }
     }
 
-    /// Tags each place that holds something with its own number; others are given up.
+    /// Tags each place that holds a number or a pointer with its own number; others are given up.
     fn begin(&mut self, state: &mut State) {
         self.lost = [None; TERMS];
         for number in 0..PLACES {
-            if is_followed(state, number) {
-                tag_own(state, number);
-            } else {
-                self.lose(number, Loss::Given);
+            match state.held(place(number)) {
+                RegState::Any => self.lose(number, Loss::Given),
+                RegState::Num(_) | RegState::Ptr(_) => tag_own(state, number),
             }
         }
     }
@@ -167,21 +146,6 @@ impl<'a> Tracker<'a> {
             _ => Some(Loss::Given),
         }
     }
-
-    /// Goes over a block of the loop from what is known at its label.
-    pub fn over(
-        &mut self,
-        block: usize,
-        known: &Entries,
-        room: &mut State,
-    ) -> Result<(), AllocError> {
-        if load(known, room) {
-            self.begin(room);
-            let task = self.task;
-            let _reached = task.walk(block, room, self)?;
-        }
-        Ok(())
-    }
 }
 
 impl<'a> Visitor for Tracker<'a> {
@@ -209,4 +173,30 @@ impl<'a> Visitor for Tracker<'a> {
         }
         Ok(())
     }
+}
+
+/// By places, why each isn't followed through a loop of blocks that rise, by what is known at their labels. Callees may return any
+/// number.
+pub fn losses_in<'k, F: Fn(usize) -> Option<&'k Entries>>(
+    task: Task,
+    blocks: &[usize],
+    known: F,
+) -> Result<Losses, AllocError>
+    requires { F.IsAlwaysCallable known }
+{
+    let task = Task { rets: &[], ..task };
+    let mut tracker = Tracker {
+        blocks,
+        losses: [None; PLACES],
+        lost: [None; TERMS],
+        doubt: None,
+    };
+    let mut room = State::blank();
+    for block in blocks {
+        if known(*block).is_some_and(|known| load(known, &mut room)) {
+            tracker.begin(&mut room);
+            let _reached = task.walk(*block, &mut room, &mut tracker)?;
+        }
+    }
+    Ok(tracker.losses)
 }

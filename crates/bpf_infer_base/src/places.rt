@@ -27,23 +27,21 @@ pub fn place(number: usize) -> Place
 // ---- sets
 
 /// A set of places, each a bit at its number.
-#[derive(Clone, Copy, PartialEq, Eq, Default)]
-pub struct PlaceSet {
-    held: u128,
-}
+#[derive(Clone, Copy, PartialEq, Default)]
+pub struct PlaceSet(u128);
 
 impl PlaceSet {
     /// No place.
-    pub const NONE: PlaceSet = PlaceSet { held: 0 };
+    pub const NONE: PlaceSet = PlaceSet(0);
 
     /// All places.
-    pub const ALL: PlaceSet = PlaceSet { held: u128::MAX };
+    pub const ALL: PlaceSet = PlaceSet(u128::MAX);
 
     /// r0 to r5, which a CALL changes.
-    pub const CHANGED_BY_CALL: PlaceSet = PlaceSet { held: 0b11_1111 };
+    pub const CHANGED_BY_CALL: PlaceSet = PlaceSet(0b11_1111);
 
     /// r1 to r5, which a CALL hands over.
-    pub const HANDED_OVER: PlaceSet = PlaceSet { held: 0b11_1110 };
+    pub const HANDED_OVER: PlaceSet = PlaceSet(0b11_1110);
 
     /// A place alone.
     pub fn of(place: Place) -> PlaceSet {
@@ -51,7 +49,7 @@ impl PlaceSet {
             Place::Register(r) => r as u8,
             Place::Slot(k) => k.min(64) + 10,
         };
-        PlaceSet { held: 1 << number }
+        PlaceSet(1 << number)
     }
 
     /// The registers that an instruction reads.
@@ -84,49 +82,43 @@ impl PlaceSet {
 
     /// Whether no place is in it.
     pub fn is_empty(self) -> bool {
-        self.held == 0
+        self.0 == 0
     }
 
     /// Whether a place is in it.
     pub fn has(self, place: Place) -> bool {
-        self.held & PlaceSet::of(place).held != 0
+        self.0 & PlaceSet::of(place).0 != 0
     }
 
     /// What is in either.
     pub fn union(self, other: PlaceSet) -> PlaceSet {
-        PlaceSet {
-            held: self.held | other.held,
-        }
+        PlaceSet(self.0 | other.0)
     }
 
     /// What is in both.
     pub fn intersection(self, other: PlaceSet) -> PlaceSet {
-        PlaceSet {
-            held: self.held & other.held,
-        }
+        PlaceSet(self.0 & other.0)
     }
 
     /// What is in it and not in another.
     pub fn without(self, other: PlaceSet) -> PlaceSet {
-        PlaceSet {
-            held: self.held & !other.held,
-        }
+        PlaceSet(self.0 & !other.0)
     }
 
     /// Puts a place in.
     pub fn add(&mut self, place: Place) {
-        self.held |= PlaceSet::of(place).held;
+        self.0 |= PlaceSet::of(place).0;
     }
 
     /// Takes the first place out.
     pub fn take_first(&mut self) -> Option<Place>
         ensures { IfSome result IsPlace }
     {
-        if self.held == 0 {
+        if self.0 == 0 {
             return None;
         }
-        let number = self.held.trailing_zeros();
-        self.held &= self.held - 1;
+        let number = self.0.trailing_zeros();
+        self.0 &= self.0 - 1;
         Some(place(number as usize))
     }
 }

@@ -146,7 +146,7 @@ impl Sketch {
     }
 }
 
-/// A refusal of the deep search, and what it had then: the states are those in which the refused instruction was seen, or
+/// A refusal of the deep search, and what it had then: what is in the way, and the states; these are those in which the refused instruction was seen, or
 /// with which no budget was found. There are none where it stopped before it had states, or memory ran out.
 #[derive(Drop)]
 pub struct Stop {
@@ -155,70 +155,41 @@ pub struct Stop {
 }
 
 impl Stop {
+    /// I1 at a slot, for a limit.
+    pub fn unstable(slot: u32, limit: Limit) -> Stop {
+        Stop::of(InferError::Unstable { slot }, Some(Obstacle::Over(limit)))
+    }
+
     /// I2 at a slot, for an obstacle.
     pub fn no_budget(slot: u32, obstacle: Obstacle) -> Stop {
+        Stop::of(InferError::NoBudget { slot }, Some(obstacle))
+    }
+
+    /// A refusal without states.
+    fn of(error: InferError, obstacle: Option<Obstacle>) -> Stop {
+        let certificate = None;
         Stop {
-            error: InferError::NoBudget { slot },
+            error,
             sketch: Sketch {
-                certificate: None,
-                obstacle: Some(obstacle),
+                certificate,
+                obstacle,
             },
         }
     }
-}
 
-/// Why states or budgets aren't found: a refusal, and the limit that is passed, if it is known.
-#[derive(Clone, Copy)]
-pub struct Halt {
-    pub error: InferError,
-    pub limit: Option<Limit>,
-}
-
-impl Halt {
-    /// I1 at a slot, for a limit.
-    pub fn unstable(slot: u32, limit: Limit) -> Halt {
-        Halt {
-            error: InferError::Unstable { slot },
-            limit: Some(limit),
-        }
-    }
-
-    /// I2 at a slot, for a limit.
-    pub fn no_budget(slot: u32, limit: Limit) -> Halt {
-        Halt {
-            error: InferError::NoBudget { slot },
-            limit: Some(limit),
-        }
-    }
-}
-
-impl From<InferError> for Halt {
-    fn from(error: InferError) -> Halt {
-        Halt { error, limit: None }
-    }
-}
-
-impl From<AllocError> for Halt {
-    fn from(_error: AllocError) -> Halt {
-        Halt::from(InferError::Memory)
-    }
-}
-
-impl From<Halt> for Stop {
-    fn from(halt: Halt) -> Stop {
+    /// The same with the states at the labels of functions, on contexts of `least` to `most` bytes.
+    pub fn with_states(self, least: u32, most: u32, functions: Vec<Function>) -> Stop {
+        let Stop { error, sketch } = self;
         Stop {
-            error: halt.error,
-            sketch: Sketch {
-                certificate: None,
-                obstacle: halt.limit.map(Obstacle::Over),
-            },
+            error,
+            sketch: Sketch::of(least, most, functions, sketch.obstacle),
         }
     }
 }
 
 impl From<InferError> for Stop {
     fn from(error: InferError) -> Stop {
-        Stop::from(Halt::from(error))
+        Stop::of(error, None)
     }
 }
 

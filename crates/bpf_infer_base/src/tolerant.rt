@@ -58,16 +58,6 @@ fn plus(pointer: RegState, by: Num) -> RegState
     moved(pointer, by.signed().lo(), by.signed().hi())
 }
 
-/// A pointer with a number taken off.
-fn minus(pointer: RegState, by: Num) -> RegState
-    requires { IsRegister pointer }
-    ensures { IsRegister result }
-{
-    let least = 0i64.saturating_sub(by.signed().hi());
-    let greatest = 0i64.saturating_sub(by.signed().lo());
-    moved(pointer, least, greatest)
-}
-
 /// Any number, or a pointer where one was moved too far.
 fn result_of(op: AluOp, width: Width, a: RegState, b: RegState) -> RegState
     requires left { IsRegister a }
@@ -81,7 +71,10 @@ fn result_of(op: AluOp, width: Width, a: RegState, b: RegState) -> RegState
             _ => RegState::Num(Num::top()),
         },
         (AluOp::Sub, Width::W64) => match b {
-            RegState::Num(by) => minus(a, by),
+            RegState::Num(by) => {
+                let (lo, hi) = (by.signed().lo(), by.signed().hi());
+                moved(a, 0i64.saturating_sub(hi), 0i64.saturating_sub(lo))
+            }
             RegState::Any | RegState::Ptr(_) => RegState::Num(Num::top()),
         },
         _ => RegState::Num(Num::top()),

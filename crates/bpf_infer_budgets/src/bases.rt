@@ -1,17 +1,15 @@
 //! The bases of budgets: longest paths over the components of a function, from the last to the first.
 
+use crate::paths::Path;
 use crate::plan::{Part, Parts, Plan};
-use crate::weights::MOST_PASSES;
+use crate::weights::passes_over;
 use bpf_cert::{MAX_BASE, MAX_TERMS};
-use bpf_infer_base::{Components, Counter, Halt, Limit, get_or, number_in, put};
+use bpf_infer_base::{Components, Counter, Limit, Obstacle, Stop, get_or, put};
 use bpf_state::Tag;
 
 /// Bases that are found.
 #[derive(Drop)]
 struct Settling {
-    /// By components.
-    nodes: Vec<usize>,
-    components: Components,
     /// By paths, what the base at the start has to pay beside the one at the end.
     lengths: Vec<i128>,
     /// Whether labels outside loops take over terms of those behind them.
@@ -19,48 +17,35 @@ struct Settling {
 }
 
 impl Settling {
-    /// The label at an index of the order.
-    fn node(&self, index: usize) -> usize {
-        number_in(&self.nodes, index)
-    }
-
     /// What the paths from a label have to be paid with.
     fn base_of(&self, plan: &Plan, label: usize) -> i128 {
-        let mut base = 0i128;
-        for number in plan.paths.leaving(label) {
-            if let Some(path) = plan.paths.at(number) {
-                let behind = path.to.map_or(0, |to| plan.base(to));
-                let length = get_or(&self.lengths, number, 0);
-                base = base.max(length.saturating_add(behind));
-            }
-        }
-        base
-    }
-
-    /// Measures the paths from a label.
-    fn measure(&mut self, plan: &Plan, label: usize) {
-        for number in plan.paths.leaving(label) {
-            if let Some(path) = plan.paths.at(number) {
-                put(&mut self.lengths, number, plan.length(path));
-            }
-        }
+        let base_by = |path: &Path| {
+            let behind = path.to.map_or(0, |to| plan.base(to));
+            get_or(&self.lengths, path.number, 0).saturating_add(behind)
+        };
+        plan.paths
+            .leaving(label)
+            .iter()
+            .map(base_by)
+            .max()
+            .unwrap_or(0)
+            .max(0)
     }
 
     /// Measures the paths from the labels of a component.
-    fn measure_all(&mut self, plan: &Plan, start: usize, end: usize) {
-        for index in start..end {
-            self.measure(plan, self.node(index));
+    fn measure(&mut self, plan: &Plan, labels: &[usize]) {
+        for path in labels.iter().flat_map(|label| plan.paths.leaving(*label)) {
+            put(&mut self.lengths, path.number, plan.length(path));
         }
     }
 
     /// Raises the bases of a component to what its paths ask for. Whether any rose.
-    fn pass(&self, plan: &mut Plan, start: usize, end: usize) -> bool {
+    fn pass(&self, plan: &mut Plan, labels: &[usize]) -> bool {
         let mut has_risen = false;
-        for index in start..end {
-            let label = self.node(index);
-            let base = self.base_of(plan, label);
-            if base > plan.base(label) {
-                put(&mut plan.bases, label, base);
+        for label in labels {
+            let base = self.base_of(plan, *label);
+            if base > plan.base(*label) {
+                put(&mut plan.bases, *label, base);
                 has_risen = true;
             }
         }
@@ -68,68 +53,54 @@ impl Settling {
     }
 
     /// Finds the bases of a component. I2 at its first label if they aren't found in few passes.
-    fn settle(&mut self, plan: &mut Plan, start: usize, end: usize) -> Result<(), Halt> {
-        self.measure_all(plan, start, end);
-        let passes = end.saturating_sub(start).saturating_add(2).min(MOST_PASSES);
-        for _ in 0..passes {
-            if !self.pass(plan, start, end) {
+    fn settle(&mut self, plan: &mut Plan, labels: &[usize]) -> Result<(), Stop> {
+        self.measure(plan, labels);
+        for _ in 0..passes_over(labels.len()) {
+            if !self.pass(plan, labels) {
                 return Ok(());
             }
         }
-        let slot = plan.slot(self.node(end.saturating_sub(1)));
-        Err(Halt::no_budget(slot, Limit::Passes))
+        let slot = plan.slot(labels.last().copied().unwrap_or(0));
+        Err(Stop::no_budget(slot, Obstacle::Over(Limit::Passes)))
     }
 
     // ---- terms of labels behind
 
     /// Puts terms into the place of a label's, and finds its base with them.
-    fn settle_with(&mut self, plan: &mut Plan, index: usize, parts: Parts) -> Result<(), Halt> {
-        let label = self.node(index);
+    fn settle_with(&mut self, plan: &mut Plan, label: usize, parts: Parts) -> Result<(), Stop> {
         plan.set_parts(label, parts);
         put(&mut plan.bases, label, 0);
-        self.settle(plan, index, index.saturating_add(1))
+        self.settle(plan, &[label])
     }
 
     /// Gives a label outside loops the terms of those behind it, if that doesn't raise its budget.
-    fn lift(&mut self, plan: &mut Plan, index: usize) -> Result<(), Halt> {
-        let label = self.node(index);
+    fn lift(&mut self, plan: &mut Plan, label: usize) -> Result<(), Stop> {
         let lifted = lifted_to(plan, label);
         if lifted[0].is_none() || plan.parts(label)[0].is_some() {
             return Ok(());
         }
         let greatest = plan.greatest(label);
-        self.settle_with(plan, index, lifted)?;
+        self.settle_with(plan, label, lifted)?;
         if plan.greatest(label) > greatest {
-            self.settle_with(plan, index, [None; MAX_TERMS])?;
+            self.settle_with(plan, label, [None; MAX_TERMS])?;
         }
         Ok(())
     }
 
     /// Finds the bases of a component, with lifted terms if that is asked for. I2 at a label with a base above 2^40.
-    fn settle_component(&mut self, plan: &mut Plan, start: usize, end: usize) -> Result<(), Halt> {
-        self.settle(plan, start, end)?;
-        if self.lifts && end.saturating_sub(start) == 1 {
-            self.lift(plan, start)?;
+    fn settle_component(&mut self, plan: &mut Plan, labels: &[usize]) -> Result<(), Stop> {
+        self.settle(plan, labels)?;
+        if let [label] = labels
+            && self.lifts
+        {
+            self.lift(plan, *label)?;
         }
-        for index in start..end {
-            let label = self.node(index);
-            if plan.base(label) > MAX_BASE as i128 {
-                let wanted = u64::try_from(plan.base(label)).unwrap_or(u64::MAX);
-                return Err(Halt::no_budget(plan.slot(label), Limit::Base { wanted }));
-            }
-        }
-        Ok(())
-    }
-
-    /// Finds the bases of all components, those that the others lead to first.
-    fn settle_all(&mut self, plan: &mut Plan) -> Result<(), Halt> {
-        let mut start = 0usize;
-        for index in 0..self.nodes.len() {
-            let end = index.saturating_add(1);
-            let here = self.components.of_node(self.node(index));
-            if end == self.nodes.len() || self.components.of_node(self.node(end)) != here {
-                self.settle_component(plan, start, end)?;
-                start = end;
+        for label in labels {
+            let base = plan.base(*label);
+            if base > MAX_BASE as i128 {
+                let wanted = u64::try_from(base).unwrap_or(u64::MAX);
+                let obstacle = Obstacle::Over(Limit::Base { wanted });
+                return Err(Stop::no_budget(plan.slot(*label), obstacle));
             }
         }
         Ok(())
@@ -172,11 +143,12 @@ fn take_in(plan: &Plan, parts: &mut Parts, taken: Part) {
 }
 
 /// Takes in the terms at the end of a path, at the places where they come from.
-fn take_all(plan: &Plan, number: usize, to: usize, label: usize, parts: &mut Parts) {
-    for part in plan.parts(to).into_iter().flatten() {
-        if let Some(Tag { term, .. }) = plan.paths.source(number, part.counter.number()) {
+fn take_all(plan: &Plan, path: &Path, parts: &mut Parts) {
+    let behind = path.to.map_or([None; MAX_TERMS], |to| plan.parts(to));
+    for part in behind.into_iter().flatten() {
+        if let Some(Tag { term, .. }) = plan.paths.source(path.number, part.counter.number()) {
             let counter = counter_in(part.counter, term as usize);
-            if is_countable(plan, label, counter) {
+            if is_countable(plan, path.from, counter) {
                 take_in(plan, parts, Part { counter, ..part });
             }
         }
@@ -186,23 +158,25 @@ fn take_all(plan: &Plan, number: usize, to: usize, label: usize, parts: &mut Par
 /// The terms of the labels behind a label, at the places where they come from.
 fn lifted_to(plan: &Plan, label: usize) -> Parts {
     let mut parts = [None; MAX_TERMS];
-    for number in plan.paths.leaving(label) {
-        if let Some(to) = plan.paths.at(number).and_then(|path| path.to) {
-            take_all(plan, number, to, label, &mut parts);
-        }
+    for path in plan.paths.leaving(label) {
+        take_all(plan, path, &mut parts);
     }
     parts
 }
 
 /// Finds the bases of a function's labels, where the terms stand. I2 at a label with a base above 2^40.
-pub fn settle_bases(plan: &mut Plan, lifts: bool) -> Result<(), Halt> {
+pub fn settle_bases(plan: &mut Plan, lifts: bool) -> Result<(), Stop> {
     let alloc = plan.alloc;
     let components = Components::of(alloc, &plan.paths.graph)?;
+    let nodes = components.nodes(alloc)?;
     let mut settling = Settling {
-        nodes: components.nodes(alloc)?,
-        components,
         lengths: vec![in alloc; 0; plan.paths.count()]?,
         lifts,
     };
-    settling.settle_all(plan)
+    let is_in_one = |a: &usize, b: &usize| components.of_node(*a) == components.of_node(*b);
+    // Those that the others lead to come first.
+    for labels in nodes.chunk_by(is_in_one) {
+        settling.settle_component(plan, labels)?;
+    }
+    Ok(())
 }

@@ -19,7 +19,7 @@ pub struct Candidate {
     /// The greatest number in the place, if it rises.
     limit: Option<u64>,
     /// By arcs, how much what is counted grows, evened out so that it never does: 0 or less.
-    changes: Vec<i128>,
+    pub changes: Vec<i128>,
     /// How often it may fall, at the most.
     range: i128,
 }
@@ -32,11 +32,6 @@ impl Candidate {
             Some(limit) => Counter::Rising(number, limit),
             None => Counter::Falling(number),
         }
-    }
-
-    /// By arcs, how much what is counted grows.
-    pub fn into_changes(self) -> Vec<i128> {
-        self.changes
     }
 
     /// The arcs on which it doesn't fall, of those that are left.
@@ -73,7 +68,7 @@ fn even_out(alloc: Global, graph: &Graph, changes: &mut Vec<i128>) -> Result<boo
 }
 
 /// The least by which something falls, where it does.
-fn least_step(changes: &[i128]) -> Option<i128> {
+pub fn least_step(changes: &[i128]) -> Option<i128> {
     let falls = changes.iter().filter(|change| **change < 0);
     falls.map(|change| 0i128.saturating_sub(*change)).min()
 }

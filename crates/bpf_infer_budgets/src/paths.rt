@@ -9,8 +9,7 @@ use bpf_infer_base::{
 use bpf_infer_error::InferError;
 use bpf_insn::{Insn, Reg};
 use bpf_state::{RegState, State, Tag, enter};
-use std::alloc::{AllocError, Global};
-use std::ops::Range;
+use std::alloc::AllocError;
 
 /// What a place holds at the end of a path. Its source is the place that held it at the start, less an offset.
 #[derive(Clone, Copy)]
@@ -24,6 +23,7 @@ pub struct Moved {
 /// included.
 #[derive(Clone, Copy)]
 pub struct Path {
+    pub number: usize,
     pub from: usize,
     pub to: Option<usize>,
     pub cost: i128,
@@ -56,9 +56,11 @@ impl Paths {
         self.list.get(number)
     }
 
-    /// The numbers of the paths that leave a label.
-    pub fn leaving(&self, label: usize) -> Range<usize> {
-        number_in(&self.starts, label)..number_in(&self.starts, label.saturating_add(1))
+    /// The paths that leave a label.
+    pub fn leaving(&self, label: usize) -> &[Path] {
+        let start = number_in(&self.starts, label);
+        let end = number_in(&self.starts, label.saturating_add(1));
+        self.list.get(start..end).unwrap_or(&[])
     }
 
     /// What a place holds at the end of a path, if its label says that it is a number.
@@ -72,17 +74,6 @@ impl Paths {
         let path = self.at(path)?;
         self.held(path, number)?.source
     }
-}
-
-/// The arcs from label to label among some paths, each with the number of its path.
-fn arcs_of(alloc: Global, paths: &[Path]) -> Result<Vec<Arc>, AllocError> {
-    let mut arcs = Vec::new(alloc);
-    for (number, path) in paths.iter().enumerate() {
-        if let Some(to) = path.to {
-            arcs.push(Arc::numbered(path.from, to, number))?;
-        }
-    }
-    Ok(arcs)
 }
 
 /// A walk over a function, and what it came to.
@@ -132,7 +123,9 @@ impl<'a> Walker<'a> {
 
     /// Ends a path at which so much is held as was noted since.
     fn end(&mut self, from: usize, to: Option<usize>, held_from: usize) -> Result<(), AllocError> {
+        let number = self.list.len();
         self.list.push(Path {
+            number,
             from,
             to,
             cost: self.cost,
@@ -246,10 +239,11 @@ pub fn paths_of(
         cost: 0,
     };
     walker.walk_all(&draft.task(&blocks))?;
-    let arcs = arcs_of(alloc, &walker.list)?;
+    let arc_of = |path: &Path| Some(Arc::numbered(path.from, path.to?, path.number));
+    let arcs = walker.list.iter().filter_map(arc_of).collect(alloc)?;
     Ok(Paths {
         blocks,
-        graph: Graph::of(alloc, function.labels.len(), arcs)?,
+        graph: Graph::of(function.labels.len(), arcs),
         list: walker.list,
         held: walker.held,
         starts: walker.starts,

@@ -4,7 +4,7 @@ use crate::draft::Price;
 use crate::paths::{Path, Paths};
 use bpf_cert::{Function, MAX_TERMS};
 use bpf_infer_base::{Counter, Line, Span, get_or, put, said, tight_number};
-use bpf_state::{RegState, Tag};
+use bpf_state::{Entries, RegState, Tag};
 use std::alloc::{AllocError, Global};
 
 /// A term of the budget at a label: what its place counts there, and the number of its weight.
@@ -51,26 +51,29 @@ impl<'a> Plan<'a> {
 
     /// The slot of a label.
     pub fn slot(&self, label: usize) -> u32 {
-        match self.function.labels.get(label) {
-            Some(label) => label.slot,
-            None => self.function.first,
-        }
+        let labels = &self.function.labels;
+        labels
+            .get(label)
+            .map_or(self.function.first, |label| label.slot)
+    }
+
+    /// What is known at a label.
+    pub fn known(&self, label: usize) -> Option<&Entries> {
+        Some(&self.function.labels.get(label)?.state)
     }
 
     /// What the number in a place may be at a label.
     pub fn span(&self, label: usize, number: usize) -> Span {
-        match self.function.labels.get(label) {
-            Some(label) => Span::of_number(tight_number(&label.state, number)),
-            None => Span::ALL,
-        }
+        Span::of_number(
+            self.known(label)
+                .and_then(|known| tight_number(known, number)),
+        )
     }
 
     /// What a label says of a place.
     pub fn said(&self, label: usize, number: usize) -> RegState {
-        match self.function.labels.get(label) {
-            Some(label) => said(&label.state, number),
-            None => RegState::Any,
-        }
+        self.known(label)
+            .map_or(RegState::Any, |known| said(known, number))
     }
 
     /// The base of a label's budget.
@@ -163,24 +166,16 @@ impl<'a> Plan<'a> {
             .greatest(held.map_or(Span::ALL, |held| held.span))
     }
 
-    /// As `taken` for all old terms together.
-    fn taken_by_all(&self, path: &Path, parts: &Parts) -> i128 {
-        let mut sum = 0i128;
-        for old in self.parts(path.from).into_iter().flatten() {
-            sum = sum.saturating_add(self.taken(path, old, parts));
-        }
-        sum
-    }
-
     /// What the base at the start of a path has to pay beside the one at its end: its cost, and what terms take more than
     /// terms give.
     pub fn length(&self, path: &Path) -> i128 {
         let parts = path.to.map_or([None; MAX_TERMS], |to| self.parts(to));
-        let mut sum = path.cost.saturating_add(self.taken_by_all(path, &parts));
-        for part in parts.into_iter().flatten() {
-            sum = sum.saturating_add(self.free(path, part));
-        }
-        sum
+        let (old, new) = (self.parts(path.from).into_iter(), parts.into_iter());
+        let taken = old.flatten().map(|old| self.taken(path, old, &parts));
+        let free = new.flatten().map(|part| self.free(path, part));
+        taken
+            .chain(free)
+            .fold(path.cost, |sum, more| sum.saturating_add(more))
     }
 
     // ---- the whole budget
@@ -197,11 +192,11 @@ impl<'a> Plan<'a> {
 
     /// The greatest budget at a label.
     pub fn greatest(&self, label: usize) -> i128 {
-        let mut sum = self.base(label);
-        for part in self.parts(label).into_iter().flatten() {
+        let greatest = |part: Part| {
             let span = self.span(label, part.counter.number());
-            sum = sum.saturating_add(self.line(part).greatest(span));
-        }
-        sum
+            self.line(part).greatest(span)
+        };
+        let terms = self.parts(label).into_iter().flatten().map(greatest);
+        terms.fold(self.base(label), |sum, more| sum.saturating_add(more))
     }
 }

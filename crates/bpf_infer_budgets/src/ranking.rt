@@ -12,9 +12,7 @@ use crate::trials::trials_of;
 use crate::weights::weigh;
 use arrayvec::ArrayVec;
 use bpf_cert::{Budget, Function};
-use bpf_infer_base::{
-    Halt, Limit, Meter, Obstacle, PLACES, Proposal, Sketch, Stop, Task, Watch, put, vacant,
-};
+use bpf_infer_base::{Limit, Meter, Obstacle, PLACES, Proposal, Stop, Task, Watch, put};
 use bpf_state::State;
 use std::alloc::AllocError;
 
@@ -75,7 +73,7 @@ fn rank<W: Watch>(
 struct Ranking {
     prices: Vec<Price>,
     /// By functions, those of its labels.
-    budgets: Vec<Option<Vec<Budget>>>,
+    budgets: Vec<Vec<Budget>>,
 }
 
 impl Ranking {
@@ -93,17 +91,18 @@ impl Ranking {
         let mut plan = Plan::new(draft.whole.alloc, function, &paths)?;
         rank(draft, number, &mut plan, meter)?;
         put(&mut self.prices, number, plan.price());
-        put(&mut self.budgets, number, Some(budgets_of(&plan)?));
+        put(&mut self.budgets, number, budgets_of(&plan)?);
         Ok(())
     }
 }
 
 /// The budgets of the functions of a draft, callees first.
 fn ranking_of<W: Watch>(draft: Draft, meter: &mut Meter<'_, W>) -> Result<Ranking, Stop> {
-    let count = draft.functions.len();
+    let (alloc, count) = (draft.whole.alloc, draft.functions.len());
+    let none = |_number| Vec::new(alloc);
     let mut ranking = Ranking {
-        prices: vec![in draft.whole.alloc; Price::NONE; count]?,
-        budgets: vacant(draft.whole.alloc, count)?,
+        prices: vec![in alloc; Price::NONE; count]?,
+        budgets: (0..count).map(none).collect(alloc)?,
     };
     for number in &draft.whole.cfg.callees_first {
         ranking.rank(draft, *number, meter)?;
@@ -112,13 +111,14 @@ fn ranking_of<W: Watch>(draft: Draft, meter: &mut Meter<'_, W>) -> Result<Rankin
 }
 
 /// The greatest number of steps of a run from a state. I2 at slot 0 above 2^32 - 1.
-fn steps_from(ranking: &Ranking, start: &State) -> Result<u32, Halt> {
+fn steps_from(ranking: &Ranking, start: &State) -> Result<u32, Stop> {
     let steps = ranking
         .prices
         .first()
         .map_or(0, |price| price.greatest(start));
     let wanted = u64::try_from(steps).unwrap_or(u64::MAX);
-    u32::try_from(steps).map_err(|_error| Halt::no_budget(0, Limit::Steps { wanted }))
+    let over = Obstacle::Over(Limit::Steps { wanted });
+    u32::try_from(steps).map_err(|_error| Stop::no_budget(0, over))
 }
 
 /// Gives a function's labels their budgets.
@@ -129,11 +129,9 @@ fn put_budgets(function: &mut Function, budgets: Vec<Budget>) {
 }
 
 /// Gives the labels of all functions their budgets.
-fn put_all(functions: &mut Vec<Function>, budgets: Vec<Option<Vec<Budget>>>) {
+fn put_all(functions: &mut Vec<Function>, budgets: Vec<Vec<Budget>>) {
     for (function, budgets) in functions.iter_mut().zip(budgets) {
-        if let Some(budgets) = budgets {
-            put_budgets(function, budgets);
-        }
+        put_budgets(function, budgets);
     }
 }
 
@@ -142,22 +140,13 @@ fn budgeted<W: Watch>(
     task: Task,
     functions: &[Function],
     meter: &mut Meter<'_, W>,
-) -> Result<(u32, Vec<Option<Vec<Budget>>>), Stop>
+) -> Result<(u32, Vec<Vec<Budget>>), Stop>
     requires { task.least ≤ task.most }
 {
     let rets = rets_of(task.alloc, functions)?;
     let ranking = ranking_of(Draft::of(task, functions, &rets), meter)?;
     let steps = steps_from(&ranking, &task.start())?;
     Ok((steps, ranking.budgets))
-}
-
-/// A refusal with the states of a draft.
-fn with_states(task: Task, functions: Vec<Function>, stop: Stop) -> Stop {
-    let Stop { error, sketch } = stop;
-    Stop {
-        error,
-        sketch: Sketch::of(task.least, task.most, functions, sketch.obstacle),
-    }
 }
 
 /// A draft of all functions of a program with budgets. I1 if a state doesn't lie where it leads to, at the first slot of its function; I2 at the lowest
@@ -175,6 +164,6 @@ pub fn ranked<W: Watch>(
             put_all(&mut functions, budgets);
             Ok(Proposal { steps, functions })
         }
-        Err(stop) => Err(with_states(task, functions, stop)),
+        Err(stop) => Err(stop.with_states(task.least, task.most, functions)),
     }
 }

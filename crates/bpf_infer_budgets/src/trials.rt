@@ -3,8 +3,7 @@
 use crate::components::Component;
 use crate::draft::Draft;
 use crate::plan::Plan;
-use bpf_infer_base::{Losses, Move, PLACES, Shift, Tracker, Trial, get_or, place, put};
-use bpf_state::State;
+use bpf_infer_base::{Move, PLACES, Shift, Trial, get_or, losses_in, place, put};
 use std::alloc::AllocError;
 
 /// How a place moves from the first label of a component to itself, past rounds of inner loops; None if it isn't followed.
@@ -36,26 +35,14 @@ fn round_of(
     Ok(around)
 }
 
-/// By places, why each isn't followed through a component.
-fn losses_in(draft: Draft, plan: &Plan, component: &Component) -> Result<Losses, AllocError> {
-    let task = draft.task(&plan.paths.blocks);
-    let mut tracker = Tracker::new(task, &component.labels);
-    let mut room = State::blank();
-    for label in &component.labels {
-        if let Some(known) = plan.function.labels.get(*label) {
-            tracker.over(*label, &known.state, &mut room)?;
-        }
-    }
-    Ok(tracker.losses)
-}
-
 /// The places that were tried as counters of a component, with what they do in a round.
 pub fn trials_of(
     draft: Draft,
     plan: &Plan,
     component: &Component,
 ) -> Result<Vec<Trial>, AllocError> {
-    let losses = losses_in(draft, plan, component)?;
+    let task = draft.task(&plan.paths.blocks);
+    let losses = losses_in(task, &component.labels, |label| plan.known(label))?;
     let first = component.label(0);
     let mut trials = Vec::new(plan.alloc);
     for number in 0..PLACES {

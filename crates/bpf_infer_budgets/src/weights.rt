@@ -1,16 +1,17 @@
 //! How often the counters of a group are counted: longest paths to their steps, and halving for the least weights.
 
+use crate::candidates::least_step;
 use crate::groups::{Counted, Group};
 use crate::plan::Plan;
 use bpf_cert::MAX_WEIGHT;
-use bpf_infer_base::{Arc, Graph, Halt, Limit, get_or, longest_paths, put};
+use bpf_infer_base::{Arc, Graph, Limit, Obstacle, Stop, get_or, longest_paths, put};
 use std::alloc::{AllocError, Global};
 
 /// The most labels of a component whose weights are made least.
 const FEW_LABELS: usize = 64;
 
 /// The most passes over a component.
-pub const MOST_PASSES: usize = 1024;
+const MOST_PASSES: usize = 1024;
 
 /// How often a number from 1 to the greatest weight may be halved.
 const HALVINGS: usize = 20;
@@ -37,72 +38,39 @@ fn changes_of(alloc: Global, group: &Group) -> Result<Vec<i128>, AllocError> {
     Ok(sums)
 }
 
-/// The arcs of a group on which nothing falls, and the length of the longest one on which something does, by where it
-/// begins.
-#[derive(Drop)]
-struct Split {
-    left: Vec<usize>,
-    lengths: Vec<i128>,
-    heights: Vec<i128>,
-    step: i128,
-}
-
-impl Split {
-    /// Puts an arc to those on which nothing falls, or to the others.
-    fn add(
-        &mut self,
-        number: usize,
-        from: usize,
-        length: i128,
-        change: i128,
-    ) -> Result<(), AllocError> {
-        if change < 0 {
-            let height = length.max(get_or(&self.heights, from, 0));
-            put(&mut self.heights, from, height);
-            self.step = self.step.min(0i128.saturating_sub(change));
-        } else {
-            self.left.push(number)?;
-            self.lengths.push(length)?;
+/// By nodes, the length of the longest arc from each on which something falls.
+fn heights_of(
+    alloc: Global,
+    graph: &Graph,
+    lengths: &[i128],
+    changes: &[i128],
+) -> Result<Vec<i128>, AllocError> {
+    let mut heights = vec![in alloc; 0; graph.count()]?;
+    for ((arc, length), change) in graph.arcs().iter().zip(lengths).zip(changes) {
+        if *change < 0 {
+            let height = (*length).max(get_or(&heights, arc.from, 0));
+            put(&mut heights, arc.from, height);
         }
-        Ok(())
     }
-
-    /// The arcs of a group and their lengths, apart by whether something falls on them.
-    fn of(alloc: Global, group: &Group, lengths: &[i128]) -> Result<Split, AllocError> {
-        let changes = changes_of(alloc, group)?;
-        let graph = &group.component.graph;
-        let mut split = Split {
-            left: Vec::new(alloc),
-            lengths: Vec::new(alloc),
-            heights: vec![in alloc; 0; graph.count()]?,
-            step: i128::MAX,
-        };
-        for number in 0..graph.arcs().len() {
-            if let (Some(arc), Some(length), Some(change)) = (
-                graph.arcs().get(number),
-                lengths.get(number),
-                changes.get(number),
-            ) {
-                split.add(number, arc.from, *length, *change)?;
-            }
-        }
-        Ok(split)
-    }
+    Ok(heights)
 }
 
 /// How many passes a graph of so many nodes is given.
-fn passes_over(count: usize) -> usize {
+pub fn passes_over(count: usize) -> usize {
     count.saturating_add(2).min(MOST_PASSES)
 }
 
 /// A weight with which a step pays the longest path to it, and the path of the step. None if there is no longest one.
 fn weight_of(alloc: Global, group: &Group, lengths: &[i128]) -> Result<Option<i128>, AllocError> {
-    let Split {
-        left,
-        lengths,
-        heights,
-        step,
-    } = Split::of(alloc, group, lengths)?;
+    let changes = changes_of(alloc, group)?;
+    let graph = &group.component.graph;
+    let heights = heights_of(alloc, graph, lengths, &changes)?;
+    let step = least_step(&changes).unwrap_or(i128::MAX);
+    // What is left are the arcs on which nothing falls.
+    let is_left = |number: &usize| get_or(&changes, *number, 0) >= 0;
+    let left: Vec<usize> = (0..changes.len()).filter(is_left).collect(alloc)?;
+    let length_of = |number: &usize| get_or(lengths, *number, 0);
+    let lengths: Vec<i128> = left.iter().map(length_of).collect(alloc)?;
     let graph = group.component.part(alloc, &left)?;
     let Some(heights) = longest_paths(&graph, &lengths, heights, passes_over(graph.count())) else {
         return Ok(None);
@@ -152,15 +120,15 @@ fn lower(
 
 /// Gives the counters of a group their weights; those of inner groups have theirs. I2 at the lowest label of a group with
 /// a weight above 2^20.
-pub fn weigh(plan: &mut Plan, group: &Group) -> Result<(), Halt> {
+pub fn weigh(plan: &mut Plan, group: &Group) -> Result<(), Stop> {
     let lengths = lengths_of(plan, &group.component.graph)?;
     let slot = plan.slot(group.component.label(0));
     let Some(weight) = weight_of(plan.alloc, group, &lengths)? else {
-        return Err(Halt::no_budget(slot, Limit::Passes));
+        return Err(Stop::no_budget(slot, Obstacle::Over(Limit::Passes)));
     };
     if weight > MAX_WEIGHT as i128 {
         let wanted = u64::try_from(weight).unwrap_or(u64::MAX);
-        return Err(Halt::no_budget(slot, Limit::Weight { wanted }));
+        return Err(Stop::no_budget(slot, Obstacle::Over(Limit::Weight { wanted })));
     }
     for counted in &group.counters {
         plan.set_weight(counted.weight, weight);

@@ -86,21 +86,12 @@ impl InferError {
         ensures same { result ≡ within slots self }
         ensures inside { infer_slot result < slots }
     {
-        let last = slots - 1;
+        let slot = self.slot().min(slots - 1);
         match self {
-            InferError::Unstable { slot } => InferError::Unstable {
-                slot: slot.min(last),
-            },
-            InferError::NoBudget { slot } => InferError::NoBudget {
-                slot: slot.min(last),
-            },
-            InferError::Recursion { slot } => InferError::Recursion {
-                slot: slot.min(last),
-            },
-            InferError::Fault { slot, condition } => InferError::Fault {
-                slot: slot.min(last),
-                condition,
-            },
+            InferError::Unstable { .. } => InferError::Unstable { slot },
+            InferError::NoBudget { .. } => InferError::NoBudget { slot },
+            InferError::Recursion { .. } => InferError::Recursion { slot },
+            InferError::Fault { condition, .. } => InferError::Fault { slot, condition },
             InferError::Memory => InferError::Memory,
         }
     }

@@ -115,10 +115,8 @@ impl Budgets {
 
     /// The term of a label's budget, as a line over what its place holds.
     fn line_at(&self, block: usize) -> Line {
-        match self.counted(block) {
-            Some((counter, weight)) => Line::of(counter, weight),
-            None => Line::ZERO,
-        }
+        let counted = self.counted(block);
+        counted.map_or(Line::ZERO, |(counter, weight)| Line::of(counter, weight))
     }
 
     /// What the place of a label's counter holds in a state on the way to it.
@@ -132,27 +130,25 @@ impl Budgets {
         }
     }
 
+    /// What the place of a label's counter holds in a state.
+    fn span_in(&self, block: usize, state: &State) -> Span {
+        let counter = self.loops.counter_at(block);
+        counter.map_or(Span::ALL, |counter| Span::of(state, counter.number()))
+    }
+
     /// The greatest budget of a label over a state.
     pub fn greatest(&self, block: usize, state: &State) -> i128 {
-        let base = self.base(block);
-        match self.counted(block) {
-            Some((counter, weight)) => {
-                let span = Span::of(state, counter.number());
-                base.saturating_add(Line::of(counter, weight).greatest(span))
-            }
-            None => base,
-        }
+        let most = self.line_at(block).greatest(self.span_in(block, state));
+        self.base(block).saturating_add(most)
     }
 
     // ---- the paths from each label
 
-    /// Tags the counter at a label. What it holds.
-    fn tag_counter(&self, block: usize, state: &mut State) -> Span {
-        let Some(counter) = self.loops.counter_at(block) else {
-            return Span::ALL;
-        };
-        state.set_tag(place(counter.number()), Some(Tag { term: 0, offset: 0 }));
-        Span::of(state, counter.number())
+    /// Tags the counter at a label.
+    fn tag_counter(&self, block: usize, state: &mut State) {
+        if let Some(counter) = self.loops.counter_at(block) {
+            state.set_tag(place(counter.number()), Some(Tag { term: 0, offset: 0 }));
+        }
     }
 
     /// Goes over a block, and takes note of its paths and of what its counter holds.
@@ -162,10 +158,11 @@ impl Budgets {
         block: usize,
         room: &mut State,
     ) -> Result<(), InferError> {
-        if !load_at(&rounds.states, block, room) {
+        if !load_at(&rounds.states.list, block, room) {
             return Ok(());
         }
-        let span = self.tag_counter(block, room);
+        self.tag_counter(block, room);
+        let span = self.span_in(block, room);
         let paths_from = self.paths.len();
         self.cost = 0;
         if let Err(fault) = rounds.task.walk(block, room, self)? {
@@ -326,7 +323,7 @@ fn follow(costs: &mut Vec<Option<i128>>, found: Loop, path: &Path) -> i128 {
 pub fn budgets_of(rounds: &Rounds) -> Result<Budgets, InferError> {
     let mut budgets = Budgets {
         loops: loops_of(rounds)?,
-        plans: vec![in rounds.task.alloc; Plan::NONE; rounds.states.len()]?,
+        plans: vec![in rounds.task.alloc; Plan::NONE; rounds.states.list.len()]?,
         paths: Vec::new(rounds.task.alloc),
         cost: 0,
     };

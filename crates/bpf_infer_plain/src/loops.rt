@@ -3,10 +3,11 @@
 use crate::rounds::Rounds;
 use bpf_infer_base::{
     Counter, Edge, PLACES, Shift, Visitor, get_or, load_at, number_at, place, put, tag_own,
+    tight_number,
 };
 use bpf_infer_error::InferError;
 use bpf_state::State;
-use std::alloc::{AllocError, Global};
+use std::alloc::AllocError;
 
 /// A loop: the blocks from its head to the last one that leads back to it.
 #[derive(Clone, Copy)]
@@ -15,13 +16,6 @@ pub struct Loop {
     pub last: usize,
     /// What falls on each way from the head to itself; None if there is no such way.
     pub counter: Option<Counter>,
-}
-
-impl Loop {
-    /// The numbers of its blocks.
-    pub fn blocks(self, alloc: Global) -> Result<Vec<usize>, AllocError> {
-        (self.head..self.last.saturating_add(1)).collect(alloc)
-    }
 }
 
 /// The loops of a program by their heads, and the number of the one that each block is in.
@@ -178,7 +172,7 @@ impl<'a> Search<'a> {
         let rounds = self.rounds;
         let mut state = State::blank();
         for block in self.head..self.last.saturating_add(1) {
-            if load_at(&rounds.states, block, &mut state) {
+            if load_at(&rounds.states.list, block, &mut state) {
                 self.tag_all(&mut state);
                 if let Err(fault) = rounds.task.walk(block, &mut state, self)? {
                     return Err(fault.refusal());
@@ -203,13 +197,10 @@ impl<'a> Search<'a> {
 
     /// The greatest number that a place holds at a label of the loop.
     fn limit(&self, number: usize) -> u64 {
-        let mut limit = 0;
-        for block in self.head..self.last.saturating_add(1) {
-            if let Some(held) = self.rounds.number(block, number) {
-                limit = limit.max(held.unsigned().hi());
-            }
-        }
-        limit
+        let blocks = self.head..self.last.saturating_add(1);
+        let states = &self.rounds.states;
+        let held = blocks.filter_map(|block| tight_number(states.at(block)?, number));
+        held.map(|held| held.unsigned().hi()).max().unwrap_or(0)
     }
 }
 

@@ -2,12 +2,12 @@
 
 use bpf_cert::Function;
 use bpf_infer_base::{
-    Callee, Edge, Fault, LABEL_WORK, LabelState, Limit, Meter, Stops, Tally, Task, Visitor, Watch,
-    get_or, held, join, labels_of, load_at, places_known, put, said, tight_number, vacant,
+    Callee, Edge, Fault, JoinedStates, LABEL_WORK, Limit, Meter, Stops, Task, Visitor, Watch,
+    get_or, labels_of, load_at, put, said,
 };
 use bpf_infer_error::InferError;
 use bpf_num::Num;
-use bpf_state::{Entries, RegState, State, enter};
+use bpf_state::{RegState, State, enter};
 use std::alloc::AllocError;
 
 /// The most rounds over a function.
@@ -21,7 +21,7 @@ const FIRST_WIDE_ROUND: u32 = 4;
 pub struct Rounds<'a> {
     pub task: Task<'a>,
     /// The states at the labels, None where none was reached.
-    pub states: Vec<LabelState>,
+    pub states: JoinedStates,
     /// The block of the last edge that leads back to each.
     pub backs: Vec<Option<usize>>,
     /// The lowest slot that isn't reached in each, else its end.
@@ -33,12 +33,8 @@ pub struct Rounds<'a> {
     is_wide: bool,
     /// Made when the first bound is moved on.
     stops: Stops,
-    /// Where the state at a label is joined with another one.
-    room: State,
     /// The work since it was last told, in slots.
     work: usize,
-    /// The entries of the labels.
-    tally: Tally,
     /// The limit of the search that was passed.
     pub limit: Option<Limit>,
 }
@@ -73,70 +69,36 @@ impl<'a> Rounds<'a> {
         let (alloc, count) = (task.alloc, task.blocks.count());
         Ok(Rounds {
             task,
-            states: vacant(alloc, count)?,
+            states: JoinedStates::new(alloc, count)?,
             backs: vec![in alloc; None; count]?,
             reached: vec![in alloc; 0; count]?,
             changed: vec![in alloc; false; count]?,
             has_changed: false,
             is_wide: false,
             stops: Stops::new(alloc),
-            room: State::blank(),
             work: 0,
-            tally: Tally::new(alloc, count)?,
             limit: None,
         })
     }
 
-    /// Whether a state lies in that of a label.
-    fn lies_in(&self, block: usize, state: &State) -> bool {
-        held(&self.states, block).is_some_and(|known| state.entails_entries(known))
-    }
-
-    /// What a label says if another state lies in it too; with stops, if it is wide.
-    fn joined(
-        &mut self,
-        block: usize,
-        state: &State,
-        is_wide: bool,
-    ) -> Result<Entries, AllocError> {
-        let Some(known) = held(&self.states, block) else {
-            return Entries::of(self.task.alloc, state);
-        };
-        known.put_into(&mut self.room);
-        join(&mut self.room, state, is_wide.then_some(&self.stops));
-        Entries::of(self.task.alloc, &self.room)
-    }
-
     /// Takes note that a label is reached in a state.
     fn reach(&mut self, block: usize, state: &State, is_wide: bool) -> Result<(), AllocError> {
-        let is_changed = !self.lies_in(block, state);
-        self.count(block, state, is_changed);
+        let stops = is_wide.then_some(&self.stops);
+        let is_changed = self.states.add(block, state, stops)?;
+        let work = self.states.work(block, is_changed);
+        self.work = self.work.saturating_add(work);
         if is_changed {
-            let joined = self.joined(block, state, is_wide)?;
-            put(&mut self.states, block, Some(joined));
             put(&mut self.changed, block, true);
             self.has_changed = true;
         }
         Ok(())
     }
 
-    /// Counts the work for an edge into a label, and the label's entries if it is reached for the first time.
-    fn count(&mut self, block: usize, state: &State, is_changed: bool) {
-        if held(&self.states, block).is_none() {
-            self.tally.begin(block, places_known(state));
-        }
-        let work = self.tally.edge_work(block, is_changed);
-        self.work = self.work.saturating_add(work);
-    }
-
-    /// The number in a place at a label, tightened.
-    pub fn number(&self, block: usize, number: usize) -> Option<Num> {
-        tight_number(held(&self.states, block)?, number)
-    }
-
     /// What is known of a place at a label.
     pub fn said(&self, block: usize, number: usize) -> RegState {
-        held(&self.states, block).map_or(RegState::Any, |known| said(known, number))
+        self.states
+            .at(block)
+            .map_or(RegState::Any, |known| said(known, number))
     }
 
     /// Goes over a block from the state at its label, and takes note how far it is reached.
@@ -146,7 +108,7 @@ impl<'a> Rounds<'a> {
         let mut reached = task.blocks.label(block);
         let slots = task.blocks.block_end(block).saturating_sub(reached) as usize;
         self.work = self.work.saturating_add(slots).saturating_add(LABEL_WORK);
-        if load_at(&self.states, block, room) {
+        if load_at(&self.states.list, block, room) {
             match task.walk(block, room, self)? {
                 Ok(slot) => reached = slot,
                 Err(fault) => return Err(fault.refusal()),
@@ -178,7 +140,7 @@ impl<'a> Rounds<'a> {
     ) -> Result<(), InferError> {
         meter.tell(1, self.work);
         self.work = 0;
-        self.limit = meter.limit().or(self.tally.limit());
+        self.limit = meter.limit().or(self.states.limit());
         match self.limit {
             Some(_) => Err(self.unstable(function)),
             None => Ok(()),
@@ -265,7 +227,13 @@ impl<'a> Rounds<'a> {
         for number in 0..cfg.functions.count() {
             let first = cfg.first_block(number);
             let end = cfg.first_block(number.saturating_add(1));
-            let labels = labels_of(self.task.alloc, &cfg.blocks, &mut self.states, first, end)?;
+            let labels = labels_of(
+                self.task.alloc,
+                &cfg.blocks,
+                &mut self.states.list,
+                first,
+                end,
+            )?;
             if !labels.is_empty() {
                 functions.push(Function {
                     first: cfg.first_slot(number),

@@ -3,49 +3,31 @@
 ghost use Rattle.std.specs.Prelude.{◌≤◌};
 ghost use Rattle.bpf_insn.specs.Limits.{max_context};
 
-use crate::loops::{Loop, Search, first_crossing, loop_from, searched};
+use crate::loops::{Loop, first_crossing, loop_from, searched};
 use crate::rounds::Rounds;
 use crate::tangles::tangle_of;
 use crate::walkers::walker_at;
 use bpf_infer_base::{
-    Cfg, Losses, Meter, Move, Obstacle, PLACES, PLAIN_WORK, Quest, Sketch, Task, Tracker, Trial,
-    Unwatched, held, place,
+    Cfg, Meter, Move, Obstacle, PLACES, PLAIN_WORK, Quest, Sketch, Task, Trial, Unwatched,
+    losses_in, place,
 };
 use bpf_infer_error::{Condition, InferError};
-use bpf_state::{State, StateFault};
-use std::alloc::{AllocError, Global};
-
-/// What is known of a loop's way around; None if something is refused before.
-fn search_of<'a>(rounds: &'a Rounds<'a>, found: Loop) -> Result<Option<Search<'a>>, InferError> {
-    match searched(rounds, found) {
-        Ok(search) => Ok(Some(search)),
-        Err(InferError::Memory) => Err(InferError::Memory),
-        Err(_) => Ok(None),
-    }
-}
-
-/// By places, why each isn't followed through a loop of these blocks.
-fn losses_in(rounds: &Rounds, blocks: &[usize]) -> Result<Losses, AllocError> {
-    let mut tracker = Tracker::new(rounds.task, blocks);
-    let mut room = State::blank();
-    for block in blocks {
-        if let Some(known) = held(&rounds.states, *block) {
-            tracker.over(*block, known, &mut room)?;
-        }
-    }
-    Ok(tracker.losses)
-}
+use bpf_state::StateFault;
+use std::alloc::Global;
 
 /// The places of a loop's head that hold numbers, or pointers that are changed, with what they do in a round; None if no round
 /// leads back to the head, or something is refused before.
 fn trials_of(rounds: &Rounds, found: Loop) -> Result<Option<Vec<Trial>>, InferError> {
-    let Some(search) = search_of(rounds, found)? else {
-        return Ok(None);
+    let search = match searched(&*rounds, found) {
+        Ok(search) => search,
+        Err(InferError::Memory) => return Err(InferError::Memory),
+        Err(_) => return Ok(None),
     };
     let Some(around) = &search.around else {
         return Ok(None);
     };
-    let losses = losses_in(rounds, &found.blocks(rounds.task.alloc)?)?;
+    let blocks: Vec<usize> = (found.head..found.last.saturating_add(1)).collect(rounds.task.alloc)?;
+    let losses = losses_in(rounds.task, &blocks, |block| rounds.states.at(block))?;
     let mut trials = Vec::new(rounds.task.alloc);
     for number in 0..PLACES {
         let shift = search.is_tagged[number].then_some(around[number]);

@@ -22,8 +22,8 @@ impl Visitor for Arcs {
 /// The blocks that were reached, and the edges between them as far as nothing is refused.
 fn graph_of(rounds: &Rounds) -> Result<Graph, AllocError> {
     let mut arcs = Arcs(Vec::new(rounds.task.alloc));
-    rounds.task.walk_all(&rounds.states, &mut arcs)?;
-    Graph::of(rounds.task.alloc, rounds.states.len(), arcs.0)
+    rounds.task.walk_all(&rounds.states.list, &mut arcs)?;
+    Ok(Graph::of(rounds.states.list.len(), arcs.0))
 }
 
 /// The slot of the last jump that leads back to a loop's head.

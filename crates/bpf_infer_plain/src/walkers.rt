@@ -2,7 +2,7 @@
 
 use crate::loops::{Loop, loop_from};
 use crate::rounds::Rounds;
-use bpf_infer_base::{Obstacle, Task, held};
+use bpf_infer_base::{Obstacle, Task};
 use bpf_insn::{AluOp, Insn, Operand, Reg, Width};
 use bpf_state::RegState;
 
@@ -63,7 +63,7 @@ fn moves(task: &Task, found: Loop, reg: Reg) -> bool {
 
 /// Whether a register holds a pointer of more than one offset at a label.
 fn is_wide(rounds: &Rounds, block: usize, reg: Reg) -> bool {
-    match held(&rounds.states, block).map(|known| known.reg(reg)) {
+    match rounds.states.at(block).map(|known| known.reg(reg)) {
         Some(RegState::Ptr(p)) => p.lo < p.hi,
         _ => false,
     }

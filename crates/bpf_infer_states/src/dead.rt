@@ -5,8 +5,7 @@
 
 use crate::judge::Report;
 use crate::repair::{change_kinds, fill};
-use crate::sums::take_in_at;
-use bpf_infer_base::{Fault, Flow, LabelState, Task, Visitor, get_or, graph_of, held, put, vacant};
+use bpf_infer_base::{Fault, Flow, JoinedStates, LabelState, Task, Visitor, get_or, graph_of, put};
 use bpf_infer_error::Condition;
 use bpf_insn::Insn;
 use bpf_state::{Entries, State, StateFault};
@@ -20,9 +19,7 @@ pub struct Seeds {
     first: u32,
     end: u32,
     /// By slots from the function's first on.
-    states: Vec<LabelState>,
-    /// Where states are changed.
-    room: Box<State>,
+    states: JoinedStates,
 }
 
 impl Seeds {
@@ -32,8 +29,7 @@ impl Seeds {
             alloc,
             first,
             end,
-            states: vacant(alloc, end.saturating_sub(first) as usize)?,
-            room: Box::new(alloc, State::blank())?,
+            states: JoinedStates::new(alloc, end.saturating_sub(first) as usize)?,
         })
     }
 
@@ -44,21 +40,21 @@ impl Seeds {
 
     /// The state for a slot.
     pub fn at(&self, slot: u32) -> Option<&Entries> {
-        held(&self.states, self.index(slot))
+        self.states.at(self.index(slot))
     }
 
     /// A slot is also led to in a state.
     fn add(&mut self, slot: u32, state: &State) -> Result<(), AllocError> {
         let index = self.index(slot);
-        let _is_changed = take_in_at(self.alloc, &mut *self.room, &mut self.states, index, state)?;
+        let _is_changed = self.states.add(index, state, None)?;
         Ok(())
     }
 
     /// Takes the state for a slot over from others.
     fn take(&mut self, slot: u32, others: &mut Seeds) {
         let index = self.index(slot);
-        if let Some(state) = others.states.get_mut(index) {
-            put(&mut self.states, index, state.take());
+        if let Some(state) = others.states.list.get_mut(index) {
+            put(&mut self.states.list, index, state.take());
         }
     }
 
@@ -69,15 +65,15 @@ impl Seeds {
         };
         let copy = state.copy(self.alloc)?;
         let index = self.index(to);
-        put(&mut self.states, index, Some(copy));
+        put(&mut self.states.list, index, Some(copy));
         Ok(())
     }
 
     /// Takes over the states of others.
-    fn take_over(&mut self, others: Seeds) {
-        for (index, state) in others.states.into_iter().enumerate() {
-            if state.is_some() {
-                put(&mut self.states, index, state);
+    fn take_over(&mut self, mut others: Seeds) {
+        for slot in self.first..self.end {
+            if others.at(slot).is_some() {
+                self.take(slot, &mut others);
             }
         }
     }
@@ -98,15 +94,13 @@ impl Seeds {
     ) -> Result<bool, AllocError>
         requires { F.IsAlwaysCallable change }
     {
-        let index = self.index(slot);
-        let Some(state) = held(&self.states, index) else {
+        let Some(mut state) = self.at(slot).map(|known| known.state()) else {
             return Ok(false);
         };
-        state.put_into(&mut *self.room);
-        let is_changed = change(&mut *self.room);
+        let is_changed = change(&mut state);
         if is_changed {
-            let changed = Entries::of(self.alloc, &*self.room)?;
-            put(&mut self.states, index, Some(changed));
+            let (index, changed) = (self.index(slot), Entries::of(self.alloc, &state)?);
+            put(&mut self.states.list, index, Some(changed));
         }
         Ok(is_changed)
     }
@@ -271,13 +265,12 @@ impl<'a> Seeker<'a> {
 
 /// Adds states for slots that aren't reached, so that dead code may be reached from there.
 pub fn add_seeds(
-    alloc: Global,
     task: Task,
     states: &[LabelState],
     report: &Report,
     seeds: &mut Seeds,
 ) -> Result<(), AllocError> {
-    let (first, end) = (task.blocks.first(), task.blocks.end());
+    let (alloc, first, end) = (task.alloc, task.blocks.first(), task.blocks.end());
     let mut seeker = Seeker {
         task,
         report,

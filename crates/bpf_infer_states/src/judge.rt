@@ -1,38 +1,26 @@
 //! What the states of a function's labels say of its instructions.
 
-use bpf_infer_base::{Callee, Fault, LabelState, Task, Visitor, get_or, join, put};
+use bpf_infer_base::{Callee, Fault, JoinedStates, LabelState, Task, Visitor, get_or, put};
 use bpf_insn::{Insn, Reg};
 use bpf_num::Num;
 use bpf_state::{State, enter};
-use std::alloc::{AllocError, Global};
+use std::alloc::AllocError;
 
-/// A call of a function, by its number, with the state that it begins in.
-#[derive(Drop)]
-pub struct Entry {
-    pub callee: usize,
-    pub state: Box<State>,
-}
-
-/// The lower of two faults.
+/// The lower of two faults, the first one if they are at one slot.
 pub fn lower(a: Option<Fault>, b: Option<Fault>) -> Option<Fault> {
-    match (a, b) {
-        (Some(first), Some(second)) if second.slot < first.slot => Some(second),
-        (Some(first), _) => Some(first),
-        (None, second) => second,
-    }
+    [a, b].into_iter().flatten().min_by_key(|fault| fault.slot)
 }
 
 /// What a walk over all blocks of a function saw.
 #[derive(Drop)]
 pub struct Report {
-    alloc: Global,
     first: u32,
     /// By slots from the first on.
     reached: Vec<bool>,
     /// The lowest fault.
     pub fault: Option<Fault>,
-    /// The functions that are called, each once.
-    pub entries: Vec<Entry>,
+    /// By functions, the states that those begin in that are called.
+    pub entries: JoinedStates,
     /// What r0 is at an EXIT.
     pub exit: Option<Num>,
 }
@@ -49,18 +37,7 @@ impl Visitor for Report {
     fn call(&mut self, callee: Callee, state: &State) -> Result<(), AllocError> {
         let mut entry = state.copy();
         enter(&mut entry);
-        for known in self.entries.iter_mut() {
-            if known.callee == callee.function {
-                if !entry.entails(&*known.state) {
-                    join(&mut *known.state, &entry, None);
-                }
-                return Ok(());
-            }
-        }
-        self.entries.push(Entry {
-            callee: callee.function,
-            state: Box::new(self.alloc, entry)?,
-        })?;
+        let _is_changed = self.entries.add(callee.function, &entry, None)?;
         Ok(())
     }
 
@@ -77,13 +54,13 @@ impl Visitor for Report {
 
 impl Report {
     /// Goes over all blocks from the states of their labels.
-    pub fn of(alloc: Global, task: Task, states: &[LabelState]) -> Result<Report, AllocError> {
+    pub fn of(task: Task, states: &[LabelState]) -> Result<Report, AllocError> {
+        let alloc = task.alloc;
         let mut report = Report {
-            alloc,
             first: task.blocks.first(),
             reached: vec![in alloc; false; task.blocks.slots()]?,
             fault: None,
-            entries: Vec::new(alloc),
+            entries: JoinedStates::new(alloc, task.cfg.functions.count())?,
             exit: None,
         };
         task.walk_all(states, &mut report)?;

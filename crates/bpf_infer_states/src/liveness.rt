@@ -124,12 +124,11 @@ impl<'a> Liveness<'a> {
 
 /// By labels, the places that are read behind each before they are written.
 pub fn places_read(
-    alloc: Global,
     task: Task,
     states: &[LabelState],
     callees: &[PlaceSet],
 ) -> Result<Vec<PlaceSet>, AllocError> {
-    let count = task.blocks.count();
+    let (alloc, count) = (task.alloc, task.blocks.count());
     let mut liveness = Liveness {
         task,
         callees,

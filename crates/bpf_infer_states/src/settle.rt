@@ -5,12 +5,12 @@ use crate::nest::{Loop, Nest};
 use crate::sums::Sums;
 use crate::thresholds::{Reach, Thresholds};
 use bpf_infer_base::{
-    Edge, LABEL_WORK, LabelState, Limit, Meter, Task, Visitor, Watch, get_or, held, load_at, put,
-    vacant,
+    Edge, LABEL_WORK, LabelState, Limit, Meter, Stop, Task, Visitor, Watch, get_or, held, load_at,
+    put, vacant,
 };
 use bpf_insn::Insn;
 use bpf_state::{Entries, State};
-use std::alloc::{AllocError, Global};
+use std::alloc::AllocError;
 
 /// How often a head's state is joined before bounds are moved on.
 const PLAIN_CHANGES: u32 = 2;
@@ -24,19 +24,11 @@ const LEARNED_TURNS: u32 = 3;
 /// The most times that a loop is narrowed.
 const NARROWINGS: u32 = 3;
 
-/// The most blocks of a function that are gone over before bounds are moved to extremes at once.
+/// The most blocks of a function that are gone over before bounds are moved to extremes at once, 400 for each label and 2,000.
 const MOST_PATIENCE: usize = 2_000_000;
 
-/// How many blocks are gone over in a function of so many labels before that.
-fn patience_for(labels: usize) -> usize {
-    labels
-        .saturating_mul(400)
-        .saturating_add(2000)
-        .min(MOST_PATIENCE)
-}
-
 /// What a turn of a loop is for.
-#[derive(Clone, Copy, PartialEq, Eq)]
+#[derive(Clone, Copy)]
 enum Phase {
     /// The head's state rises.
     Rising,
@@ -76,7 +68,6 @@ impl Active {
 /// The states of a function's labels as they are found.
 #[derive(Drop)]
 pub struct Settler<'a> {
-    alloc: Global,
     task: Task<'a>,
     nest: &'a Nest,
     sums: Sums,
@@ -123,9 +114,10 @@ impl<'a> Visitor for Settler<'a> {
 
 impl<'a> Settler<'a> {
     /// Nothing is known but that a function begins in a state.
-    pub fn new(alloc: Global, task: Task<'a>, nest: &'a Nest) -> Result<Settler<'a>, AllocError> {
+    pub fn new(task: Task<'a>, nest: &'a Nest) -> Result<Settler<'a>, AllocError> {
+        let alloc = task.alloc;
+        let patience = nest.labels().saturating_mul(400).saturating_add(2000);
         Ok(Settler {
-            alloc,
             task,
             nest,
             sums: Sums::new(alloc, nest)?,
@@ -135,7 +127,7 @@ impl<'a> Settler<'a> {
             room: None,
             old: Box::new(alloc, State::blank())?,
             new: Box::new(alloc, State::blank())?,
-            patience: patience_for(nest.labels()),
+            patience: patience.min(MOST_PATIENCE),
             work: 0,
             is_late: false,
         })
@@ -147,25 +139,23 @@ impl<'a> Settler<'a> {
         Ok(())
     }
 
-    /// Finds the states, or the limit that is passed before.
-    pub fn settle<W: Watch>(
-        mut self,
-        meter: &mut Meter<'_, W>,
-    ) -> Result<Result<Vec<LabelState>, Limit>, AllocError> {
+    /// Finds the states. I1 at the first slot if a limit is passed before.
+    pub fn settle<W: Watch>(mut self, meter: &mut Meter<'_, W>) -> Result<Vec<LabelState>, Stop> {
+        let first = self.task.blocks.first();
         let mut place = 0;
         for _ in 0..meter.most() {
             match self.step(place)? {
                 Some(next) => place = next,
-                None => return Ok(Ok(self.states)),
+                None => return Ok(self.states),
             }
             meter.tell(1, self.work);
             self.work = 0;
             self.is_late = meter.is_low();
             if let Some(limit) = meter.limit().or(self.sums.limit()) {
-                return Ok(Err(limit));
+                return Err(Stop::unstable(first, limit));
             }
         }
-        Ok(Err(Limit::Work { most: meter.most() }))
+        Err(Stop::unstable(first, Limit::Work { most: meter.most() }))
     }
 
     /// Goes over the label at a place, or ends the turn of a loop there. The place to go on from; None at the end.
@@ -203,7 +193,7 @@ impl<'a> Settler<'a> {
         self.work = self.work.saturating_add(LABEL_WORK);
         let mut room = match self.room.take() {
             Some(room) => room,
-            None => Box::new(self.alloc, State::blank())?,
+            None => Box::new(self.task.alloc, State::blank())?,
         };
         if load_at(&self.states, label, &mut *room) {
             let task = self.task;
@@ -265,7 +255,7 @@ impl<'a> Settler<'a> {
 
     /// The thresholds of a loop's jumps.
     fn thresholds_of(&self, found: Loop) -> Result<Thresholds, AllocError> {
-        let mut thresholds = Thresholds::new(self.alloc);
+        let mut thresholds = Thresholds::new(self.task.alloc);
         thresholds.add_length(self.task.least)?;
         thresholds.add_length(self.task.most)?;
         for place in found.head..found.end {
@@ -316,7 +306,7 @@ impl<'a> Settler<'a> {
         if let Some(active) = self.active.last_mut() {
             active.thresholds.widen(&mut *self.old, &*self.new, reach)?;
         }
-        let risen = Entries::of(self.alloc, &*self.old)?;
+        let risen = Entries::of(self.task.alloc, &*self.old)?;
         put(&mut self.states, head, Some(risen));
         Ok(())
     }
@@ -379,7 +369,7 @@ impl<'a> Settler<'a> {
     /// Goes around once more. The place to go on from.
     fn turn(&mut self, found: Loop, phase: Phase) -> Result<usize, AllocError> {
         if let Some(active) = self.active.last_mut() {
-            if phase == Phase::Rising && active.phase != Phase::Rising {
+            if matches!(phase, Phase::Rising) && !matches!(active.phase, Phase::Rising) {
                 active.may_narrow = false;
             }
             active.phase = phase;

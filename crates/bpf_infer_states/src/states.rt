@@ -4,12 +4,12 @@ mod outcome;
 mod surveys;
 
 use crate::dead::{Seeds, add_seeds};
-use crate::judge::{Entry, Report};
+use crate::judge::Report;
 use crate::nest::Nest;
 use crate::settle::Settler;
-use crate::sums::take_in_at;
 use bpf_infer_base::{
-    Blocks, Halt, LabelState, Limit, Meter, Task, Watch, get_or, graph_of, held, put, vacant,
+    Blocks, JoinedStates, LabelState, Limit, Meter, Stop, Task, Watch, get_or, graph_of, held, put,
+    vacant,
 };
 use bpf_num::Num;
 use bpf_state::{Entries, State};
@@ -33,14 +33,11 @@ struct Judged {
     blocks: Blocks,
     states: Vec<LabelState>,
     report: Report,
-    /// The lowest slot that isn't reached.
-    unreached: Option<u32>,
 }
 
 /// The functions of a program and what is known of them so far, by their numbers.
 #[derive(Drop)]
 struct Analysis<'a> {
-    alloc: Global,
     /// All their blocks. Whether walks end at faults tells whether dead code stays dead, too.
     whole: Task<'a>,
     /// What each returns.
@@ -48,13 +45,8 @@ struct Analysis<'a> {
     /// Whether what each returns changed since all were judged.
     is_changed: Vec<bool>,
     /// The states that each begins in.
-    entries: Vec<LabelState>,
+    entries: JoinedStates,
     judged: Vec<Option<Judged>>,
-}
-
-/// Whether two numbers have the same members.
-fn is_same(a: Num, b: Num) -> bool {
-    a.entails(b) && b.entails(a)
 }
 
 impl<'a> Analysis<'a> {
@@ -62,11 +54,10 @@ impl<'a> Analysis<'a> {
     fn new(whole: Task<'a>) -> Result<Analysis<'a>, AllocError> {
         let (alloc, count) = (whole.alloc, whole.cfg.functions.count());
         Ok(Analysis {
-            alloc,
             whole,
             rets: vec![in alloc; Num::top(); count]?,
             is_changed: vec![in alloc; false; count]?,
-            entries: vacant(alloc, count)?,
+            entries: JoinedStates::new(alloc, count)?,
             judged: vacant(alloc, count)?,
         })
     }
@@ -88,10 +79,10 @@ impl<'a> Analysis<'a> {
         function: usize,
         entry: &State,
         meter: &mut Meter<'_, W>,
-    ) -> Result<Judged, Halt> {
+    ) -> Result<Judged, Stop> {
         let first = self.whole.cfg.first_slot(function);
         let end = self.whole.cfg.first_slot(function.saturating_add(1));
-        let mut seeds = Seeds::new(self.alloc, first, end)?;
+        let mut seeds = Seeds::new(self.whole.alloc, first, end)?;
         let mut judged = self.judge_once(first, end, entry, &seeds, meter)?;
         if self.whole.stops {
             return Ok(judged);
@@ -109,8 +100,8 @@ impl<'a> Analysis<'a> {
     /// Whether there was anything to do.
     fn improve(&self, judged: &Judged, seeds: &mut Seeds) -> Result<bool, AllocError> {
         let task = self.task(&judged.blocks);
-        if judged.unreached.is_some() {
-            add_seeds(self.alloc, task, &judged.states, &judged.report, seeds)?;
+        if judged.report.unreached(task).is_some() {
+            add_seeds(task, &judged.states, &judged.report, seeds)?;
             return Ok(true);
         }
         match judged.report.fault {
@@ -127,19 +118,22 @@ impl<'a> Analysis<'a> {
         entry: &State,
         seeds: &Seeds,
         meter: &mut Meter<'_, W>,
-    ) -> Result<Judged, Halt> {
+    ) -> Result<Judged, Stop> {
         let extra = seeds.slots()?;
-        let blocks = Blocks::cut_by_jumps(self.alloc, self.whole.program, first, end, &extra)?;
+        let blocks = Blocks::cut_by_jumps(
+            self.whole.alloc,
+            self.whole.program,
+            first,
+            end,
+            &extra,
+        )?;
         let states = self.states_of(&blocks, entry, seeds, meter)?;
-        let task = self.task(&blocks);
-        let report = Report::of(self.alloc, task, &states)?;
-        let unreached = report.unreached(task);
+        let report = Report::of(self.task(&blocks), &states)?;
         Ok(Judged {
-            entry: Entries::of(self.alloc, entry)?,
+            entry: Entries::of(self.whole.alloc, entry)?,
             blocks,
             states,
             report,
-            unreached,
         })
     }
 
@@ -150,24 +144,19 @@ impl<'a> Analysis<'a> {
         entry: &State,
         seeds: &Seeds,
         meter: &mut Meter<'_, W>,
-    ) -> Result<Vec<LabelState>, Halt> {
-        let graph = graph_of(self.alloc, self.whole.program, blocks)?;
-        let Some(nest) = Nest::of(self.alloc, &graph)? else {
-            return Err(Halt::unstable(blocks.first(), Limit::Depth));
+    ) -> Result<Vec<LabelState>, Stop> {
+        let graph = graph_of(self.whole.alloc, self.whole.program, blocks)?;
+        let Some(nest) = Nest::of(self.whole.alloc, &graph)? else {
+            return Err(Stop::unstable(blocks.first(), Limit::Depth));
         };
-        let mut settler = Settler::new(self.alloc, self.task(blocks), &nest)?;
+        let mut settler = Settler::new(self.task(blocks), &nest)?;
         settler.seed(0, entry)?;
-        let mut room = State::blank();
         for label in 0..blocks.count() {
-            if let Some(state) = seeds.at(blocks.label(label)) {
-                state.put_into(&mut room);
-                settler.seed(label, &room)?;
+            if let Some(known) = seeds.at(blocks.label(label)) {
+                settler.seed(label, &known.state())?;
             }
         }
-        match settler.settle(meter)? {
-            Ok(states) => Ok(states),
-            Err(limit) => Err(Halt::unstable(blocks.first(), limit)),
-        }
+        settler.settle(meter)
     }
 
     // ---- all functions
@@ -177,16 +166,16 @@ impl<'a> Analysis<'a> {
         let Some(judged) = held(&self.judged, function) else {
             return false;
         };
-        let is_stale = |called: &Entry| get_or(&self.is_changed, called.callee, true);
-        if judged.report.entries.iter().any(is_stale) {
+        let mut entries = judged.report.entries.list.iter().zip(&self.is_changed);
+        if entries.any(|(entry, is_changed)| entry.is_some() && *is_changed) {
             return false;
         }
         entry.entails_entries(&judged.entry) && judged.entry.state().entails(entry)
     }
 
     /// Judges a function that is reached. I1 at its first slot if its states don't settle.
-    fn visit<W: Watch>(&mut self, function: usize, meter: &mut Meter<'_, W>) -> Result<(), Halt> {
-        let Some(entry) = held(&self.entries, function).map(|entry| entry.state()) else {
+    fn visit<W: Watch>(&mut self, function: usize, meter: &mut Meter<'_, W>) -> Result<(), Stop> {
+        let Some(entry) = self.entries.at(function).map(|entry| entry.state()) else {
             return Ok(());
         };
         if !self.is_current(function, &entry) {
@@ -199,32 +188,26 @@ impl<'a> Analysis<'a> {
 
     /// Takes note of the states in which a function calls others.
     fn enter_callees(&mut self, function: usize) -> Result<(), AllocError> {
-        let mut room = State::blank();
         let Some(judged) = held(&self.judged, function) else {
             return Ok(());
         };
-        for called in &judged.report.entries {
-            let (callee, state) = (called.callee, &*called.state);
-            let _is_changed = take_in_at(self.alloc, &mut room, &mut self.entries, callee, state)?;
+        for (callee, entry) in judged.report.entries.list.iter().enumerate() {
+            if let Some(entry) = entry {
+                let _is_changed = self.entries.add(callee, &entry.state(), None)?;
+            }
         }
         Ok(())
     }
 
     /// Judges all functions, callers before callees. I1 at one whose states don't settle.
-    fn pass<W: Watch>(&mut self, start: &State, meter: &mut Meter<'_, W>) -> Result<(), Halt> {
-        self.entries = vacant(self.alloc, self.judged.len())?;
-        put(&mut self.entries, 0, Some(Entries::of(self.alloc, start)?));
+    fn pass<W: Watch>(&mut self, start: &State, meter: &mut Meter<'_, W>) -> Result<(), Stop> {
+        self.entries = JoinedStates::new(self.whole.alloc, self.judged.len())?;
+        let _is_changed = self.entries.add(0, start, None)?;
         let cfg = self.whole.cfg;
         for function in &cfg.callers_first {
             self.visit(*function, meter)?;
         }
         Ok(())
-    }
-
-    /// What a function returns as far as its EXITs say.
-    fn exit(&self, function: usize) -> Num {
-        let exit = held(&self.judged, function).and_then(|judged| judged.report.exit);
-        exit.unwrap_or(Num::top())
     }
 
     /// Makes each function return what its EXITs say, if that says more and may be taken; where they say less, any number.
@@ -233,7 +216,8 @@ impl<'a> Analysis<'a> {
         let mut has_changed = false;
         for function in 0..self.judged.len() {
             let old = get_or(&self.rets, function, Num::top());
-            let new = self.exit(function);
+            let exit = held(&self.judged, function).and_then(|judged| judged.report.exit);
+            let new = exit.unwrap_or(Num::top());
             let next = if !new.entails(old) {
                 Num::top()
             } else if may_fall {
@@ -241,7 +225,7 @@ impl<'a> Analysis<'a> {
             } else {
                 old
             };
-            let is_changed = !is_same(old, next);
+            let is_changed = !(old.entails(next) && next.entails(old));
             has_changed = has_changed || is_changed;
             put(&mut self.is_changed, function, is_changed);
             put(&mut self.rets, function, next);
@@ -251,7 +235,7 @@ impl<'a> Analysis<'a> {
 
     /// Judges all functions until what they return stands. I1 at a function whose states don't settle, and at slot 0 if what
     /// they return doesn't.
-    fn settle<W: Watch>(&mut self, start: &State, meter: &mut Meter<'_, W>) -> Result<(), Halt> {
+    fn settle<W: Watch>(&mut self, start: &State, meter: &mut Meter<'_, W>) -> Result<(), Stop> {
         for pass in 0..MOST_PASSES {
             self.pass(start, meter)?;
             if !self.update_rets(pass < PASSES) {
@@ -259,6 +243,6 @@ impl<'a> Analysis<'a> {
             }
         }
         let passes = MOST_PASSES;
-        Err(Halt::unstable(0, Limit::Returns { passes }))
+        Err(Stop::unstable(0, Limit::Returns { passes }))
     }
 }

@@ -1,12 +1,12 @@
 //! Thresholds of the widening: the numbers at which the bounds of a loop's states may stop.
 
-use bpf_infer_base::{REGISTERS, Stops, compared, get_or, held, join, join_register, join_slots};
+use bpf_infer_base::{REGISTERS, Stops, compared, held, join, join_register, join_slots};
 use bpf_insn::{Insn, Operand, Reg};
 use bpf_state::{RegState, State};
 use std::alloc::{AllocError, Global};
 
 /// The most bounds of one register's operands that are kept.
-const MOST_LEARNED: u8 = 64;
+const MOST_LEARNED: usize = 64;
 
 /// Stops of all registers, however few a loop compares with.
 const ALWAYS: [i64; 7] = [-(1 << 31), -1, 0, 1, (1 << 31) - 1, (1 << 32) - 1, i64::MAX];
@@ -25,8 +25,6 @@ pub struct Thresholds {
     compared: Vec<Compared>,
     /// The bounds of operands among them.
     operands: Vec<Compared>,
-    /// By registers, how many bounds of operands were kept.
-    learned: [u8; 11],
     /// By registers; empty until a bound is moved. The last ones are for all else.
     stops: Vec<Option<Stops>>,
 }
@@ -49,7 +47,6 @@ impl Thresholds {
             alloc,
             compared: Vec::new(alloc),
             operands: Vec::new(alloc),
-            learned: [0; 11],
             stops: Vec::new(alloc),
         }
     }
@@ -101,21 +98,16 @@ impl Thresholds {
 
     /// Takes note of a bound, each once, and of at most 64 of a register.
     fn learn_number(&mut self, register: usize, number: i64) -> Result<(), AllocError> {
-        let count = get_or(&self.learned, register, 0);
-        if count >= MOST_LEARNED || self.has(register, number) {
+        let learned = self
+            .operands
+            .iter()
+            .filter(|known| known.register == register);
+        let is_it = |known: &Compared| known.register == register && known.number == number;
+        if learned.count() >= MOST_LEARNED || self.operands.iter().any(is_it) {
             return Ok(());
-        }
-        if let Some(learned) = self.learned.get_mut(register) {
-            *learned = count.saturating_add(1);
         }
         self.operands.push(Compared { register, number })?;
         self.add(register, number)
-    }
-
-    /// Whether a bound of an operand was kept.
-    fn has(&self, register: usize, number: i64) -> bool {
-        let is_it = |known: &Compared| known.register == register && known.number == number;
-        self.operands.iter().any(is_it)
     }
 
     /// A register's stops; None if nothing is compared with it. Those for all else have all that is compared.

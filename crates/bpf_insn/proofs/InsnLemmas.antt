@@ -42,11 +42,11 @@ use Rattle.bpf_insn.specs.declared.instruction.Operand.TheVariants.{Imm, Reg as 
 use Rattle.bpf_insn.specs.declared.instruction.AtomicOp.TheVariants.{Modify as Changes, Xchg, CmpXchg}
 use Rattle.bpf_insn.specs.declared.instruction.Insn.TheVariants.{Alu, Neg, MovSx, End, LoadImm64, Load, LoadSx, Store, StoreImm, Atomic, Ja, JaLong, JumpIf, CallLocal, Exit}
 
-both_true : (a b : Bool) → (a && b) ≡ true → (a ≡ true) × (b ≡ true)
+pub both_true : (a b : Bool) → (a && b) ≡ true → (a ≡ true) × (b ≡ true)
 both_true true b e = (refl, e)
 both_true false b e = absurd (false≢true e)
 
-reg_same : (a b : Reg) → (reg_eq.ghosts).eq a b ≡ true → a ≡ b
+pub reg_same : (a b : Reg) → (reg_eq.ghosts).eq a b ≡ true → a ≡ b
 reg_same R0 R0 e = refl
 reg_same R1 R1 e = refl
 reg_same R2 R2 e = refl
@@ -208,7 +208,7 @@ insn_same a b e = absurd (false≢true e)
 
 -- ---- each is the same as itself
 
-reg_self : (a : Reg) → (reg_eq.ghosts).eq a a ≡ true
+pub reg_self : (a : Reg) → (reg_eq.ghosts).eq a a ≡ true
 reg_self R0 = refl
 reg_self R1 = refl
 reg_self R2 = refl

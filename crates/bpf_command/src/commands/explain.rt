@@ -20,10 +20,10 @@ use bpf_answers::{
 use bpf_cert::{CertError, Certificate, read};
 use bpf_check::Refusal;
 use bpf_explain::{
-    Found, Shown, dot_plain, explain, explain_inferred, explain_searched, is_table, write_alone,
-    write_fault, write_program, write_refusal, write_text_refusal,
+    Search, Shown, explain, explain_search, is_table, write_alone, write_fault, write_program,
+    write_refusal, write_text_refusal,
 };
-use bpf_infer::{InferError, Watch};
+use bpf_infer::Watch;
 use bpf_insn::{Code, DecodeError, MAX_CONTEXT, Order, Program, ProgramView, decode};
 use bpf_places::{Keeping, Places};
 use bpf_request::{Aspect, Subject};
@@ -57,23 +57,6 @@ fn refused_image<'a, W: Write>(
     told(write_refusal(bytes, order, error, out), REFUSED)
 }
 
-/// Explains a program by itself, or draws its graph.
-fn say_alone<'a, C: Code, W: Write>(
-    out: &mut W,
-    program: &C,
-    is_graph: bool,
-) -> Result<u8, Failure<'a>>
-    ensures ok { IfOk result (λ s. s ≡ 0) }
-    ensures err { IfErr result OutputFails }
-{
-    let words = if is_graph {
-        dot_plain(program, out)
-    } else {
-        write_alone(program, out)
-    };
-    told(words, DONE)
-}
-
 /// Explains an image, or draws the graph of its program.
 fn explained_image<'a, P: Places, W: Write>(
     alloc: Global,
@@ -92,7 +75,7 @@ fn explained_image<'a, P: Places, W: Write>(
         Err(error) => return refuse_image(alloc, out, error),
     };
     match ProgramView::of(&bytes, order) {
-        Ok(program) => say_alone(out, &program, is_graph),
+        Ok(program) => told(write_alone(&program, is_graph, out), DONE),
         Err(error) => refused_image(out, &bytes, order, error),
     }
 }
@@ -223,46 +206,6 @@ fn explained_certified<'a, P: Places, W: Write>(
 
 // ---- the inferrer
 
-/// A search for contexts of `least` to `most` bytes, and what is shown of what it finds.
-#[derive(Clone, Copy)]
-struct Wanted<'t> {
-    least: u32,
-    most: u32,
-    deep: bool,
-    shown: Shown<'t>,
-}
-
-/// Explains what the inferrer finds for a program, or the deep search, and hands on what was found.
-fn found_of<W: Write, H: Watch>(
-    alloc: Global,
-    out: &mut W,
-    watch: &mut H,
-    program: &Program,
-    wanted: Wanted<'_>,
-) -> io::Result<Result<Found, InferError>>
-    requires order { wanted.least ≤ wanted.most }
-    requires short { wanted.most ≤ max_context }
-    ensures version { IfOk result (λ told. IfOk told (λ f. f.certificate.version ≡ 2)) }
-    ensures least { IfOk result (λ told. IfOk told (λ f. f.certificate.least ≡ wanted.entry.least)) }
-    ensures most { IfOk result (λ told. IfOk told (λ f. f.certificate.most ≡ wanted.entry.most)) }
-    ensures certificate { IfOk result (λ told. IfOk told (λ f. IsCertificate f.certificate)) }
-    ensures accepted { IfOk result (λ told. IfOk told (λ f. IfNone f.refusal (IsCertifiedBy program.now f.certificate))) }
-    ensures refused { IfOk result (λ told. IfOk told (λ f. IfSome f.refusal (λ r. IsLeastFlaw program.now f.certificate (refusal_slot r) (refusal_number r)))) }
-    ensures slot { IfOk result (λ told. IfErr told (λ e. infer_slot e < slots program.now.list)) }
-{
-    let Wanted {
-        least,
-        most,
-        deep,
-        shown,
-    } = wanted;
-    if deep {
-        explain_searched(alloc, program, least, most, watch, shown, out)
-    } else {
-        explain_inferred(alloc, program, least, most, shown, out)
-    }
-}
-
 /// The status of a certificate that was found, by the checker's refusal.
 fn status_by(refusal: Option<Refusal>) -> u8
     ensures yes { IfNone refusal (result ≡ 0) }
@@ -280,20 +223,19 @@ fn say_inferred<'a, W: Write, H: Watch>(
     out: &mut W,
     watch: &mut H,
     program: &Program,
-    wanted: Wanted<'_>,
+    asked: Search<'_>,
 ) -> Result<u8, Failure<'a>>
-    ensures ok { IfOk result (Answers (SoughtSays wanted.entry.least wanted.entry.most program.now)) }
+    ensures ok { IfOk result (Answers (SoughtSays asked.entry.least asked.entry.most program.now)) }
     ensures err { IfErr result OutputFails }
 {
     // `respond` has seen that the lengths are in order, and the words' parser that they are at most the greatest.
-    let most = wanted.most.min(MAX_CONTEXT as u32);
-    let within = Wanted {
-        least: wanted.least.min(most),
+    let most = asked.most.min(MAX_CONTEXT as u32);
+    let within = Search {
+        least: asked.least.min(most),
         most,
-        deep: wanted.deep,
-        shown: wanted.shown,
+        ..asked
     };
-    match found_of(alloc, out, watch, program, within) {
+    match explain_search(alloc, program, within, watch, out) {
         Ok(Ok(found)) => Ok(status_by(found.refusal)),
         Ok(Err(_error)) => Ok(REFUSED),
         Err(_) => Err(Failure::CannotWrite("standard output")),
@@ -307,11 +249,11 @@ fn explained_inferred<'a, P: Places, W: Write, H: Watch>(
     out: &mut W,
     watch: &mut H,
     input: &'a str,
-    wanted: Wanted<'_>,
+    asked: Search<'_>,
     order: Order,
 ) -> Result<u8, Failure<'a>>
     ensures ok { IfOk result (Answers (ImageSays P.opens order places.old input.entry.now places.new
-        (SoughtSays wanted.entry.least wanted.entry.most))) }
+        (SoughtSays asked.entry.least asked.entry.most))) }
     ensures err { IfErr result (ImageFails P.opens places.old input.entry.now places.new) }
     ensures opened { OpensFirst P.opens (input.entry.now ∷ []) places.old places.new }
 {
@@ -320,7 +262,7 @@ fn explained_inferred<'a, P: Places, W: Write, H: Watch>(
         Err(error) => return refuse_image(alloc, out, error),
     };
     match decode(alloc, &bytes, order) {
-        Ok(program) => say_inferred(alloc, out, watch, &program, wanted),
+        Ok(program) => say_inferred(alloc, out, watch, &program, asked),
         Err(DecodeError::Memory) => refuse_image(alloc, out, DecodeError::Memory),
         Err(error) => refused_image(out, &bytes, order, error),
     }
@@ -376,47 +318,30 @@ fn explained_subject<'a, P: Places, W: Write, H: Watch>(
         Subject::Image => explained_image(alloc, places, out, input, order, false),
         Subject::GraphAlone => explained_image(alloc, places, out, input, order, true),
         Subject::Text => explained_text(alloc, places, out, input, order),
-        Subject::Certified(certificate) => explained_certified(
-            alloc,
-            places,
-            out,
-            input,
-            certificate,
-            Shown::Listing { lines },
-            order,
-        ),
-        Subject::Graph(certificate) => explained_certified(
-            alloc,
-            places,
-            out,
-            input,
-            certificate,
-            Shown::Graph,
-            order,
-        ),
-        Subject::Slot { certificate, slot } => explained_certified(
-            alloc,
-            places,
-            out,
-            input,
-            certificate,
-            Shown::Slot { slot, lines },
-            order,
-        ),
+        Subject::Certified(certificate) => {
+            let shown = Shown::Listing { lines };
+            explained_certified(alloc, places, out, input, certificate, shown, order)
+        }
+        Subject::Graph(certificate) => {
+            explained_certified(alloc, places, out, input, certificate, Shown::Graph, order)
+        }
+        Subject::Slot { certificate, slot } => {
+            let shown = Shown::Slot { slot, lines };
+            explained_certified(alloc, places, out, input, certificate, shown, order)
+        }
         Subject::Inferred {
             least,
             most,
             deep,
             aspect,
         } => {
-            let shown = shown_of(aspect, lines);
-            let wanted = Wanted {
+            let asked = Search {
                 least,
                 most,
                 deep,
-                shown,
+                shown: shown_of(aspect, lines),
             };
-            explained_inferred(alloc, places, out, watch, input, wanted, order)
+            explained_inferred(alloc, places, out, watch, input, asked, order)
         }
         Subject::Misfit(_) => Err(Failure::NotTogether),
     }

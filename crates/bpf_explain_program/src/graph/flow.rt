@@ -20,24 +20,19 @@ pub struct Flow {
 }
 
 impl Flow {
-    /// Nothing is reached.
-    fn none() -> Self {
+    /// All four sets are of such words.
+    fn filled(word: u64) -> Self {
         Flow {
-            reached: Slots::none(),
-            jumps: Slots::none(),
-            nexts: Slots::none(),
-            unknown: Slots::none(),
+            reached: Slots::filled(word),
+            jumps: Slots::filled(word),
+            nexts: Slots::filled(word),
+            unknown: Slots::filled(word),
         }
     }
 
     /// Nothing is ruled out.
     pub fn any() -> Self {
-        Flow {
-            reached: Slots::all(),
-            jumps: Slots::all(),
-            nexts: Slots::all(),
-            unknown: Slots::all(),
-        }
+        Flow::filled(u64::MAX)
     }
 
     /// Whether the jump at a slot may be taken, as far as is known.
@@ -73,7 +68,7 @@ impl<C: Code> Observer<C> for Flow {
 
 /// Which instructions and edges runs may take, by the checker's pass.
 pub fn flow_of<C: Code>(program: &C, certificate: &Index) -> Flow {
-    let mut flow = Flow::none();
+    let mut flow = Flow::filled(0);
     let _end = pass_over(program, certificate, false, &mut flow);
     flow
 }

@@ -34,23 +34,16 @@ pub fn tell_operands<C: Code, W: Tell>(out: &mut W, rule: &str, sight: &Sight<'_
     tell_registers(out, rule, &sight.before, sight.site.insn.registers_read());
 }
 
-/// Whether it is an operation at 32 bits.
-fn is_narrow(insn: &Insn) -> bool {
-    matches!(
-        *insn,
-        Insn::Alu {
-            width: Width::W32,
-            ..
-        }
-    )
-}
-
 /// A register that holds no number, and the other operands of arithmetic.
 fn tell_number_wanted<C: Code, W: Tell>(out: &mut W, sight: &Sight<'_, C>, reg: Reg) {
     let insn = &sight.site.insn;
     let rule = if matches!(*insn, Insn::Exit) {
         "the result must be a number"
-    } else if is_narrow(insn) {
+    } else if let Insn::Alu {
+        width: Width::W32,
+        ..
+    } = *insn
+    {
         "an operation at 32 bits takes numbers alone"
     } else {
         "this operation takes numbers alone"

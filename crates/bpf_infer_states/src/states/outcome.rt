@@ -6,9 +6,7 @@ use crate::judge::lower;
 use crate::liveness::{keep_live, least_number, places_read};
 use crate::states::Analysis;
 use bpf_cert::{Function, Label};
-use bpf_infer_base::{
-    Fault, Halt, Meter, Obstacle, PlaceSet, Sketch, Stop, Task, Watch, get_or, held, labels_of, put,
-};
+use bpf_infer_base::{Fault, Meter, PlaceSet, Stop, Task, Watch, get_or, held, labels_of, put};
 use bpf_infer_error::InferError;
 use bpf_num::Num;
 use std::alloc::AllocError;
@@ -21,7 +19,10 @@ impl<'a> Analysis<'a> {
         for function in 0..self.judged.len() {
             let found = match held(&self.judged, function) {
                 Some(judged) if whole.stops => judged.report.fault,
-                Some(judged) => lower(judged.report.fault, judged.unreached.map(Fault::falls_off)),
+                Some(judged) => {
+                    let unreached = judged.report.unreached(self.task(&judged.blocks));
+                    lower(judged.report.fault, unreached.map(Fault::falls_off))
+                }
                 None if whole.stops => None,
                 None => Some(Fault::falls_off(whole.cfg.first_slot(function))),
             };
@@ -35,8 +36,8 @@ impl<'a> Analysis<'a> {
         let Some(judged) = held(&self.judged, function) else {
             return Ok(PlaceSet::ALL);
         };
-        let (alloc, task) = (self.alloc, self.task(&judged.blocks));
-        let live = places_read(alloc, task, &judged.states, read)?;
+        let (alloc, task) = (self.whole.alloc, self.task(&judged.blocks));
+        let live = places_read(task, &judged.states, read)?;
         if let Some(Some(judged)) = self.judged.get_mut(function) {
             keep_live(alloc, &mut judged.states, &live)?;
         }
@@ -45,7 +46,7 @@ impl<'a> Analysis<'a> {
 
     /// Makes all labels' states say no more than is read.
     pub(super) fn keep_all_live(&mut self) -> Result<(), AllocError> {
-        let mut read = vec![in self.alloc; PlaceSet::ALL; self.judged.len()]?;
+        let mut read = vec![in self.whole.alloc; PlaceSet::ALL; self.judged.len()]?;
         let cfg = self.whole.cfg;
         for function in &cfg.callees_first {
             let places = self.keep_live(*function, &read)?;
@@ -56,12 +57,13 @@ impl<'a> Analysis<'a> {
 
     /// The labels of a function; their states are taken.
     fn labels(&mut self, function: usize) -> Result<Vec<Label>, AllocError> {
+        let alloc = self.whole.alloc;
         match self.judged.get_mut(function) {
             Some(Some(judged)) => {
                 let count = judged.blocks.count();
-                labels_of(self.alloc, &judged.blocks, &mut judged.states, 0, count)
+                labels_of(alloc, &judged.blocks, &mut judged.states, 0, count)
             }
-            _ => Ok(Vec::new(self.alloc)),
+            _ => Ok(Vec::new(alloc)),
         }
     }
 
@@ -75,7 +77,7 @@ impl<'a> Analysis<'a> {
 
     /// The functions that were reached, with their labels; the states are taken.
     pub(super) fn functions(&mut self) -> Result<Vec<Function>, AllocError> {
-        let mut functions = Vec::new(self.alloc);
+        let mut functions = Vec::new(self.whole.alloc);
         for number in 0..self.judged.len() {
             let labels = self.labels(number)?;
             if !labels.is_empty() {
@@ -90,18 +92,14 @@ impl<'a> Analysis<'a> {
         Ok(functions)
     }
 
-    /// A refusal for what is found by then, with the states that it is seen in.
-    fn stop(&mut self, halt: Halt) -> Stop {
-        if matches!(halt.error, InferError::Memory) {
-            return Stop::from(halt);
+    /// A refusal with the states that it is seen in, those that are found by then.
+    fn with_states(&mut self, stop: Stop) -> Stop {
+        if matches!(stop.error, InferError::Memory) {
+            return stop;
         }
-        let Ok(functions) = self.functions() else {
-            return Stop::from(halt);
-        };
-        let obstacle = halt.limit.map(Obstacle::Over);
-        Stop {
-            error: halt.error,
-            sketch: Sketch::of(self.whole.least, self.whole.most, functions, obstacle),
+        match self.functions() {
+            Ok(functions) => stop.with_states(self.whole.least, self.whole.most, functions),
+            Err(_) => stop,
         }
     }
 }
@@ -113,16 +111,14 @@ fn first_fault<W: Watch>(task: Task, meter: &mut Meter<'_, W>) -> Result<Option<
     requires { task.least ≤ task.most }
 {
     let mut analysis = Analysis::new(task)?;
-    if let Err(halt) = analysis.settle(&task.start(), meter) {
-        return match halt.error {
-            InferError::Memory => Err(Stop::from(halt)),
+    if let Err(stop) = analysis.settle(&task.start(), meter) {
+        return match stop.error {
+            InferError::Memory => Err(stop),
             _ => Ok(None),
         };
     }
-    match analysis.fault() {
-        Some(fault) => Ok(Some(analysis.stop(Halt::from(fault.refusal())))),
-        None => Ok(None),
-    }
+    let fault = analysis.fault();
+    Ok(fault.map(|fault| analysis.with_states(Stop::from(fault.refusal()))))
 }
 
 /// The functions of a program with their depths, what they return, and their labels with their states; each budget is 0. I1
@@ -132,13 +128,13 @@ pub fn draft<W: Watch>(task: Task, meter: &mut Meter<'_, W>) -> Result<Vec<Funct
     requires { task.least ≤ task.most }
 {
     let mut analysis = Analysis::new(task.tolerant())?;
-    if let Err(halt) = analysis.settle(&task.start(), meter) {
-        return Err(analysis.stop(halt));
+    if let Err(stop) = analysis.settle(&task.start(), meter) {
+        return Err(analysis.with_states(stop));
     }
     if let Some(fault) = analysis.fault() {
         return Err(match first_fault(task, meter)? {
             Some(stop) => stop,
-            None => analysis.stop(Halt::from(fault.refusal())),
+            None => analysis.with_states(Stop::from(fault.refusal())),
         });
     }
     analysis.keep_all_live()?;

@@ -140,7 +140,7 @@ impl<'a> Analysis<'a> {
     /// Takes note of what the states of all that is reached say.
     fn surveyed(&self) -> Result<Survey, AllocError> {
         let slots = self.whole.program.slots() as usize;
-        let mut survey = Survey::new(self.alloc, slots, self.judged.len())?;
+        let mut survey = Survey::new(self.whole.alloc, slots, self.judged.len())?;
         put(&mut survey.called, 0, true);
         for function in &self.whole.cfg.callers_first {
             if get_or(&survey.called, *function, false) {
@@ -160,8 +160,8 @@ pub fn surveyed<W: Watch>(task: Task, meter: &mut Meter<'_, W>) -> Result<Survey
     requires { task.least ≤ task.most }
 {
     let mut analysis = Analysis::new(task.tolerant())?;
-    if let Err(halt) = analysis.settle(&task.start(), meter) {
-        return Err(halt.error);
+    if let Err(stop) = analysis.settle(&task.start(), meter) {
+        return Err(stop.error);
     }
     let mut survey = analysis.surveyed()?;
     if analysis.fault().is_none() {

@@ -1,5 +1,5 @@
 use Rattle.std.proofs.Common.{rules, ◌≡◌, ◌++◌, ◌+◌, ◌<◌, ◌≤◌, length, drop, get_or, ap, ◌∙◌, arith}
-use Rattle.bpf_follows.specs.declared.notes.Kind.TheVariants.{Nothing}
+use Rattle.bpf_follows_law.specs.declared.notes.Kind.TheVariants.{Nothing}
 use Rattle.bpf_follows_notes.specs.NotesText.{held_text, kinds_text}
 use Rattle.bpf_follows_notes.proofs.Loops.{kinds_put, kinds_done}
 use Rattle.bpf_follows_notes.proofs.writing.put_kinds.Goals as goal

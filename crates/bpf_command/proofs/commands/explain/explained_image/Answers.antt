@@ -20,7 +20,7 @@ returns-in-Ok-of-clause-ok g c =
     let read = read_of at (λ v. v.items) c.args.places.now c.args.input.now c.image_at.new.places c.in_ok-bytes.field-0 c.in-Ok.bytes c.deref.result.now c.in-Ok.is same c.in_ok-bytes.ensures.ok in
     let image : LoadsImage at c.args.order c.args.places.now c.args.input.now c.image_at.new.places c.in-Ok-of.program
     = record { bytes = c.deref.result.now; read = read; is_image = record { program = c.in-Ok-of.ensures.program; bytes_are = c.in-Ok-of.ensures.ok.0.bytes_are }; order_is = c.in-Ok-of.ensures.ok.1 } in
-    answered_so c.say_alone.result 0 (Lists p.list) (ImageSays at c.args.order c.args.places.now c.args.input.now c.image_at.new.places (ListSays None)) refl (p, image, (refl, refl)) c.say_alone.ensures.ok
+    answered_so c.told.result 0 (Lists p.list) (ImageSays at c.args.order c.args.places.now c.args.input.now c.image_at.new.places (ListSays None)) refl (p, image, (refl, refl)) c.told.ensures.ok
 
 pub returns-clause-ok : goal.returns-clause-ok
 returns-clause-ok g c =

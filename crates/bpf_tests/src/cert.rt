@@ -1,4 +1,0 @@
-//! Certificates, read and written.
-
-mod reading;
-mod writing;

@@ -1,3 +1,0 @@
-//! Abstract numbers.
-
-mod examples;

@@ -1,5 +1,0 @@
-//! Abstract states.
-
-mod comparisons;
-mod laws;
-mod swaps;

@@ -1,4 +1,0 @@
-//! Texts and listings.
-
-mod pieces;
-mod texts;
