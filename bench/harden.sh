@@ -99,7 +99,7 @@ new, certificate = folder / "new.img", folder / "new.cert"
 for name, image in PROGRAMS.items():
     old = folder / name
     old.write_bytes(image)
-    runs = [run(["harden", str(old), str(LENGTH), str(new)]) for _ in range(rounds)]
+    runs = [run(["harden", "--unproved", str(old), str(LENGTH), str(new)]) for _ in range(rounds)]
     run(["infer", "--deep", str(new), str(LENGTH), str(certificate)])
     said = subprocess.run([bpf, "check", str(new), str(certificate)], capture_output=True, text=True).stdout
     if not said.startswith("yes "):
@@ -115,7 +115,7 @@ for k in range(64, 40, -1):
     tail = insn(0x79, 5, 10, -8 * k) + add(5, 1) + insn(0x7B, 10, 5, -8 * k) + insn(0x35, 5, off=1, imm=5)
     body = insn(0x7A, 10, 0, -8 * k) + body + tail + insn(0x06, imm=-((len(body) + len(tail)) // 8 + 1))
 (folder / "hard").write_bytes(put(0, 0) + body + put(0, 0) + EXIT)
-time, memory = run(["harden", str(folder / "hard"), "8", str(new)], (0, 1))
+time, memory = run(["harden", "--unproved", str(folder / "hard"), "8", str(new)], (0, 1))
 print(f"{'hard':10} {(folder / 'hard').stat().st_size // 8:7,} slots, hardened or refused {time:17.3f} s {memory:7.1f} MB")
 if slow:
     sys.exit("harden.sh: a program of 20,000 slots took more than 5 seconds or 512 MB")

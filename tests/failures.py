@@ -43,7 +43,7 @@ COMMANDS = [
     ('infer --deep checksum.img 15 OUT', [E9, I5]),
     ('harden first-byte.img 1 OUT', [E9, H12]),
     ('harden checksum.img 15 OUT', [E9, H12]),
-    ('harden checksum.img 16 OUT --proved --notes /dev/null --changes /dev/zero', [E9, H12]),
+    ('harden checksum.img 16 OUT --unproved --notes /dev/null --changes /dev/zero', [E9, H12]),
     ('follows first-byte.img first-byte.img first-byte.notes 1', [E9_OLD, E9_NEW, N2]),
     ('follows first-byte.img first-byte.img first-byte.cert 1', [E9_OLD, E9_NEW, N2]),
     ('check countdown.img countdown.cert', [E9, K4]),

@@ -191,7 +191,7 @@ def try_followed(run, r, image, order):
     """An image that is hardened, and the new one and the notes as they are or altered: where the notes still show that it keeps the meaning,
     it does on random contexts."""
     old, length = run.put('i.img', image), r.choice([0, 1, 4, 16, 64, 128])
-    if run.bpf('harden', *order, old, str(length), 'n.img', '--notes', 'n.notes')[0] != 0:
+    if run.bpf('harden', *order, old, str(length), 'n.img', '--unproved', '--notes', 'n.notes')[0] != 0:
         return 0
     if r.random() < 0.7:
         run.put('n.img', altered_bytes(r, run.get('n.img')))

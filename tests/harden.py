@@ -3,11 +3,12 @@
 
 - COUNT random programs (600 if not said) with walking pointers, indexes that nothing tests, loops that nothing counts, arrays in the
   frame and local functions, in both orders, and their packets in blocks;
-- the images of examples/c, and random programs, with one byte changed.
+- the images of examples/c, and random programs, with one byte changed;
+- programs of many loops and accesses, each of which has to be shown to keep the meaning.
 
 Each that is hardened gets a certificate by `infer --deep`. On random contexts it ends with the number that the old program ends with;
 where the old one leaves the context or its frame (F3) it goes to the trap. Refusals are counted, and have a number. What `follows` says of
-each with its notes is counted, too, and `harden --proved` writes the same exactly where that is yes.
+each with its notes is counted, too, and without `--unproved` `harden` writes the same exactly where that is yes.
 """
 import collections
 import os
@@ -158,7 +159,7 @@ class Runner:
             if os.path.exists(os.path.join(self.folder, name)):
                 os.remove(os.path.join(self.folder, name))
         words = ['harden', 'old.img', str(length), 'new.img', '--otherwise', str(TRAP), *flags]
-        status, out = self.call(*words, '--notes', 'notes')
+        status, out = self.call(*words, '--unproved', '--notes', 'notes')
         if status:
             if not re.fullmatch(r'no H\d+ at slot \d+\n', out):
                 raise Wrong(f'harden says {out!r}')
@@ -172,12 +173,12 @@ class Runner:
 
     def taken(self, harden):
         """How many of the lowest bytes of each frame hardening keeps accesses from."""
-        self.call(*harden, '--changes', 'changes')
+        self.call(*harden, '--unproved', '--changes', 'changes')
         return 512 - max(map(int, re.findall(r'^fn .* depth (\d+)', self.get('changes').decode(), re.M)), default=0)
 
     def follow(self, length, order, harden):
         """What `follows` says of new.img with its notes, for each run or for those that leave the bytes alone that hardening takes, and that
-        `harden --proved` goes by it."""
+        `harden` goes by it without `--unproved`."""
         blocks = ['--padded'] if '--padded' in harden else []
         asked = ('follows', *order, 'old.img', 'new.img', 'notes', str(length), *blocks)
         status, out = self.call(*asked)
@@ -190,11 +191,11 @@ class Runner:
         shown = status == 0 or left
         self.verdicts['left' if left else said[1] or 'yes'] += 1
         os.remove(os.path.join(self.folder, 'new.img'))
-        status, out = self.call(*harden, '--proved')
+        status, out = self.call(*harden)
         if (status, out) != ((0, '') if shown else (1, f'no H13 at {said[0].split(" at ")[1]}')):
-            raise Wrong(f'follows says {said[0]!r}, and harden --proved {out!r}')
+            raise Wrong(f'follows says {said[0]!r}, and harden {out!r}')
         if shown and self.get('new.img') != new or not shown and os.path.exists(os.path.join(self.folder, 'new.img')):
-            raise Wrong('harden --proved writes something else')
+            raise Wrong('harden writes something else without --unproved')
         self.put('new.img', new)
 
 
@@ -277,6 +278,61 @@ def try_seed(bpf, seed):
     return found + run.verdicts
 
 
+# ---- long programs
+
+WALK = """r2 = r6
+r2 += 16
+r3 = r6
+r4 = *(u8 *)(r3 + 0)
+r0 += r4
+r3 += 1
+if r3 != r2 goto -4
+"""
+INDEX = """r2 = *(u8 *)(r6 + 0)
+r3 = r6
+r3 += r2
+r4 = *(u8 *)(r3 + 1)
+r0 += r4
+"""
+HALVE = """r2 = *(u8 *)(r6 + 0)
+r2 >>= 1
+r0 += 1
+if r2 != 0 goto -3
+"""
+
+
+def nest(depth, body):
+    """Loops of three turns in one another, counted by r7 and the registers behind it."""
+    for register in range(7, 7 + depth):
+        slots = body.count('\n')
+        body = f'r{register} = 3\n{body}r{register} += -1\nif r{register} != 0 goto -{slots + 2}\n'
+    return body
+
+
+def long_loop(count):
+    """One loop around so many accesses, whose way back is a jump of 32 bits."""
+    return f'r7 = 10\n{INDEX * count}r7 += -1\nif r7 == 0 goto +1\ngotol -{5 * count + 3}\n'
+
+
+LONG = [WALK * 150, INDEX * 300, HALVE * 60, nest(3, WALK) * 40, long_loop(100)]
+
+
+def try_long(bpf):
+    """Hardens programs of many pieces, and compares; all have to be shown to keep the meaning, for each run. What became of them."""
+    found = collections.Counter()
+    with tempfile.TemporaryDirectory() as folder:
+        for number, pieces in enumerate(LONG):
+            run = Runner(bpf, folder)
+            run.put('p.asm', f'r0 = 0\nr6 = r1\n{pieces}exit\n'.encode())
+            run.call('asm', 'p.asm', 'old.img')
+            became = try_image(run, random.Random(number), 64, [], True)
+            if became != 'changed' or run.verdicts != {'yes': 1}:
+                raise Wrong(f'long program {number}: {became} {dict(run.verdicts)}')
+            found[became] += 1
+            found += run.verdicts
+    return found
+
+
 def counted(found, letter):
     """The numbers of a letter, and how many there are of each."""
     return ', '.join(f'{number} {found[number]}' for number in sorted(found, key=lambda n: (len(n), n)) if number[0] == letter) or 'none'
@@ -286,8 +342,8 @@ def main():
     bpf = os.path.abspath(sys.argv[1])
     count = int(sys.argv[2]) if len(sys.argv) > 2 else 600
     first = int(sys.argv[3]) if len(sys.argv) > 3 else 1
-    found = collections.Counter()
     try:
+        found = try_long(bpf)
         with ThreadPoolExecutor(os.cpu_count()) as pool:
             for each in pool.map(lambda seed: try_seed(bpf, seed), range(first, first + count)):
                 found += each

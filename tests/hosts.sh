@@ -33,14 +33,14 @@ plain=("${CC:-cc}" -std=gnu11 -g -O1 -Wall -Wextra -Wpedantic -Werror)
 "${plain[@]}" -fno-builtin -shared -fPIC "$root/tests/allocator.c" -o "$dir/allocator.so"
 "${plain[@]}" "$root/tests/memory.c" -o "$dir/memory" $flags
 "${plain[@]}" "$root/tests/memory.c" "$dir/allocator.o" -o "$dir/memory_own" $flags
-# What the library hardens is what the command hardens, and so is its certificate.
+# What the library hardens is what the command hardens with --unproved, and so is its certificate.
 "${build[@]}" -std=c11 "$root/tests/hardened.c" -o "$dir/hardened" $flags
 "$dir/hardened" bad
 hardens() {
     local image=$1 size=$2 padded=$3 words=()
     ((padded == 0)) || words=(--padded)
     "$dir/hardened" "$image" little "$size" "$padded" "$dir/new.img" "$dir/new.cert" >"$dir/said"
-    "$dir/bin/bpf" harden "${words[@]}" "$image" "$size" "$dir/their.img"
+    "$dir/bin/bpf" harden --unproved "${words[@]}" "$image" "$size" "$dir/their.img"
     "$dir/bin/bpf" infer --deep "$dir/their.img" "$size" "$dir/their.cert"
     cmp "$dir/new.img" "$dir/their.img" && cmp "$dir/new.cert" "$dir/their.cert"
     [[ $("$dir/bin/bpf" check "$dir/new.img" "$dir/new.cert") == "yes length $size $(cat "$dir/said")" ]]

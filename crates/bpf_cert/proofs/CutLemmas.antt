@@ -1,11 +1,9 @@
 -- Cutting at the first of some byte.
-use Rattle.std.proofs.Common.{◌≡◌, ◌≢◌, ℕ, zero, suc, ◌+◌, ◌<◌, Bool, true, false, cond, eqb, List, [], ◌∷◌, ◌++◌, length, get_or, take, drop, Option, Some, None, ◌-◌, ◌≤◌, add-one, refl, sym, ap, subst, arith}
-use Rattle.std.specs.Prelude.{option_map, MatchOption}
-use Rattle.std.specs.Borrow.{Bor}
+use Rattle.std.proofs.Common.{◌≡◌, ℕ, zero, suc, ◌+◌, ◌<◌, Bool, true, false, cond, eqb, List, [], ◌∷◌, length, get_or, take, drop, Option, Some, None, ◌-◌, ◌≤◌, add-one, refl, ap, subst, arith}
 use Rattle.std.proofs.lemmas.List.{take_all, length-drop}
 use Rattle.std.specs.List.{slice_split, onto_first}
 use Rattle.std.proofs.lemmas.Bool.{ne_eqb, eq-eqb, eqb-true}
-use Rattle.bpf_cert.specs.Reading.{◌>>=◌, cut, behind}
+use Rattle.bpf_cert.specs.Reading.{◌>>=◌, cut}
 
 -- no such byte before n
 abbrev Apart : ℕ → List ℕ → ℕ → Type 0
@@ -62,25 +60,3 @@ cut_some c text p e = subst (HasPieces c text) e (pieces_are c text)
 
 pub cut_no : (c : ℕ) (text : List ℕ) → cut c text ≡ None → pieces c text ≡ text ∷ []
 cut_no c text e = subst (HasPieces c text) e (pieces_are c text)
-
--- behind a word of one byte or more
-pub behind_word : (word text rest : List ℕ) → text ≡ word ++ rest → behind word text ≡ Some rest
-unfolding behind
-behind_word [] text rest e = ap Some e
-behind_word (c ∷ word) [] rest e = cc
-behind_word (c ∷ word) (x ∷ text) rest e = let same : x ≡ c = cc in let tail : text ≡ word ++ rest = cc in rw (eq-eqb x c same) (behind_word word text rest tail)
-
-pub behind_none : (word text : List ℕ) → ((rest : List ℕ) → text ≢ word ++ rest) → behind word text ≡ None
-unfolding behind
-behind_none [] text h = absurd (h text refl)
-behind_none (c ∷ word) [] h = refl
-behind_none (c ∷ word) (x ∷ text) h = by_test (eqb x c) refl (λ e. behind_none word text (λ rest same. h rest (let head : x ≡ c = eqb-true x c e in cc)))
-  where
-    by_test : (b : Bool) → eqb x c ≡ b → (eqb x c ≡ true → behind word text ≡ None) → cond b (behind word text) None ≡ None
-    by_test true e more = more e
-    by_test false e more = refl
-
--- what `strip_prefix` gives
-pub behind_stripped : (word text : List ℕ) (r : Option (Bor (List ℕ))) → MatchOption r ((rest : List ℕ) → text ≢ word ++ rest) (λ x. text ≡ word ++ x.now) → option_map (λ x. x.now) r ≡ behind word text
-behind_stripped word text None h = sym (behind_none word text h)
-behind_stripped word text (Some x) h = sym (behind_word word text x.now h)

@@ -2,6 +2,7 @@
 use Rattle.std.specs.Prelude.{ℕ, true, false, List, [], ◌∷◌, map, codes, Option, Some, None, ◌==◌, if◌then◌else◌}
 use Rattle.std.specs.List.{slice_split}
 use Rattle.std.specs.Str.{bytes_eq}
+use Rattle.bpf_lines.specs.Words.{behind}
 use Rattle.bpf_cert.specs.Numeral.{is_numeral, SignedDigits}
 use Rattle.bpf_cert.specs.Line.{Part, Number, Content, PlaceText, Measure, Term, Lengths, Line}
 
@@ -29,12 +30,6 @@ cut c [] = None
 cut c (x ∷ xs) = if x == c then Some ([], xs) else (do
   p ← cut c xs
   Some (x ∷ p.0, p.1))
-
--- what stands behind the word
-unfoldable pub behind : List ℕ → List ℕ → Option (List ℕ)
-behind [] text = Some text
-behind (c ∷ word) [] = None
-behind (c ∷ word) (x ∷ text) = if x == c then behind word text else None
 
 unfoldable pub numeral_in : List ℕ → Option (List ℕ)
 numeral_in text = if is_numeral text then Some text else None

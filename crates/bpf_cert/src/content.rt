@@ -12,11 +12,11 @@ ghost use Rattle.bpf_cert.specs.code.Seen.{signed_seen, place_seen, pointer_seen
 ghost use Rattle.bpf_cert.specs.code.Contents.{IsContent, digits_of_bounds, are_plain_bounds, are_limited_bounds};
 
 use crate::decimal::{SignedForm, is_numeral, is_plain, number};
-use crate::fields::behind;
 use crate::finding::{PartFault, tested};
 use crate::num::{are_plain_signed, is_int_range, narrow, number_in, says_some, signed_value};
 use crate::part::signed_range;
 use crate::place::PlaceForm;
+use bpf_lines::behind;
 use bpf_state::{Area, Pointer, SlotState};
 
 /// A pointer by what it points into and the bounds of its offset.

@@ -1,7 +1,7 @@
-//! Cutting a text at a byte, behind a word, or into fields.
+//! Cutting a text at a byte, or into fields.
 
 ghost use Rattle.std.specs.Prelude.{◌≡◌, ◌+◌, ◌<◌, length, option_map, IfSome};
-ghost use Rattle.bpf_cert.specs.Reading.{cut, behind};
+ghost use Rattle.bpf_cert.specs.Reading.{cut};
 ghost use Rattle.bpf_cert.specs.code.Standing.{fields_in, uncons, two_of, three_of};
 
 /// What stands before the first such byte and after it.
@@ -15,13 +15,6 @@ pub fn cut(text: &[u8], mark: u8) -> Option<(&[u8], &[u8])>
         }
     }
     None
-}
-
-/// What stands behind the word.
-pub fn behind<'a>(text: &'a [u8], word: &[u8]) -> Option<&'a [u8]>
-    ensures { option_map (λ x. x.now) result ≡ behind word.now text.now }
-{
-    text.strip_prefix(word)
 }
 
 /// A field, and what stands behind it.

@@ -34,4 +34,4 @@ pub use limits::{
 pub use migration::migrate;
 pub use reading::{read, read_lines};
 pub use spelling::{LineText, entry_text};
-pub use writing::{value_slot, write};
+pub use writing::write;

@@ -6,7 +6,8 @@ ghost use Rattle.bpf_cert.specs.Reading.{range_in, signed_in, unsigned_part_in, 
 ghost use Rattle.bpf_cert.specs.code.Seen.{ends_in, signed_seen, part_seen};
 
 use crate::decimal::{SignedForm, is_numeral, signed};
-use crate::fields::{behind, cut};
+use crate::fields::cut;
+use bpf_lines::behind;
 
 /// A part of what is known of a number.
 #[derive(Clone, Copy)]

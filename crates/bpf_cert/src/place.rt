@@ -9,8 +9,8 @@ ghost use Rattle.bpf_cert.specs.Spelling.{spelled_place};
 ghost use Rattle.bpf_cert.specs.code.Seen.{place_seen};
 
 use crate::decimal::{is_less, is_numeral, is_plain, number};
-use crate::fields::behind;
 use bpf_insn::Reg;
+use bpf_lines::behind;
 use bpf_state::Place;
 
 /// A register or a slot by its digits.

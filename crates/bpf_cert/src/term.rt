@@ -13,11 +13,12 @@ ghost use Rattle.bpf_cert.specs.code.TermSums.{IsTermSum, is_plain_term, IsPlain
 
 use crate::certificate::{Measure, Term};
 use crate::decimal::{HUGE, is_numeral, is_plain, number};
-use crate::fields::{behind, cut};
+use crate::fields::cut;
 use crate::finding::{PartFault, joined, tested};
 use crate::limits::MAX_WEIGHT;
 use crate::place::{PlaceForm, is_before, is_limited_place, is_plain_place, place, place_value};
 use arrayvec::ArrayVec;
+use bpf_lines::behind;
 
 /// A term, with the limit of a measure that rises.
 #[derive(Clone, Copy)]

@@ -3,7 +3,6 @@
 ghost use Rattle.std.specs.Prelude.{◌≡◌, ◌≤◌, ◌<◌, map, flat_map, get_or};
 ghost use Rattle.bpf_cert.specs.Written.{Puts, Writes};
 ghost use Rattle.bpf_cert.specs.View.{function_view, label_view};
-ghost use Rattle.bpf_state.specs.State.{value_slot};
 ghost use Rattle.bpf_state.specs.declared.known.SlotState.TheVariants.{Bytes};
 ghost use Rattle.bpf_cert.specs.Spelling.{spelled_place, place_at, contents, entry_lines, lines_from, lines_text, label_lines, function_lines, body_lines, certificate_text};
 
@@ -11,7 +10,7 @@ use crate::certificate::{Certificate, Function, Label};
 use crate::spelling::{entry_text, function_text, header_text, label_text};
 use bpf_insn::Reg;
 use bpf_insn::written::Pending;
-use bpf_state::{Entries, Place, RegState, SlotState};
+use bpf_state::{Entries, Place, SlotState, value_slot};
 use std::io::{self, Write};
 
 // All the bytes, by one clause for both ends.
@@ -19,17 +18,6 @@ fn put_bytes<W: Write>(pending: &mut Pending, out: &mut W, bytes: &[u8]) -> io::
     ensures { Puts (W.contents out.old) (W.contents out.new) pending.old pending.new bytes.now result }
 {
     pending.put(out, bytes)
-}
-
-/// What a slot would hold that holds what a register does.
-pub fn value_slot(value: RegState) -> SlotState
-    ensures { result ≡ value_slot value }
-{
-    match value {
-        RegState::Any => SlotState::Bytes(0),
-        RegState::Num(n) => SlotState::Word(n),
-        RegState::Ptr(p) => SlotState::Spilled(p),
-    }
 }
 
 // r0 to r9, then s1 to s64.

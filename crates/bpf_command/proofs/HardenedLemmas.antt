@@ -62,7 +62,7 @@ other_fault making old h new name (inr never) = never.3
 
 -- what was made of the program at the name, with notes that match where they are to
 pub made_of : {S : Type 0} (opening : Opening S) (old : S) (h : Hardening) (new : S) (program made : Instructions) (notes : List (Option Place)) → MatchingKeepsMeaning
-    → LoadsImage opening h.order old h.input.now new program → IsProgram made.list → (h.proved ≡ true → MatchesLeaving h program made notes) → Hardens opening old h new made notes
+    → LoadsImage opening h.order old h.input.now new program → IsProgram made.list → (h.unproved ≡ false → MatchesLeaving h program made notes) → Hardens opening old h new made notes
 made_of opening old h new program made notes law loads is_program matches =
     record { program = program; loads = loads; is_program = is_program; matches = matches; keeps = λ asked. let m = matches asked in (m.0, m.1, law program made notes (bounds_of h m.0) loads.is_image.program m.2) }
 

@@ -68,18 +68,18 @@ MatchesLeaving h program made notes = (untouched : ℕ) × (untouched ≤ frame_
 abbrev pub KeepsLeaving : Hardening → Instructions → Instructions → Type 0
 KeepsLeaving h program made = (untouched : ℕ) × (untouched ≤ frame_bytes) × KeepsMeaning program made (bounds_of h untouched)
 
--- What was made isn't shown to keep the meaning: for want of memory, or where it is asked for and notes don't match, whatever bytes runs leave.
+-- What was made isn't shown to keep the meaning: for want of memory, or since notes don't match, whatever bytes runs leave, where that matters.
 abbrev pub IsUnshown : Instructions → Instructions → Hardening → Unshown → Type 0
 IsUnshown program made h NoSpace = ⊤
-IsUnshown program made h (Differs m) = (h.proved ≡ true) × ((notes : List (Option Place)) × IsMismatch program made notes (bounds_of h 0) m)
+IsUnshown program made h (Differs m) = (h.unproved ≡ false) × ((notes : List (Option Place)) × IsMismatch program made notes (bounds_of h 0) m)
 
--- The image is a program's, and what was made of it is a program; with `--proved` it keeps the meaning, since the notes match.
+-- The image is a program's, and what was made of it is a program; without `--unproved` it keeps the meaning, since the notes match.
 pub record Hardens {S : Type 0} (opening : Opening S) (old : S) (h : Hardening) (new : S) (made : Instructions) (notes : List (Option Place)) : Type 0 where
   pub program : Instructions
   pub loads : LoadsImage opening h.order old h.input.now new program
   pub is_program : IsProgram made.list
-  pub matches : h.proved ≡ true → MatchesLeaving h program made notes
-  pub keeps : h.proved ≡ true → KeepsLeaving h program made
+  pub matches : h.unproved ≡ false → MatchesLeaving h program made notes
+  pub keeps : h.unproved ≡ false → KeepsLeaving h program made
 
 -- OUT holds the image of the program that was made, and the texts stand at their names; or none of them is opened
 abbrev pub HardenSays : {S : Type 0} → Opening S → Making S → S → Hardening → S → Answer → Type 0

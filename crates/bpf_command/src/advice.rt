@@ -5,7 +5,7 @@ use crate::shown::Line;
 use bpf_answers::{ContextError, Failure};
 use bpf_explain::may_be_found;
 use bpf_follows::Mismatch;
-use bpf_infer::{Condition, InferError};
+use bpf_infer::{Condition, InferError, Wanted};
 use bpf_insn::{Order, Program};
 use bpf_request::{Clash, Contexts, Request, Subject};
 use std::fmt::{self, Display};
@@ -68,9 +68,7 @@ pub(crate) fn after_refusal<H: Aside>(aside: &H, request: Request<'_>) {
 #[derive(Clone, Copy)]
 pub(crate) struct Sought<'a> {
     pub input: &'a str,
-    pub least: u32,
-    pub most: u32,
-    pub deep: bool,
+    pub wanted: Wanted,
     pub order: Order,
 }
 
@@ -82,12 +80,12 @@ impl<'a> Display for Explaining<'a> {
     fn fmt<W: fmt::Write>(&self, f: &mut fmt::Formatter<W>) -> fmt::Result {
         let Sought {
             input,
-            least,
-            most,
-            ..
+            wanted,
+            order,
         } = self.0;
-        let order = order_word(self.0.order);
-        let deep = if self.0.deep { " --deep" } else { "" };
+        let Wanted { least, most, .. } = wanted;
+        let order = order_word(order);
+        let deep = if wanted.deep { " --deep" } else { "" };
         if most == least {
             write!(f, "`bpf explain {order}{input} --infer {least}{deep}`")
         } else {
@@ -126,10 +124,11 @@ pub(crate) fn after_search<H: Aside>(
     if let InferError::Memory = error {
         return;
     }
-    let Sought { input, least, .. } = sought;
+    let Sought { input, wanted, .. } = sought;
+    let Wanted { least, most, deep } = wanted;
     let (order, explaining) = (order_word(sought.order), Explaining(sought));
-    let may_deepen = !sought.deep && may_be_found(program, error);
-    let may_harden = sought.least == sought.most && may_be_hardened(error);
+    let may_deepen = !deep && may_be_found(program, error);
+    let may_harden = least == most && may_be_hardened(error);
     match (may_deepen, may_harden) {
         (true, true) => tell!(
             aside,
@@ -171,7 +170,7 @@ pub(crate) fn after_unshown<H: Aside>(aside: &H, mismatch: Mismatch) {
     let number = mismatch.number();
     tell!(
         aside,
-        "M{number} of its notes; without --proved it is written, too"
+        "M{number} of its notes; with --unproved it is written all the same"
     )
 }
 

@@ -4,7 +4,7 @@ use arrayvec::ArrayVec;
 use bpf_cert::cut;
 use bpf_insn::{Insn, Reg};
 use bpf_num::{KnownBits, Num, Signed, Unsigned, WordDomain};
-use bpf_state::{Area, Place, Pointer, RegState, SlotState};
+use bpf_state::{Area, Moved, Place, Pointer, RegState, SlotState, value_slot};
 use std::fmt;
 use std::str::from_utf8;
 
@@ -87,6 +87,26 @@ impl fmt::Display for Number {
     }
 }
 
+/// What a pointer points into.
+fn base_name(area: Area) -> &'static str {
+    match area {
+        Area::Context => "ctx",
+        Area::Frame => "fp",
+    }
+}
+
+/// A pointer that goes too far, as `ctx1..2147483649`.
+#[derive(Clone, Copy)]
+pub struct Far(pub Moved);
+
+impl fmt::Display for Far {
+    fn fmt<W: fmt::Write>(&self, f: &mut fmt::Formatter<W>) -> fmt::Result {
+        let Moved { area, lo, hi } = self.0;
+        let base = base_name(area);
+        write!(f, "{base}{lo}..{hi}")
+    }
+}
+
 /// What is known of a place.
 #[derive(Clone, Copy)]
 pub struct Known(pub SlotState);
@@ -98,10 +118,7 @@ impl fmt::Display for Known {
             SlotState::Bytes(mask) => write!(f, "b{mask}"),
             SlotState::Word(number) => fmt::Display::fmt(&Number(number), f),
             SlotState::Spilled(Pointer { area, lo, hi }) => {
-                let base = match area {
-                    Area::Context => "ctx",
-                    Area::Frame => "fp",
-                };
+                let base = base_name(area);
                 write!(f, "{base}{lo}..{hi}")
             }
         }
@@ -110,7 +127,7 @@ impl fmt::Display for Known {
 
 /// What is known of a register.
 pub fn known_register(state: RegState) -> Known {
-    Known(bpf_cert::value_slot(state))
+    Known(value_slot(state))
 }
 
 /// An instruction in the one spelling of the language, without the line's end.

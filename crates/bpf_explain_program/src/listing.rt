@@ -1,9 +1,7 @@
 //! The lines of a listing.
 
 use crate::known::{Known, Name, Number, Spelled, Written};
-use crate::places::{
-    changes, content, is_same, is_unknown, places_compared, places_written, take_all, take_over,
-};
+use crate::places::{changes, is_same, is_unknown, places_compared, places_written, take_all};
 use crate::sight::{Sight, Way};
 use bpf_cert::{Function, Label, Measure};
 use bpf_check::{Index, Seen};
@@ -89,8 +87,8 @@ pub fn write_budget<W: Tell>(out: &mut W, label: &Label) {
 fn write_claims<W: Tell>(out: &mut W, state: &State) {
     for index in 0..PLACES {
         let place = place(index);
-        if !is_unknown(content(state, place)) && index != Reg::R10 as usize {
-            let (name, text) = (Name(place), Written(content(state, place)));
+        if !is_unknown(state.content(place)) && index != Reg::R10 as usize {
+            let (name, text) = (Name(place), Written(state.content(place)));
             write!(out, "; {name} {text}");
         }
     }
@@ -119,11 +117,11 @@ pub fn write_padded<W: Tell>(out: &mut W, slot: u32, insn: &Insn) {
 
 /// Tells what is known of a place, unless that was told before.
 fn note_read<W: Tell>(out: &mut W, state: &State, shown: &mut State, place: Place) {
-    if is_same(content(state, place), content(shown, place)) {
+    if is_same(state.content(place), shown.content(place)) {
         return;
     }
-    take_over(shown, state, place);
-    let (name, held) = (Name(place), Known(content(state, place)));
+    shown.take_over(state, place);
+    let (name, held) = (Name(place), Known(state.content(place)));
     write!(out, "; {name} is {held}");
 }
 
@@ -154,7 +152,7 @@ fn note_changes<W: Tell>(out: &mut W, changed: PlaceSet, after: &State, verb: &s
         let Some(place) = rest.take_first() else {
             break;
         };
-        let (name, held) = (Name(place), Known(content(after, place)));
+        let (name, held) = (Name(place), Known(after.content(place)));
         write!(out, "; {name} {verb} {held}");
     }
 }

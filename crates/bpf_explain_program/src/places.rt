@@ -3,7 +3,6 @@
 ghost use Rattle.std.specs.Prelude.{◌≤◌};
 
 use crate::sight::is_test;
-use bpf_cert::value_slot;
 use bpf_infer_base::{PLACES, PlaceSet};
 use bpf_insn::Insn;
 use bpf_state::{Place, Pointer, SlotState, State, Tag};
@@ -16,28 +15,11 @@ fn numbered(k: u8) -> u8
     k.max(1).min(64)
 }
 
-/// What a state knows of a place, of a register as of a slot.
-pub fn content(state: &State, place: Place) -> SlotState {
-    match place {
-        Place::Register(r) => value_slot(state.reg(r)),
-        Place::Slot(k) => state.slot(numbered(k)),
-    }
-}
-
 /// The counter that a place holds.
 pub fn tag_at(state: &State, place: Place) -> Option<Tag> {
     match place {
         Place::Register(_) => state.tag(place),
         Place::Slot(k) => state.tag(Place::Slot(numbered(k))),
-    }
-}
-
-/// Makes what a state knows of a place the same as what another one does.
-pub fn take_over(state: &mut State, other: &State, place: Place) {
-    other.valid();
-    match place {
-        Place::Register(r) => state.set_reg(r, other.reg(r)),
-        Place::Slot(k) => state.set_slot(numbered(k), other.slot(numbered(k))),
     }
 }
 
@@ -77,7 +59,7 @@ pub fn changes(before: &State, after: &State, among: PlaceSet) -> PlaceSet {
         let Some(place) = rest.take_first() else {
             break;
         };
-        if !is_same(content(before, place), content(after, place)) {
+        if !is_same(before.content(place), after.content(place)) {
             changed.add(place);
         }
     }
@@ -91,7 +73,7 @@ pub fn take_all(state: &mut State, other: &State, places: PlaceSet) {
         let Some(place) = rest.take_first() else {
             break;
         };
-        take_over(state, other, place);
+        state.take_over(other, place);
     }
 }
 

@@ -1,7 +1,7 @@
 //! One instruction with the whole states before and after it.
 
 use crate::known::{Known, Name, Offset, Spelled};
-use crate::places::{content, is_unknown, tag_at};
+use crate::places::{is_unknown, tag_at};
 use crate::sight::Sight;
 use bpf_cert::Label;
 use bpf_check::{Here, place_of};
@@ -22,8 +22,8 @@ fn write_tag<W: Tell>(out: &mut W, label: &Label, tag: Tag) {
 fn write_state<W: Tell>(out: &mut W, label: &Label, state: &State) {
     for index in 0..PLACES {
         let place = place(index);
-        if !is_unknown(content(state, place)) {
-            let (name, held) = (Name(place), Known(content(state, place)));
+        if !is_unknown(state.content(place)) {
+            let (name, held) = (Name(place), Known(state.content(place)));
             write!(out, "  {name} is {held}");
             if let Some(tag) = tag_at(state, place) {
                 write_tag(out, label, tag);

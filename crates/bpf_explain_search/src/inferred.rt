@@ -19,7 +19,8 @@ use bpf_explain_program::{
     tell_unreached,
 };
 use bpf_infer::{
-    Condition, InferError, Obstacle, Quest, Sketch, Stop, Watch, infer, search_or_stop, sketch_of,
+    Condition, InferError, Obstacle, Quest, Sketch, Stop, Wanted, Watch, infer, search_or_stop,
+    sketch_of,
 };
 use bpf_insn::{Code, Insn, MAX_SLOTS, Program};
 use std::alloc::Global;
@@ -348,12 +349,10 @@ fn with_walk(alloc: Global, quest: Quest<'_>, stop: Stop) -> Stop
     }
 }
 
-/// A search for contexts of `least` to `most` bytes, the plain one or the deep one, and what is shown of what it finds.
+/// A search for the certificate that is wanted, and what is shown of what it finds.
 #[derive(Clone, Copy)]
 pub struct Search<'t> {
-    pub least: u32,
-    pub most: u32,
-    pub deep: bool,
+    pub wanted: Wanted,
     pub shown: Shown<'t>,
 }
 
@@ -368,22 +367,18 @@ pub fn explain_search<W: Write, H: Watch>(
     watch: &mut H,
     out: &mut W,
 ) -> io::Result<Result<Found, InferError>>
-    requires order { asked.least ≤ asked.most }
-    requires short { asked.most ≤ max_context }
+    requires order { asked.wanted.least ≤ asked.wanted.most }
+    requires short { asked.wanted.most ≤ max_context }
     ensures version { IfOk result (λ told. IfOk told (λ f. f.certificate.version ≡ 2)) }
-    ensures least { IfOk result (λ told. IfOk told (λ f. f.certificate.least ≡ asked.entry.least)) }
-    ensures most { IfOk result (λ told. IfOk told (λ f. f.certificate.most ≡ asked.entry.most)) }
+    ensures least { IfOk result (λ told. IfOk told (λ f. f.certificate.least ≡ asked.entry.wanted.least)) }
+    ensures most { IfOk result (λ told. IfOk told (λ f. f.certificate.most ≡ asked.entry.wanted.most)) }
     ensures certificate { IfOk result (λ told. IfOk told (λ f. IsCertificate f.certificate)) }
     ensures accepted { IfOk result (λ told. IfOk told (λ f. IfNone f.refusal (IsCertifiedBy program.now f.certificate))) }
     ensures refused { IfOk result (λ told. IfOk told (λ f. IfSome f.refusal (λ r. IsLeastFlaw program.now f.certificate (refusal_slot r) (refusal_number r)))) }
     ensures slot { IfOk result (λ told. IfErr told (λ e. infer_slot e < slots program.now.list)) }
 {
-    let Search {
-        least,
-        most,
-        deep,
-        shown,
-    } = asked;
+    let Search { wanted, shown } = asked;
+    let Wanted { least, most, deep } = wanted;
     let quest = Quest {
         program,
         least,

@@ -3,7 +3,7 @@
 ghost use Rattle.std.specs.Prelude.{◌≡◌, ◌<◌};
 ghost use Rattle.bpf_insn.specs.Instruction.{register_number};
 ghost use Rattle.bpf_follows_law.specs.Relation.{natural_top, known};
-ghost use Rattle.bpf_follows_law.specs.Numbers.{bounded, number_of, bounds_of, is_bounded, is_numeric, read_number, operand_number, left_number, alu_number, loaded_number, alu_kind, number_kind, told_by, may_answer, is_operand, told};
+ghost use Rattle.bpf_follows_law.specs.Numbers.{bounded, number_of, bounds_of, is_bounded, is_numeric, read_number, operand_number, left_number, alu_number, is_number_test, loaded_number, alu_kind, number_kind, told_by, may_answer, is_operand, told};
 
 use crate::inner::inner_made;
 use crate::kinds::{known, known_in};
@@ -192,12 +192,23 @@ pub(crate) struct Test {
     pub(crate) src: Operand,
 }
 
+/// Whether a test is one of numbers alone: it takes a constant, or isn't whether two 64-bit values are equal.
+fn is_number_test(width: Width, cond: Cond, src: Operand) -> bool
+    ensures { result ≡ is_number_test width cond src }
+{
+    match (width, src) {
+        (Width::W64, Operand::Reg(_r)) => !matches!(cond, Cond::Eq | Cond::Ne),
+        _ => true,
+    }
+}
+
 /// The numbers of both operands.
 fn told_by(site: &Site, test: Test) -> Option<(Num, Num)>
     ensures { result ≡ told_by (known site.now.slot site.now.kinds) test.cond test.width test.taken test.dst test.src }
 {
-    let b = operand_number(site, false, test.src)?;
-    let a = number_of(known_in(site, test.dst))?;
+    let numeric = is_number_test(test.width, test.cond, test.src);
+    let b = operand_number(site, numeric, test.src)?;
+    let a = read_number(numeric, known_in(site, test.dst))?;
     Num::refine(test.cond, test.width, test.taken, a, b)
 }
 

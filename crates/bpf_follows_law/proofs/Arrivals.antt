@@ -8,6 +8,7 @@ use Rattle.std.proofs.lemmas.Int.{ints}
 use Rattle.bpf_insn.specs.Arithmetic.{extended}
 use Rattle.bpf_insn.specs.Instruction.{register_number}
 use Rattle.bpf_insn.specs.declared.order.Order.{Order}
+use Rattle.bpf_insn.proofs.RegisterLemmas.{reg_below}
 use Rattle.bpf_semantics.specs.State.{Cell, StackFrame, State}
 use Rattle.bpf_semantics.specs.declared.value.Value.{Value}
 use Rattle.bpf_semantics.specs.declared.value.Value.TheVariants.{Number, Pointer}
@@ -20,7 +21,7 @@ use Rattle.bpf_follows_law.specs.Areas.{same_area}
 use Rattle.bpf_follows_law.specs.Relation.{Past, Kinds, places, Gives, weaker, natural_top, is_free, kinds_of, place_at, HasOffset, IsWithin, as_offset, register_in, FitsKind, FitsSlot, FrameFits, Follows}
 use Rattle.bpf_follows_law.specs.Matching.{Arrives}
 use Rattle.bpf_semantics.proofs.NumberLemmas.{modulo_below}
-use Rattle.bpf_follows_law.proofs.Slots.{register_below, unset_kept, free_unset, both_hold}
+use Rattle.bpf_follows_law.proofs.Slots.{unset_kept, free_unset, both_hold}
 use Rattle.bpf_follows_law.proofs.Has.{area_same}
 use Rattle.bpf_follows_law.proofs.Between.{Goes}
 
@@ -128,7 +129,7 @@ module _ (ends : Order) (notes : List (Option Place)) (turns : ℕ) (passed : Pa
   slot_weaker registers xs ys k (Moved area of by) (Offset into) e f =
       let h = both_true (register_number of == 11 + k) (int_eq by (pos 0)) (both_true (same_area area into) (register_number of == 11 + k && int_eq by (pos 0)) e).1 in
       let same : register_number of ≡ 11 + k = eqb-true (register_number of) (11 + k) h.0 in
-      let below = register_below of in
+      let below = reg_below of in
       absurd (omega arith)
   slot_weaker registers xs ys k (Fixed area at) (Within into low high) e f =
       let low = ltb-true (11 + k) 11 (both_true (nat_lt (11 + k) 11) (same_area area into && (int_le (pos low) at && int_le at (pos high))) e).0 in

@@ -20,6 +20,7 @@ use Rattle.bpf_insn.specs.declared.instruction.AluOp.{AluOp}
 use Rattle.bpf_insn.specs.declared.instruction.AluOp.TheVariants.{Add, Sub, Mov}
 use Rattle.bpf_insn.specs.declared.instruction.Insn.{Insn}
 use Rattle.bpf_insn.specs.declared.instruction.Insn.TheVariants.{Alu}
+use Rattle.bpf_insn.proofs.RegisterLemmas.{reg_below}
 use Rattle.bpf_semantics.specs.State.{State, register, with_register, at_slot}
 use Rattle.bpf_semantics.specs.Memory.{inside}
 use Rattle.bpf_semantics.specs.Step.{does, next, operand, same_region, alu_result, wrapped, Step, step_of}
@@ -44,7 +45,6 @@ use Rattle.bpf_follows_law.proofs.Has.{area_same, has_new}
 use Rattle.bpf_follows_law.proofs.Offsets.{moved_number, pointer_there, offset_there}
 use Rattle.bpf_follows_law.proofs.Onward.{Rooms, floor, room, placed, LieIn}
 use Rattle.bpf_follows_law.proofs.Between.{Between}
-use Rattle.bpf_follows_law.proofs.Slots.{register_below}
 use Rattle.bpf_follows_law.proofs.Instruction.{both_true}
 
 region_itself : (region : Region) → same_region region region ≡ true
@@ -395,7 +395,7 @@ module _ (ends : Order) (notes : List (Option Place)) (turns : ℕ) (passed : Pa
           (subst (λ kind. FitsKind turns passed (register_in s.top) r kind (get_or t.top.registers r None)) (sym kept) (b.top.registers r lt))
 
   pub fits_at : (kinds : List Kind) (s t : State) (r : Reg) → Between ends notes turns passed (kind_in kinds) s t → FitsKind turns passed (register_in s.top) (register_number r) (kind_of kinds r) (register t r)
-  fits_at kinds s t r b = b.top.registers (register_number r) (register_below r)
+  fits_at kinds s t r b = b.top.registers (register_number r) (reg_below r)
 
   -- a sum or a move
   alu_goes : (order : Order) (op : AluOp) (dst : Reg) (src : Operand) (kinds made : List Kind) (kind : Kind) (s t : State) → Between ends notes turns passed (kind_in kinds) s t
@@ -408,7 +408,7 @@ module _ (ends : Order) (notes : List (Option Place)) (turns : ℕ) (passed : Pa
         is = alu_does order op dst src t w.value w.is free;
         at = refl;
         between = subst (λ made. Between ends notes turns passed (kind_in made) s (with_register (next i t) (register_number dst) (Some w.value))) is
-            (writes kinds kind s (next i t) (register_number dst) (Some w.value) (register_below dst) (moves kinds s t (t.top.slot + 1) b) w.fits);
+            (writes kinds kind s (next i t) (register_number dst) (Some w.value) (reg_below dst) (moves kinds s t (t.top.slot + 1) b) w.fits);
       }
 
   -- what a sum or a move makes

@@ -8,6 +8,7 @@ use Rattle.bpf_insn.specs.Instruction.{register_number}
 use Rattle.bpf_insn.specs.declared.order.Order.{Order}
 use Rattle.bpf_insn.specs.declared.instruction.Reg.{Reg}
 use Rattle.bpf_insn.specs.declared.instruction.Insn.{Insn}
+use Rattle.bpf_insn.proofs.RegisterLemmas.{reg_below}
 use Rattle.bpf_semantics.specs.State.{StackFrame, put}
 use Rattle.bpf_semantics.specs.Memory.{with_stack_in}
 use Rattle.bpf_semantics.specs.declared.value.Value.{Value}
@@ -22,7 +23,6 @@ use Rattle.bpf_follows_law.specs.Returned.{is_call}
 use Rattle.bpf_follows_law.specs.Matching.{is_changed, is_lost, held, kinds_after}
 use Rattle.bpf_follows_law.proofs.Lists.{Cells}
 use Rattle.bpf_follows_law.proofs.Has.{has_moved, has_given}
-use Rattle.bpf_follows_law.proofs.Slots.{register_below}
 
 -- ---- registers of the old machine that are others
 
@@ -125,19 +125,19 @@ fits_held turns passed i old more r kind new kept same = by_kind kind
 
     moved : (area : Area) (of : Reg) (by : ℤ) → FitsKind turns passed old r (Moved area of by) new → (b : Bool) → is_lost i (register_number of) ≡ b → FitsKind turns passed more r (if b then Nothing else Moved area of by) new
     moved area of by f true l = tt
-    moved area of by f false l = let h = lost_not i (register_number of) l in has_moved area by as_offset (old 10) (more 10) (old (register_number of)) (more (register_number of)) new (kept 10 (omega arith) h.1) (kept (register_number of) (register_below of) h.0) f
+    moved area of by f false l = let h = lost_not i (register_number of) l in has_moved area by as_offset (old 10) (more 10) (old (register_number of)) (more (register_number of)) new (kept 10 (omega arith) h.1) (kept (register_number of) (reg_below of) h.0) f
 
     address : (area : Area) (of : Reg) (by : ℤ) → FitsKind turns passed old r (Address area of by) new → (b : Bool) → is_lost i (register_number of) ≡ b → FitsKind turns passed more r (if b then Nothing else Address area of by) new
     address area of by f true l = tt
-    address area of by f false l = let h = lost_not i (register_number of) l in has_moved area by as_pointer (old 10) (more 10) (old (register_number of)) (more (register_number of)) new (kept 10 (omega arith) h.1) (kept (register_number of) (register_below of) h.0) f
+    address area of by f false l = let h = lost_not i (register_number of) l in has_moved area by as_pointer (old 10) (more 10) (old (register_number of)) (more (register_number of)) new (kept 10 (omega arith) h.1) (kept (register_number of) (reg_below of) h.0) f
 
     saved : (of : Reg) → FitsKind turns passed old r (Saved of) new → (b : Bool) → is_lost i (register_number of) ≡ b → FitsKind turns passed more r (if b then Nothing else Saved of) new
     saved of f true l = tt
-    saved of f false l = subst (λ o. IsOneValue o new) (sym (kept (register_number of) (register_below of) (lost_not i (register_number of) l).0)) f
+    saved of f false l = subst (λ o. IsOneValue o new) (sym (kept (register_number of) (reg_below of) (lost_not i (register_number of) l).0)) f
 
     numbered : (of : Reg) (least most : ℕ) → FitsKind turns passed old r (Kept of least most) new → (b : Bool) → is_lost i (register_number of) ≡ b → FitsKind turns passed more r (if b then Nothing else Kept of least most) new
     numbered of least most f true l = tt
-    numbered of least most f false l = subst (λ o. IsOneNumber least most o new) (sym (kept (register_number of) (register_below of) (lost_not i (register_number of) l).0)) f
+    numbered of least most f false l = subst (λ o. IsOneNumber least most o new) (sym (kept (register_number of) (reg_below of) (lost_not i (register_number of) l).0)) f
 
     inner : (least most : ℕ) → FitsKind turns passed old r (Inner least most) new → (b : Bool) → is_lost i 10 ≡ b → FitsKind turns passed more r (if b then Both else Inner least most) new
     inner least most f true l = record { value = Pointer (FrameAt f.frame) f.offset; old_is = same ∙ f.old_is; new_is = f.new_is }
@@ -195,24 +195,24 @@ slot_held ends turns passed i old more xs ys k (Moved area of by) kept f = by_ca
     by_cases true l = tt
     by_cases false l =
         let h = lost_not i (register_number of) l in
-        record { unset = f.unset; value = f.value; holds = f.holds; fits = has_moved area by as_offset (old 10) (more 10) (old (register_number of)) (more (register_number of)) (Some f.value) (kept 10 (omega arith) h.1) (kept (register_number of) (register_below of) h.0) f.fits }
+        record { unset = f.unset; value = f.value; holds = f.holds; fits = has_moved area by as_offset (old 10) (more 10) (old (register_number of)) (more (register_number of)) (Some f.value) (kept 10 (omega arith) h.1) (kept (register_number of) (reg_below of) h.0) f.fits }
 slot_held ends turns passed i old more xs ys k (Address area of by) kept f = by_cases (is_lost i (register_number of)) refl
   where
     by_cases : (b : Bool) → is_lost i (register_number of) ≡ b → FitsSlot ends turns passed more xs ys k (if b then Nothing else Address area of by)
     by_cases true l = tt
     by_cases false l =
         let h = lost_not i (register_number of) l in
-        record { unset = f.unset; value = f.value; holds = f.holds; fits = has_moved area by as_pointer (old 10) (more 10) (old (register_number of)) (more (register_number of)) (Some f.value) (kept 10 (omega arith) h.1) (kept (register_number of) (register_below of) h.0) f.fits }
+        record { unset = f.unset; value = f.value; holds = f.holds; fits = has_moved area by as_pointer (old 10) (more 10) (old (register_number of)) (more (register_number of)) (Some f.value) (kept 10 (omega arith) h.1) (kept (register_number of) (reg_below of) h.0) f.fits }
 slot_held ends turns passed i old more xs ys k (Saved of) kept f = by_cases (is_lost i (register_number of)) refl
   where
     by_cases : (b : Bool) → is_lost i (register_number of) ≡ b → FitsSlot ends turns passed more xs ys k (if b then Nothing else Saved of)
     by_cases true l = tt
-    by_cases false l = record { unset = f.unset; value = f.value; holds = f.holds; fits = subst (λ o. IsOneValue o (Some f.value)) (sym (kept (register_number of) (register_below of) (lost_not i (register_number of) l).0)) f.fits }
+    by_cases false l = record { unset = f.unset; value = f.value; holds = f.holds; fits = subst (λ o. IsOneValue o (Some f.value)) (sym (kept (register_number of) (reg_below of) (lost_not i (register_number of) l).0)) f.fits }
 slot_held ends turns passed i old more xs ys k (Kept of least most) kept f = by_cases (is_lost i (register_number of)) refl
   where
     by_cases : (b : Bool) → is_lost i (register_number of) ≡ b → FitsSlot ends turns passed more xs ys k (if b then Nothing else Kept of least most)
     by_cases true l = tt
-    by_cases false l = record { unset = f.unset; value = f.value; holds = f.holds; fits = subst (λ o. IsOneNumber least most o (Some f.value)) (sym (kept (register_number of) (register_below of) (lost_not i (register_number of) l).0)) f.fits }
+    by_cases false l = record { unset = f.unset; value = f.value; holds = f.holds; fits = subst (λ o. IsOneNumber least most o (Some f.value)) (sym (kept (register_number of) (reg_below of) (lost_not i (register_number of) l).0)) f.fits }
 slot_held ends turns passed i old more xs ys k Nothing kept f = tt
 slot_held ends turns passed i old more xs ys k Unset kept f = f
 slot_held ends turns passed i old more xs ys k Same kept f = f

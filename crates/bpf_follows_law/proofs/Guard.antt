@@ -19,6 +19,7 @@ use Rattle.bpf_insn.specs.declared.instruction.AluOp.TheVariants.{Add}
 use Rattle.bpf_insn.specs.declared.instruction.Cond.TheVariants.{Eq, Gt, Lt}
 use Rattle.bpf_insn.specs.declared.instruction.Insn.{Insn}
 use Rattle.bpf_insn.specs.declared.instruction.Insn.TheVariants.{Alu, JumpIf}
+use Rattle.bpf_insn.proofs.RegisterLemmas.{reg_below}
 use Rattle.bpf_semantics.specs.State.{State, register, at_slot}
 use Rattle.bpf_semantics.specs.Step.{does, jump, wrapped}
 use Rattle.bpf_semantics.specs.Flat.{addresses}
@@ -41,7 +42,6 @@ use Rattle.bpf_follows_law.proofs.Lists.{bind, unmapped, cond_first}
 use Rattle.bpf_follows_law.proofs.Offsets.{moved_back}
 use Rattle.bpf_follows_law.proofs.Onward.{floor, room, placed, LieIn}
 use Rattle.bpf_follows_law.proofs.Between.{Between}
-use Rattle.bpf_follows_law.proofs.Slots.{register_below}
 use Rattle.bpf_follows_law.proofs.Instruction.{both_true}
 use Rattle.bpf_follows_law.proofs.Extra.{kind_set, rooms_in, InFront, moved_has, Goes1, moves, fits_at}
 
@@ -378,7 +378,7 @@ module _ (ends : Order) (notes : List (Option Place)) (turns : ℕ) (passed : Pa
 
       slots_kept : (k : ℕ) → k < 64 → FitsSlot ends turns passed (register_in s.top) s.top.stack t.top.stack k (kind_in (set kinds (register_number dst) kind) (11 + k))
       slots_kept k lt =
-          let below = register_below dst in
+          let below = reg_below dst in
           let kept : kind_in (set kinds (register_number dst) kind) (11 + k) ≡ kind_in kinds (11 + k) = get_or-set_other kinds (register_number dst) (11 + k) kind Nothing (λ same. absurd (omega arith)) in
           subst (λ kind. FitsSlot ends turns passed (register_in s.top) s.top.stack t.top.stack k kind) (sym kept) (b.top.slots k lt)
 

@@ -9,6 +9,7 @@ use Rattle.bpf_insn.specs.Instruction.{register_number, byte_count}
 use Rattle.bpf_insn.specs.declared.order.Order.{Order}
 use Rattle.bpf_insn.specs.declared.instruction.Reg.{Reg}
 use Rattle.bpf_insn.specs.declared.instruction.Insn.{Insn}
+use Rattle.bpf_insn.proofs.RegisterLemmas.{reg_below}
 use Rattle.bpf_semantics.specs.State.{State, depth, register}
 use Rattle.bpf_semantics.specs.Memory.{Location, location_of, inside}
 use Rattle.bpf_semantics.specs.Memory.Location.{InContext, InFrame}
@@ -28,7 +29,6 @@ use Rattle.bpf_follows_law.specs.Matching.{AllPlain, is_homed}
 use Rattle.bpf_follows_law.proofs.Lists.{unmapped, cond_first}
 use Rattle.bpf_follows_law.proofs.Owns.{Owns}
 use Rattle.bpf_follows_law.proofs.Has.{offset_has, has_area}
-use Rattle.bpf_follows_law.proofs.Slots.{register_below}
 use Rattle.bpf_follows_law.proofs.Between.{Between, IsHere, Calm}
 use Rattle.bpf_follows_law.proofs.Pointers.{same_frame}
 
@@ -60,7 +60,7 @@ module _ (ends : Order) (notes : List (Option Place)) (turns : ℕ) (passed : Pa
   homes : (i : Insn) (a : Access) (kinds : Kinds) (s t : State) (base : Value) (at : Location) → access_of i ≡ Some a → is_homed kinds i ≡ true → Between ends notes turns passed kinds s t → Owns s → register s a.base ≡ Some base → location_of s (byte_count a.size) a.offset base ≡ Some at → IsHere s at
   homes i a kinds s t base at ea e h o eb el =
       kind_here (kinds (register_number a.base)) s a.base (byte_count a.size) a.offset base (register t a.base) at o
-      (sym (ap (λ o. option_map_or (λ a. is_homed_by (register_number a.base) (kinds (register_number a.base))) o false) ea) ∙ e) (h.top.registers (register_number a.base) (register_below a.base)) eb el
+      (sym (ap (λ o. option_map_or (λ a. is_homed_by (register_number a.base) (kinds (register_number a.base))) o false) ea) ∙ e) (h.top.registers (register_number a.base) (reg_below a.base)) eb el
 
   -- frames that wait are asked for only where it may go to one
   pub here_or : (i : Insn) (a : Access) (kinds : Kinds) (s t : State) (base : Value) (at : Location) → (is_homed kinds i ≡ false → is_alone notes ≡ false) → access_of i ≡ Some a → Between ends notes turns passed kinds s t → Owns s → register s a.base ≡ Some base

@@ -13,6 +13,7 @@ use Rattle.bpf_insn.specs.declared.order.Order.{Order}
 use Rattle.bpf_insn.specs.declared.instruction.Size.{Size}
 use Rattle.bpf_insn.specs.declared.instruction.Size.TheVariants.{B, H, W, DW}
 use Rattle.bpf_insn.specs.declared.instruction.Insn.{Insn}
+use Rattle.bpf_insn.proofs.RegisterLemmas.{reg_below}
 use Rattle.bpf_semantics.specs.State.{State, depth, register}
 use Rattle.bpf_semantics.specs.Memory.{Location, location_of, is_within, stack_of, part_after, with_parts, store_pointer}
 use Rattle.bpf_semantics.specs.Memory.Location.{InFrame}
@@ -30,7 +31,7 @@ use Rattle.bpf_follows_law.specs.Returned.{is_call}
 use Rattle.bpf_follows_law.specs.Matching.{is_plain, is_far_put_by, is_far_put, touches, is_written, writes_slot, is_changed, held, kinds_after, is_spared, is_blurred, is_far_store}
 use Rattle.bpf_follows_law.proofs.Lists.{cond_first, as_long, Cells}
 use Rattle.bpf_follows_law.proofs.Owns.{Owns}
-use Rattle.bpf_follows_law.proofs.Slots.{register_below, plain_kept, within, outside, parts_put, parts_read, each_read}
+use Rattle.bpf_follows_law.proofs.Slots.{plain_kept, within, outside, parts_put, parts_read, each_read}
 use Rattle.bpf_follows_law.proofs.Frames.{InSome, fits_held, slot_held}
 use Rattle.bpf_follows_law.proofs.Between.{Between, Goes, PointersKept, pointer_at_kept, own_stack, own_stack_of, number_near, value_near}
 use Rattle.bpf_follows_law.proofs.Near.{own_placed, low_unwritten, changed_by, in_one}
@@ -166,7 +167,7 @@ module _ (ends : Order) (notes : List (Option Place)) (turns : ℕ) (passed : Pa
       → Lies s (kinds (register_number a.base)) a at
   lies_by kinds s t a base at h o inner eb el =
       by_reach (reach (kinds (register_number a.base))) refl inner
-      (reach_points ends notes turns passed (kinds (register_number a.base)) s a.base base (register t a.base) o (h.top.registers (register_number a.base) (register_below a.base)) eb)
+      (reach_points ends notes turns passed (kinds (register_number a.base)) s a.base base (register t a.base) o (h.top.registers (register_number a.base) (reg_below a.base)) eb)
     where
       by_reach : (reached : Option (ℕ × ℕ)) → reach (kinds (register_number a.base)) ≡ reached → option_map_or (λ (by : ℕ × ℕ). true) reached false ≡ true → Reaches s reached base → Lies s (kinds (register_number a.base)) a at
       by_reach (Some (least, most)) er e p = lies s (kinds (register_number a.base)) a least most base at er p el

@@ -23,6 +23,7 @@ use Rattle.bpf_insn.specs.declared.instruction.AtomicOp.{AtomicOp}
 use Rattle.bpf_insn.specs.declared.instruction.AtomicOp.TheVariants.{Modify as Changes, Xchg, CmpXchg}
 use Rattle.bpf_insn.specs.declared.instruction.Insn.{Insn}
 use Rattle.bpf_insn.specs.declared.instruction.Insn.TheVariants.{Alu, Neg, MovSx, End, LoadImm64, Load, LoadSx, Store, StoreImm, Atomic, Ja, JaLong, JumpIf, CallLocal, Exit}
+use Rattle.bpf_insn.proofs.RegisterLemmas.{reg_below}
 use Rattle.bpf_semantics.specs.State.{State, IsState, register, number_in, number_of_register, put, at_slot}
 use Rattle.bpf_semantics.specs.Memory.{Location, location_of, is_within, number_at, store_number}
 use Rattle.bpf_semantics.specs.Step.{does, next, operand, alu_result, test_of_values, load, load_extended, store, atomic_result, fetched, jump}
@@ -41,7 +42,6 @@ use Rattle.bpf_follows_law.specs.Returned.{is_call, led}
 use Rattle.bpf_follows_law.specs.Matching.{is_changed, is_plain, is_whole, is_far, is_far_put, whole_slot, IsPlainAt, is_homed, kinds_after, Arrives, undirected}
 use Rattle.bpf_follows_law.proofs.Lists.{bind, mapped, unmapped, same_is_kept}
 use Rattle.bpf_follows_law.proofs.Owns.{Owns, live_location, live_next}
-use Rattle.bpf_follows_law.proofs.Slots.{register_below}
 use Rattle.bpf_follows_law.proofs.Frames.{is_of_register, holding, SlotsAre, InSome, no_slots}
 use Rattle.bpf_follows_law.proofs.Between.{is_double, here_next, Between, Goes, goes_held, goes_alike, same_depth, stands_at, goes_as, put_kept, location_same, number_kept, Calm, PointersKept, pointers_kept, load_kept, load_extended_kept, number_stored, number_near}
 pub use Rattle.bpf_follows_law.proofs.Arrivals.{both_true, plus_zero, Arrived, kind_given, fits_given, arrived}
@@ -125,7 +125,7 @@ module _ (ends : Order) (notes : List (Option Place)) (turns : ℕ) (passed : Pa
   same_kept old r kind new e f = absurd (false≢true e)
 
   pub register_kept : (kinds : Kinds) (s t : State) (r : Reg) → Between ends notes turns passed kinds s t → is_same (kinds (register_number r)) ≡ true → IsKept (register s r) (register t r)
-  register_kept kinds s t r h e = same_kept (register_in s.top) (register_number r) (kinds (register_number r)) (register t r) e (h.top.registers (register_number r) (register_below r))
+  register_kept kinds s t r h e = same_kept (register_in s.top) (register_number r) (kinds (register_number r)) (register t r) e (h.top.registers (register_number r) (reg_below r))
 
   pub number_same : (kinds : Kinds) (s t : State) (r : Reg) → Between ends notes turns passed kinds s t → is_same (kinds (register_number r)) ≡ true → IsKept (number_of_register s r) (number_of_register t r)
   number_same kinds s t r h same x e = option_and_then_some number_in (register s r) x e (λ v ev en. bind number_in (register t r) v (Some x) (register_kept kinds s t r h same v ev) en)
@@ -141,7 +141,7 @@ module _ (ends : Order) (notes : List (Option Place)) (turns : ℕ) (passed : Pa
 
   pub put_as : (kinds : Kinds) (s t u : State) (i : Insn) (kind : Kind) (r : Reg) (v x : Value) → Writes i r → is_of_register kind ≡ false → FitsKind turns passed (holding (register_in s.top 10) v) 0 kind (Some x)
       → Between ends notes turns passed kinds s t → put r v (next i s) ≡ Some u → Goes ends notes turns passed (kinds_after i kind kinds) (s.top.slot + slot_count i) (t.top.slot + slot_count i) u (put r x (next i t))
-  put_as kinds s t u i kind r v x writes own fit h e = put_kept ends notes turns passed i kind kinds (next i s) (next i t) u r v x (λ q lt. writes q) (no_slots i (register_number r) kind kinds (register_below r) writes) own fit (stands_at ends notes turns passed kinds s t _ _ h) e
+  put_as kinds s t u i kind r v x writes own fit h e = put_kept ends notes turns passed i kind kinds (next i s) (next i t) u r v x (λ q lt. writes q) (no_slots i (register_number r) kind kinds (reg_below r) writes) own fit (stands_at ends notes turns passed kinds s t _ _ h) e
 
   put_next : (kinds : Kinds) (s t u : State) (i : Insn) (r : Reg) (v : Value) → Writes i r → Between ends notes turns passed kinds s t → put r v (next i s) ≡ Some u
       → Goes ends notes turns passed (kinds_after i Same kinds) (s.top.slot + slot_count i) (t.top.slot + slot_count i) u (put r v (next i t))

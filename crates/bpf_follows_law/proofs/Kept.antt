@@ -17,6 +17,7 @@ use Rattle.bpf_insn.specs.declared.instruction.Reg.{Reg}
 use Rattle.bpf_insn.specs.declared.instruction.Size.TheVariants.{DW}
 use Rattle.bpf_insn.specs.declared.instruction.Insn.{Insn}
 use Rattle.bpf_insn.specs.declared.instruction.Insn.TheVariants.{Load, Store, StoreImm}
+use Rattle.bpf_insn.proofs.RegisterLemmas.{reg_below}
 use Rattle.bpf_semantics.specs.State.{State, FitsMachine, depth, register, with_top, with_register, put, at_slot}
 use Rattle.bpf_semantics.specs.Memory.{location_of, inside, stack_of, with_stack_in, with_stack}
 use Rattle.bpf_semantics.specs.Memory.Location.{InContext, InFrame}
@@ -39,7 +40,7 @@ use Rattle.bpf_follows_law.proofs.Lists.{bind, unmapped, cond_first, cond_second
 use Rattle.bpf_follows_law.proofs.Owns.{Owns, top_stack}
 use Rattle.bpf_follows_law.proofs.Has.{machine_there}
 use Rattle.bpf_follows_law.proofs.Offsets.{wrapped_fits}
-use Rattle.bpf_follows_law.proofs.Slots.{register_below, free_unset, slot_as, load_holds, with_value, store_whole, value_put, value_other, own_read, room, whole_room}
+use Rattle.bpf_follows_law.proofs.Slots.{free_unset, slot_as, load_holds, with_value, store_whole, value_put, value_other, own_read, room, whole_room}
 use Rattle.bpf_follows_law.proofs.Between.{Between, same_depth, location_same, own_stack_of}
 use Rattle.bpf_follows_law.proofs.Near.{whole_slot_at}
 use Rattle.bpf_follows_law.proofs.Instruction.{both_true, same_kept}
@@ -312,7 +313,7 @@ module _ (ends : Order) (notes : List (Option Place)) (turns : ℕ) (passed : Pa
         is = bind _ (register t src) _ _ a.is (bind _ (location_of t 8 off (Pointer (FrameAt (depth s)) (pos 0))) _ _ a.there (bind _ (load ends t DW (InFrame (depth s) (8 * k))) has.value _ (load_holds ends t (depth s) k has.value holds) (ap (λ c. cond c None (Some end)) free.0)));
         at = refl;
         between = subst (λ made. Between ends notes turns passed (kind_in made) s end) (ap (λ (w : ℕ × Kind). set kinds w.0 w.1) m.2 ∙ is)
-            (writes ends notes turns passed kinds (restored dst (kind_of kinds dst) m.0) s after (register_number dst) (Some has.value) (register_below dst) (moves ends notes turns passed kinds s t (t.top.slot + 1) b)
+            (writes ends notes turns passed kinds (restored dst (kind_of kinds dst) m.0) s after (register_number dst) (Some has.value) (reg_below dst) (moves ends notes turns passed kinds s t (t.top.slot + 1) b)
             (restored_fits ends turns passed (register_in s.top) dst (11 + k) (kind_of kinds dst) m.0 has.value (register t dst) has.own (fits_at ends notes turns passed kinds s t dst b) has.fits));
       })
 
@@ -340,7 +341,7 @@ module _ (ends : Order) (notes : List (Option Place)) (turns : ℕ) (passed : Pa
         is = bind _ (register t src) _ _ start (bind _ (location_of t 8 off (Pointer Context (pos 0))) _ _ there (bind (λ value. put dst value (next (Load DW dst src off) t)) (load ends t DW (InContext 0)) (Number f.size) _ read (ap (λ c. cond c None (Some end)) free)));
         at = refl;
         between = subst (λ made. Between ends notes turns passed (kind_in made) s end) (ap (λ (w : ℕ × Kind). set kinds w.0 w.1) m.2 ∙ is)
-            (writes ends notes turns passed kinds (Length m.0) s after (register_number dst) (Some (Number f.size)) (register_below dst) (moves ends notes turns passed kinds s t (t.top.slot + 1) b)
+            (writes ends notes turns passed kinds (Length m.0) s after (register_number dst) (Some (Number f.size)) (reg_below dst) (moves ends notes turns passed kinds s t (t.top.slot + 1) b)
             (record { size = f.size; packet_is = f.packet_is; short = f.short; is = (f.is.0, f.is.1, refl) }));
       }
     where

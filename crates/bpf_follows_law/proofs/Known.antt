@@ -17,8 +17,10 @@ use Rattle.bpf_insn.specs.declared.instruction.Size.TheVariants.{B, H, W, DW}
 use Rattle.bpf_insn.specs.declared.instruction.AluOp.{AluOp}
 use Rattle.bpf_insn.specs.declared.instruction.AluOp.TheVariants.{Add, Sub, Mov}
 use Rattle.bpf_insn.specs.declared.instruction.Cond.{Cond}
+use Rattle.bpf_insn.specs.declared.instruction.Cond.TheVariants.{Eq, Ne}
 use Rattle.bpf_insn.specs.declared.instruction.Insn.{Insn}
 use Rattle.bpf_insn.specs.declared.instruction.Insn.TheVariants.{Alu, JumpIf}
+use Rattle.bpf_insn.proofs.RegisterLemmas.{reg_below}
 use Rattle.bpf_semantics.specs.State.{State, IsState, FitsMachine, register}
 use Rattle.bpf_semantics.specs.Memory.{Location, number_at}
 use Rattle.bpf_semantics.specs.Step.{operand, alu_of_values, alu_result, test_of_values, load}
@@ -45,9 +47,8 @@ use Rattle.bpf_follows_law.specs.declared.notes.Kind.{Kind}
 use Rattle.bpf_follows_law.specs.declared.notes.Kind.TheVariants.{Same, Number, Natural, Length, Both}
 use Rattle.bpf_follows_law.specs.declared.notes.Place.{Place}
 use Rattle.bpf_follows_law.specs.Relation.{Past, Kinds, FitsKind, FitsSlot, register_in, most_natural, natural_top}
-use Rattle.bpf_follows_law.specs.Numbers.{bounded, number_of, bounds_of, is_numeric, read_number, operand_number, left_number, alu_number, loaded_number, alu_kind, number_kind, told_by, may_answer, is_operand, told}
+use Rattle.bpf_follows_law.specs.Numbers.{bounded, number_of, bounds_of, is_numeric, read_number, operand_number, left_number, alu_number, loaded_number, alu_kind, number_kind, is_number_test, told_by, may_answer, is_operand, told}
 use Rattle.bpf_follows_law.proofs.Lists.{unmapped, same_is_kept}
-use Rattle.bpf_follows_law.proofs.Slots.{register_below}
 use Rattle.bpf_follows_law.proofs.Frames.{is_of_register, holding}
 use Rattle.bpf_follows_law.proofs.Between.{Between}
 use Rattle.bpf_follows_law.proofs.Owns.{Owns}
@@ -123,9 +124,36 @@ numeric_left : (width : Width) (op : AluOp) → is_numeric width op ≡ true →
 numeric_left width op e (ANumber x) b v h = (x, refl)
 numeric_left width op e (Pointer region off) b v h = absurd (pointer_left width op e b v region off h)
 
+-- no test is of a pointer and a number
+pointer_with_number : (width : Width) (cond : Cond) (region : Region) (at : ℤ) (y : ℕ) (taken : Bool) → test_of_values width cond (Pointer region at) (ANumber y) ≡ Some taken → ⊥
+pointer_with_number W64 Eq region at y taken e = none-some _ e
+pointer_with_number W64 Ne region at y taken e = none-some _ e
+pointer_with_number width cond region at y taken e = none-some _ e
+
+number_with_pointer : (width : Width) (cond : Cond) (x : ℕ) (region : Region) (at : ℤ) (taken : Bool) → test_of_values width cond (ANumber x) (Pointer region at) ≡ Some taken → ⊥
+number_with_pointer W64 Eq x region at taken e = none-some _ e
+number_with_pointer W64 Ne x region at taken e = none-some _ e
+number_with_pointer width cond x region at taken e = none-some _ e
+
+two_pointers : (width : Width) (cond : Cond) (r : Reg) (region other : Region) (at off : ℤ) (taken : Bool) → is_number_test width cond (FromReg r) ≡ true → test_of_values width cond (Pointer region at) (Pointer other off) ≡ Some taken → ⊥
+two_pointers W64 Eq r region other at off taken is e = false≢true is
+two_pointers W64 Ne r region other at off taken is e = false≢true is
+two_pointers width cond r region other at off taken is e = none-some _ e
+
+abbrev is_address : Value → Bool
+is_address (ANumber x) = false
+is_address (Pointer region at) = true
+
+numerals_tested : (width : Width) (cond : Cond) (src : Operand) (s : State) (a b : Value) (taken : Bool) → operand s src ≡ Some b → test_of_values width cond a b ≡ Some taken → is_number_test width cond src ≡ true → IsNumeral a × IsNumeral b
+numerals_tested width cond src s (ANumber x) (ANumber y) taken eb e is = ((x, refl), (y, refl))
+numerals_tested width cond src s (Pointer region at) (ANumber y) taken eb e is = absurd (pointer_with_number width cond region at y taken e)
+numerals_tested width cond src s (ANumber x) (Pointer region at) taken eb e is = absurd (number_with_pointer width cond x region at taken e)
+numerals_tested width cond (FromReg r) s (Pointer region at) (Pointer other off) taken eb e is = absurd (two_pointers width cond r region other at off taken is e)
+numerals_tested width cond (Imm imm) s (Pointer region at) (Pointer other off) taken eb e is = absurd (false≢true (ap is_address (same_Some _ _ eb)))
+
 module _ (ends : Order) (notes : List (Option Place)) (turns : ℕ) (passed : Past) where
   fits_register : (kinds : Kinds) (s t : State) (r : Reg) → Between ends notes turns passed kinds s t → FitsKind turns passed (register_in s.top) (register_number r) (kinds (register_number r)) (register t r)
-  fits_register kinds s t r b = b.top.registers (register_number r) (register_below r)
+  fits_register kinds s t r b = b.top.registers (register_number r) (reg_below r)
 
   small : (s : State) (r : Reg) (x : ℕ) → IsState s → register s r ≡ Some (ANumber x) → x < 2 ^ 64
   small s r x state e = subst FitsMachine e (state.each_frame.0.values (register_number r))
@@ -267,10 +295,11 @@ module _ (ends : Order) (notes : List (Option Place)) (turns : ℕ) (passed : Pa
   tells : (cond : Cond) (width : Width) (dst : Reg) (src : Operand) (taken : Bool) (kinds : Kinds) (s t : State) (a b : Value) (p : Num × Num) → IsState s → Between ends notes turns passed kinds s t → register s dst ≡ Some a → operand s src ≡ Some b
       → test_of_values width cond a b ≡ Some taken → told_by kinds cond width taken dst src ≡ Some p → Tells p dst src s t
   tells cond width dst src taken kinds s t a b p state h ea eb et e =
-      option_and_then_some (λ nb. option_and_then (λ na. refine cond width taken na nb) (number_of (kinds (register_number dst)))) (operand_number kinds false src) p e (λ nb enb e1.
-      option_and_then_some (λ na. refine cond width taken na nb) (number_of (kinds (register_number dst))) p e1 (λ na ena e2.
-      let m = number_is (kinds (register_number dst)) na s dst (register t dst) state (fits_register kinds s t dst h) ena in
-      let n = operand_is false src nb kinds s t b state h eb (λ no. absurd (false≢true no)) enb in
+      let numeric = is_number_test width cond src in
+      option_and_then_some (λ nb. option_and_then (λ na. refine cond width taken na nb) (read_number numeric (kinds (register_number dst)))) (operand_number kinds numeric src) p e (λ nb enb e1.
+      option_and_then_some (λ na. refine cond width taken na nb) (read_number numeric (kinds (register_number dst))) p e1 (λ na ena e2.
+      let m = read_is numeric (kinds (register_number dst)) na s dst a (register t dst) state (fits_register kinds s t dst h) ea (λ is. (numerals_tested width cond src s a b taken eb et is).0) ena in
+      let n = operand_is numeric src nb kinds s t b state h eb (λ is. (numerals_tested width cond src s a b taken eb et is).1) enb in
       let a_is : a ≡ ANumber m.value = same_Some _ _ (sym ea ∙ m.old_is) in
       let b_is : b ≡ ANumber n.value = same_Some _ _ (sym eb ∙ n.old_is) in
       let test : jumps width cond m.value n.value ≡ taken = same_Some _ _ (sym (ap₂ (λ a b. test_of_values width cond a b) a_is b_is) ∙ et) in
@@ -320,7 +349,7 @@ module _ (ends : Order) (notes : List (Option Place)) (turns : ℕ) (passed : Pa
       i = JumpIf cond width dst src off
 
       other : (w : Reg) (k : ℕ) → 11 + k == register_number w ≡ false
-      other w k = let below = register_below w in ne_eqb (11 + k) (register_number w) (λ same. absurd (omega arith))
+      other w k = let below = reg_below w in ne_eqb (11 + k) (register_number w) (λ same. absurd (omega arith))
 
       no_operand : (src : Operand) (k : ℕ) → is_operand src (11 + k) ≡ false
       no_operand (Imm imm) k = refl

@@ -16,6 +16,7 @@ use Rattle.bpf_insn.specs.declared.instruction.Insn.TheVariants.{Alu, CallLocal,
 use Rattle.bpf_insn.specs.declared.instruction.Operand.TheVariants.{Reg as FromReg}
 use Rattle.bpf_insn.specs.declared.instruction.Width.TheVariants.{W64}
 use Rattle.bpf_insn.specs.declared.instruction.AluOp.TheVariants.{Add}
+use Rattle.bpf_insn.proofs.RegisterLemmas.{reg_below}
 use Rattle.bpf_semantics.specs.State.{StackFrame, State, IsFrame, IsState, FitsMachine, start, register, number_of_register, with_register, put, at_slot}
 use Rattle.bpf_semantics.specs.declared.value.Value.{Value}
 use Rattle.bpf_semantics.specs.declared.value.Value.TheVariants.{Number, Pointer}
@@ -46,7 +47,6 @@ use Rattle.bpf_follows_law.proofs.KindLemmas.{listed_at, unset_listed}
 use Rattle.bpf_follows_law.proofs.Lists.{bind, unmapped, cond_first, cond_second}
 use Rattle.bpf_follows_law.proofs.Onward.{Rooms, floor, room, placed, LieIn, Stays, Ends, Goes as GoesOn, Last, On, goes, exit_is, surely_in, spans_at}
 use Rattle.bpf_follows_law.proofs.Owns.{Owns, own_does, own_step}
-use Rattle.bpf_follows_law.proofs.Slots.{register_below}
 use Rattle.bpf_follows_law.proofs.Between.{Between, Goes}
 use Rattle.bpf_follows_law.proofs.Instruction.{redirect, distance_of, moved_is, is_flow, Arrived, same_arrives, number_same, fits_given, FallArrives, JumpArrives}
 use Rattle.bpf_follows_law.proofs.OffsetInsn.{framed_arrives}
@@ -299,7 +299,7 @@ module _ (computed : StepsAreComputed) (keeps : StepKeepsContext) (states : Step
           let w : ℤ = wrapped (offset +ℤ pos n) in
           let free = cond_second (register_number dst == 10) (Some (with_register (at_slot (s.top.slot + 1) s) (register_number dst) (Some v))) t ep in
           let t_is : with_register (at_slot (s.top.slot + 1) s) (register_number dst) (Some v) ≡ t = same_Some _ _ free.1 in
-          let there : register_in t.top (register_number dst) ≡ Some (Pointer region w) = ap (λ t. register_in t.top (register_number dst)) (sym t_is) ∙ get_or-set_same s.top.registers (register_number dst) (Some v) None (rw frame.eleven (register_below dst)) ∙ sym ev in
+          let there : register_in t.top (register_number dst) ≡ Some (Pointer region w) = ap (λ t. register_in t.top (register_number dst)) (sym t_is) ∙ get_or-set_same s.top.registers (register_number dst) (Some v) None (rw frame.eleven (reg_below dst)) ∙ sym ev in
           let at : t.top.slot ≡ s.top.slot + 1 = ap (λ t. t.top.slot) (sym t_is) in
           let lies = surely_in old (register_number dst) rooms region w (eqb-false (register_number dst) 10 free.0) farthest_ahead k t ends there in
           record {
@@ -338,7 +338,7 @@ module _ (computed : StepsAreComputed) (keeps : StepKeepsContext) (states : Step
     where
       spans : (r : Reg) (span : Span) (region : Region) (offset : ℤ) → get_or (spans_ahead old s.top.slot) (register_number r) None ≡ Some span → register_in s.top (register_number r) ≡ Some (Pointer region offset) → LieIn (floor rooms region) (room rooms region) (placed region offset) span
       spans r span region offset es is =
-          let a = spans_at old s.top.slot (register_number r) span (register_below r) es in
+          let a = spans_at old s.top.slot (register_number r) span (reg_below r) es in
           surely_in old (register_number r) rooms region offset a.0 farthest_ahead h.more s h.ends is span a.1
 
       in_packet : (n : ℕ) → passed.packet ≡ Some n → (r : Reg) (span : Span) (offset : ℤ) → get_or (spans_ahead old s.top.slot) (register_number r) None ≡ Some span → register_in s.top (register_number r) ≡ Some (Pointer Context offset) → LieIn head_bytes (n + head_bytes) offset span

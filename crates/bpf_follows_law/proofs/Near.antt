@@ -10,6 +10,7 @@ use Rattle.bpf_insn.specs.Effects.{Access, access_of, register_written}
 use Rattle.bpf_insn.specs.Instruction.{register_number, byte_count, not_negative}
 use Rattle.bpf_insn.specs.declared.instruction.Reg.{Reg}
 use Rattle.bpf_insn.specs.declared.instruction.Insn.{Insn}
+use Rattle.bpf_insn.proofs.RegisterLemmas.{reg_below}
 use Rattle.bpf_semantics.specs.State.{State, depth, register}
 use Rattle.bpf_semantics.specs.Memory.{Location, location_of, inside, is_within}
 use Rattle.bpf_semantics.specs.Memory.Location.{InFrame}
@@ -24,7 +25,7 @@ use Rattle.bpf_follows_law.specs.Returned.{is_call}
 use Rattle.bpf_follows_law.specs.Matching.{touches, is_written, writes_slot, is_changed, held, kinds_after}
 use Rattle.bpf_follows_law.proofs.Lists.{unmapped, cond_first}
 use Rattle.bpf_follows_law.proofs.Owns.{Owns}
-use Rattle.bpf_follows_law.proofs.Slots.{register_below, within, outside}
+use Rattle.bpf_follows_law.proofs.Slots.{within, outside}
 use Rattle.bpf_follows_law.proofs.Frames.{SlotsAre, InAll, InSome}
 
 -- ---- where an access by r10 lies
@@ -121,7 +122,7 @@ changed_slot i k call e = by_cases (cases_Bool (writes_slot i (11 + k)))
   where
     no_register : (o : Option Reg) → option_map_or (λ w. 11 + k == register_number w) o false ≡ false
     no_register None = refl
-    no_register (Some w) = let below = register_below w in ne_eqb (11 + k) (register_number w) (λ same. absurd (omega arith))
+    no_register (Some w) = let below = reg_below w in ne_eqb (11 + k) (register_number w) (λ same. absurd (omega arith))
 
     by_cases : (writes_slot i (11 + k) ≡ true) ⊎ (writes_slot i (11 + k) ≡ false) → writes_slot i (11 + k) ≡ true
     by_cases (inl w) = w

@@ -22,6 +22,7 @@ use Rattle.bpf_insn.specs.declared.instruction.Cond.{Cond}
 use Rattle.bpf_insn.specs.declared.instruction.Cond.TheVariants.{Eq, Ne}
 use Rattle.bpf_insn.specs.declared.instruction.Insn.{Insn}
 use Rattle.bpf_insn.specs.declared.instruction.Insn.TheVariants.{Alu, JumpIf}
+use Rattle.bpf_insn.proofs.RegisterLemmas.{reg_below}
 use Rattle.bpf_semantics.specs.State.{State, IsState, depth, register, with_register, put}
 use Rattle.bpf_semantics.specs.Step.{does, next, operand, same_region, alu_of_values, alu_result, test_of_values, jump, wrapped}
 use Rattle.bpf_semantics.specs.declared.value.Value.{Value}
@@ -40,7 +41,6 @@ use Rattle.bpf_follows_law.specs.Exact.{farthest, fixed_at}
 use Rattle.bpf_follows_law.specs.Matching.{copy_kind, within_at, within_ints, offset_sum, computed, moved_kind, is_equality, are_offsets, is_framed, kinds_after}
 use Rattle.bpf_follows_law.proofs.Lists.{bind, cond_first}
 use Rattle.bpf_follows_law.proofs.Owns.{Owns}
-use Rattle.bpf_follows_law.proofs.Slots.{register_below}
 use Rattle.bpf_follows_law.proofs.Has.{offset_has, has_area, unbounded_is, both_areas}
 use Rattle.bpf_follows_law.proofs.Frames.{is_of_register, holding, fits_anew}
 use Rattle.bpf_follows_law.proofs.Offsets.{up, up_from, down, apart, wrapped_fits, wrapped_near, equal_offsets, fits_64, moved_number, fixed_sum}
@@ -319,7 +319,7 @@ module _ (ends : Order) (notes : List (Option Place)) (turns : ℕ) (passed : Pa
   -- ---- the instructions
 
   pub fits_in : (kinds : Kinds) (s t : State) (r : Reg) → Between ends notes turns passed kinds s t → FitsKind turns passed (register_in s.top) (register_number r) (kinds (register_number r)) (register t r)
-  fits_in kinds s t r b = b.top.registers (register_number r) (register_below r)
+  fits_in kinds s t r b = b.top.registers (register_number r) (reg_below r)
 
   pub alu_arrives : (order : Order) (width : Width) (op : AluOp) (dst : Reg) (src : Operand) (made : Kind) (kinds : Kinds) (s t u : State) (v : Value) → Between ends notes turns passed kinds s t
       → Computes (register_in s.top 10) made v (option_and_then (alu_result width op (register t dst)) (operand t src)) → put dst v (next (Alu op width dst src) s) ≡ Some u

@@ -16,6 +16,7 @@ use Rattle.bpf_insn.specs.declared.instruction.Width.{Width}
 use Rattle.bpf_insn.specs.declared.instruction.Width.TheVariants.{W64}
 use Rattle.bpf_insn.specs.declared.instruction.AluOp.{AluOp}
 use Rattle.bpf_insn.specs.declared.instruction.AluOp.TheVariants.{Add, Mov}
+use Rattle.bpf_insn.proofs.RegisterLemmas.{reg_below}
 use Rattle.bpf_semantics.specs.State.{State, depth, register}
 use Rattle.bpf_semantics.specs.Step.{operand, alu_of_values, alu_result, wrapped}
 use Rattle.bpf_semantics.specs.declared.value.Value.{Value}
@@ -30,7 +31,6 @@ use Rattle.bpf_follows_law.specs.Extras.{is_r10}
 use Rattle.bpf_follows_law.specs.Inner.{inner_kind, number_bounds, added_bounds, inner_at, inner_copy, inner_sum, inner_made, reach}
 use Rattle.bpf_follows_law.proofs.Owns.{Owns}
 use Rattle.bpf_follows_law.proofs.Offsets.{wrapped_near, fits_64, fixed_sum}
-use Rattle.bpf_follows_law.proofs.Slots.{register_below}
 use Rattle.bpf_follows_law.proofs.Frames.{is_of_register, holding}
 use Rattle.bpf_follows_law.proofs.Between.{Between}
 use Rattle.bpf_follows_law.proofs.Near.{own_pointer}
@@ -92,7 +92,7 @@ module _ (ends : Order) (notes : List (Option Place)) (turns : ℕ) (passed : Pa
     where
       by_cases : (b : Bool) → is_r10 r ≡ b → PointsBy s (if b then Inner frame_bytes frame_bytes else kinds (register_number r)) v
       by_cases true e = record { offset = pos 0; is = own_pointer s r v o e ev; low = omega (arith, ints); high = omega (arith, ints) }
-      by_cases false e = kind_points (kinds (register_number r)) s r v (register t r) o (h.top.registers (register_number r) (register_below r)) ev
+      by_cases false e = kind_points (kinds (register_number r)) s r v (register t r) o (h.top.registers (register_number r) (reg_below r)) ev
 
   -- a value that fits a kind which r10 and itself decide
   pub record Makes (s : State) (made : Kind) (v : Value) : Type 0 where
@@ -130,7 +130,7 @@ module _ (ends : Order) (notes : List (Option Place)) (turns : ℕ) (passed : Pa
   added_moves (Imm imm) bounds kinds s t b h eb e =
       subst (λ (bounds : ℤ × ℤ). Moves bounds.0 bounds.1 b) (same_Some _ _ e)
       (record { number = extended imm; is = sym (same_Some _ _ eb); by = imm; above = omega (arith, ints); below = omega (arith, ints); moves = λ z fits. fixed_sum z imm fits })
-  added_moves (FromReg r) bounds kinds s t b h eb e = number_moves (kinds (register_number r)) bounds s r b (register t r) (h.top.registers (register_number r) (register_below r)) eb e
+  added_moves (FromReg r) bounds kinds s t b h eb e = number_moves (kinds (register_number r)) bounds s r b (register t r) (h.top.registers (register_number r) (reg_below r)) eb e
 
   -- what lies between numbers of 32 bits
   at_known : (s : State) (low high z : ℤ) (made : Kind) (v : Value) → Owns s → (FitsSigned w64 z → v ≡ Pointer (FrameAt (depth s)) z) → low ≤ℤ (z +ℤ pos frame_bytes) → (z +ℤ pos frame_bytes) ≤ℤ high → inner_at low high ≡ Some made → Makes s made v

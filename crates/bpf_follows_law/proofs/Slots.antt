@@ -7,10 +7,7 @@ use Rattle.std.proofs.lemmas.Bool.{false≢true, and_from, and_left, and_right, 
 use Rattle.std.proofs.lemmas.List.{get_or-drop}
 use Rattle.bpf_insn.specs.Limits.{frame_bytes}
 use Rattle.bpf_insn.specs.Order.{bytes_of, number_of}
-use Rattle.bpf_insn.specs.Instruction.{register_number}
 use Rattle.bpf_insn.specs.declared.order.Order.{Order}
-use Rattle.bpf_insn.specs.declared.instruction.Reg.{Reg}
-use Rattle.bpf_insn.specs.declared.instruction.Reg.TheVariants.{R0, R1, R2, R3, R4, R5, R6, R7, R8, R9, R10}
 use Rattle.bpf_insn.specs.declared.instruction.Size.TheVariants.{DW}
 use Rattle.bpf_semantics.specs.State.{Cell, State, FitsMachine, cell}
 use Rattle.bpf_semantics.specs.State.Cell.{Byte, Part}
@@ -30,19 +27,6 @@ use Rattle.bpf_follows_law.specs.declared.notes.Kind.TheVariants.{Nothing, Unset
 use Rattle.bpf_follows_law.specs.Relation.{Past, IsKept, EachPair, IsRead, cell_of, Holds, IsUnset, SlotKept, FitsSlot, as_number, is_free}
 use Rattle.bpf_follows_law.specs.Matching.{is_plain}
 use Rattle.bpf_follows_law.proofs.Lists.{mapped, same_is_kept, pairs_weaker, pair_at, Cells}
-
-pub register_below : (r : Reg) → register_number r < 11
-register_below R0 = omega arith
-register_below R1 = omega arith
-register_below R2 = omega arith
-register_below R3 = omega arith
-register_below R4 = omega arith
-register_below R5 = omega arith
-register_below R6 = omega arith
-register_below R7 = omega arith
-register_below R8 = omega arith
-register_below R9 = omega arith
-register_below R10 = omega arith
 
 -- ---- pairs of cells
 

@@ -19,6 +19,7 @@ use Rattle.bpf_insn.specs.declared.instruction.AluOp.{AluOp}
 use Rattle.bpf_insn.specs.declared.instruction.AluOp.TheVariants.{Add, Sub, Mov}
 use Rattle.bpf_insn.specs.declared.instruction.Insn.{Insn}
 use Rattle.bpf_insn.specs.declared.instruction.Insn.TheVariants.{Alu, Neg, MovSx, End, Store, Atomic}
+use Rattle.bpf_insn.proofs.RegisterLemmas.{reg_below}
 use Rattle.bpf_semantics.specs.State.{State, register, number_in, number_of_register}
 use Rattle.bpf_semantics.specs.Memory.{Location, location_of}
 use Rattle.bpf_semantics.specs.Step.{does, next, operand, alu_of_values, moved, alu_result, store}
@@ -38,7 +39,6 @@ use Rattle.bpf_follows_law.specs.Extras.{is_r10, slot_of}
 use Rattle.bpf_follows_law.specs.Stuck.{points, operand_points, is_misused, is_torn, is_wrong, may_lie, lies_outside, goes_outside, is_stuck}
 use Rattle.bpf_follows_law.proofs.Has.{offset_has, has_area}
 use Rattle.bpf_follows_law.proofs.Owns.{Owns}
-use Rattle.bpf_follows_law.proofs.Slots.{register_below}
 use Rattle.bpf_follows_law.proofs.Arrivals.{both_true}
 use Rattle.bpf_follows_law.proofs.Between.{Between}
 use Rattle.bpf_follows_law.proofs.Near.{near, slot_here}
@@ -114,7 +114,7 @@ module _ (ends : Order) (notes : List (Option Place)) (turns : ℕ) (passed : Pa
       record { region = h.region; offset = h.offset; is = same_Some _ _ (sym ev ∙ h.old_is) }
 
   points_is : (kinds : Kinds) (s t : State) (r : Reg) (v : Value) → Between ends notes turns passed kinds s t → points kinds r ≡ true → register s r ≡ Some v → IsPointer v
-  points_is kinds s t r v h e ev = kind_points (kinds (register_number r)) (register_in s.top) (register_number r) v (register t r) e (h.top.registers (register_number r) (register_below r)) ev
+  points_is kinds s t r v h e ev = kind_points (kinds (register_number r)) (register_in s.top) (register_number r) v (register t r) e (h.top.registers (register_number r) (reg_below r)) ev
 
   operand_is : (kinds : Kinds) (s t : State) (src : Operand) (v : Value) → Between ends notes turns passed kinds s t → operand_points kinds src ≡ true → operand s src ≡ Some v → IsPointer v
   operand_is kinds s t (Imm imm) v h e ev = absurd (false≢true e)
@@ -198,7 +198,7 @@ module _ (ends : Order) (notes : List (Option Place)) (turns : ℕ) (passed : Pa
       by_access None ea e = false≢true e
       by_access (Some a) ea e =
           let l = access_lies order i s u a ea ed in
-          kind_outside (kinds (register_number a.base)) a s (register_number a.base) l.0 l.1 (register t a.base) (h.top.registers (register_number a.base) (register_below a.base)) l.2 l.3 e
+          kind_outside (kinds (register_number a.base)) a s (register_number a.base) l.0 l.1 (register t a.base) (h.top.registers (register_number a.base) (reg_below a.base)) l.2 l.3 e
 
   -- there is no step
   pub stuck_stops : (order : Order) (bytes : ℕ) (i : Insn) (kinds : Kinds) (s t u : State) → Between ends notes turns passed kinds s t → Owns s → length s.context ≡ bytes → is_stuck bytes kinds i ≡ true → does order i s ≡ Some u → ⊥

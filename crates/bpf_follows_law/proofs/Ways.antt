@@ -18,6 +18,7 @@ use Rattle.bpf_insn.specs.declared.instruction.Width.TheVariants.{W64}
 use Rattle.bpf_insn.specs.declared.instruction.Cond.{Cond}
 use Rattle.bpf_insn.specs.declared.instruction.Cond.TheVariants.{Eq, Ne}
 use Rattle.bpf_insn.specs.declared.instruction.Insn.TheVariants.{JumpIf}
+use Rattle.bpf_insn.proofs.RegisterLemmas.{reg_below}
 use Rattle.bpf_semantics.specs.State.{State, IsState, register}
 use Rattle.bpf_semantics.specs.Step.{operand, test_of_values, same_region}
 use Rattle.bpf_semantics.specs.declared.value.Value.{Value}
@@ -32,14 +33,13 @@ use Rattle.bpf_follows_law.specs.Numbers.{may_answer}
 use Rattle.bpf_follows_law.specs.Exact.{exactly, operand_exactly, equal_fixed, decided_fixed, decided_numbers, decided_offsets, may_go}
 use Rattle.bpf_follows_law.proofs.Lists.{unmapped, cond_first}
 use Rattle.bpf_follows_law.proofs.Has.{area_same}
-use Rattle.bpf_follows_law.proofs.Slots.{register_below}
 use Rattle.bpf_follows_law.proofs.Arrivals.{both_true}
 use Rattle.bpf_follows_law.proofs.Between.{Between}
 use Rattle.bpf_follows_law.proofs.Known.{answers_by}
 
 module _ (ends : Order) (notes : List (Option Place)) (turns : ℕ) (passed : Past) where
   fits_at : (kinds : Kinds) (s t : State) (r : Reg) → Between ends notes turns passed kinds s t → FitsKind turns passed (register_in s.top) (register_number r) (kinds (register_number r)) (register t r)
-  fits_at kinds s t r b = b.top.registers (register_number r) (register_below r)
+  fits_at kinds s t r b = b.top.registers (register_number r) (reg_below r)
 
   pub exact_has : (old : ℕ → Option Value) (r : ℕ) (kind : Kind) (new : Option Value) (n : ℕ) → exactly kind ≡ Some n → FitsKind turns passed old r kind new → (old r ≡ Some (Number n)) × (new ≡ Some (Number n))
   exact_has old r (NumberKind least most) new n e f =

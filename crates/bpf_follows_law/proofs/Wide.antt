@@ -16,6 +16,7 @@ use Rattle.bpf_insn.specs.declared.instruction.AluOp.{AluOp}
 use Rattle.bpf_insn.specs.declared.instruction.AluOp.TheVariants.{Add, Mov}
 use Rattle.bpf_insn.specs.declared.instruction.Insn.{Insn}
 use Rattle.bpf_insn.specs.declared.instruction.Insn.TheVariants.{Alu}
+use Rattle.bpf_insn.proofs.RegisterLemmas.{reg_below}
 use Rattle.bpf_semantics.specs.State.{State, IsState, register, put}
 use Rattle.bpf_semantics.specs.Step.{does, next, operand, alu_result}
 use Rattle.bpf_semantics.specs.declared.value.Value.{Value}
@@ -30,7 +31,6 @@ use Rattle.bpf_follows_law.specs.Exact.{by_exact}
 use Rattle.bpf_follows_law.specs.Matching.{AreSame, result_kind, is_sum, is_moved, is_natural, is_wide, widened, is_far_put}
 use Rattle.bpf_follows_law.proofs.Lists.{bind}
 use Rattle.bpf_follows_law.proofs.Owns.{Owns}
-use Rattle.bpf_follows_law.proofs.Slots.{register_below}
 use Rattle.bpf_follows_law.proofs.Between.{Between}
 use Rattle.bpf_follows_law.proofs.Instruction.{both_true, is_flow, Arrived, FallArrives, Tame, same_arrives}
 use Rattle.bpf_follows_law.proofs.ExactInsn.{exact_arrives}
@@ -127,7 +127,7 @@ module _ (ends : Order) (notes : List (Option Place)) (turns : ℕ) (passed : Pa
   natural_alike (negsuc n) op e = absurd (false≢true e)
 
   fits_register : (kinds : Kinds) (s t : State) (r : Reg) → Between ends notes turns passed kinds s t → FitsKind turns passed (register_in s.top) (register_number r) (kinds (register_number r)) (register t r)
-  fits_register kinds s t r b = b.top.registers (register_number r) (register_below r)
+  fits_register kinds s t r b = b.top.registers (register_number r) (reg_below r)
 
   wide_alike : (op : AluOp) (dst : Reg) (src : Operand) (kinds : Kinds) (s t : State) → Between ends notes turns passed kinds s t → is_wide kinds op dst src ≡ true → IsAlike kinds op dst src t
   wide_alike Mov dst (Imm imm) kinds s t b e = record { same = tt; value = ANumber (extended imm); is = refl; alike = natural_alike imm (register t dst) e }

@@ -14,6 +14,7 @@ use Rattle.bpf_insn.specs.declared.instruction.Width.TheVariants.{W64}
 use Rattle.bpf_insn.specs.declared.instruction.AluOp.{AluOp}
 use Rattle.bpf_insn.specs.declared.instruction.AluOp.TheVariants.{Add, Sub, Mov}
 use Rattle.bpf_insn.specs.declared.instruction.Cond.{Cond}
+use Rattle.bpf_insn.specs.declared.instruction.Cond.TheVariants.{Eq, Ne}
 use Rattle.bpf_insn.specs.declared.instruction.Insn.{Insn}
 use Rattle.bpf_insn.specs.declared.instruction.Insn.TheVariants.{Alu, Load, JumpIf}
 use Rattle.bpf_num.specs.Tristate.{bits_top}
@@ -97,10 +98,18 @@ number_kind kinds i = Same
 
 -- ---- tests
 
+-- what tests numbers alone: what takes a constant, and each test but two of 64-bit values, equal or not
+abbrev pub is_number_test : Width → Cond → Operand → Bool
+is_number_test width cond (Imm imm) = true
+is_number_test W64 Eq (FromReg r) = false
+is_number_test W64 Ne (FromReg r) = false
+is_number_test width cond (FromReg r) = true
+
 -- both operands, where the test holds (`taken`) or fails
 abbrev pub told_by : Kinds → Cond → Width → Bool → Reg → Operand → Option (Num × Num)
 told_by kinds cond width taken dst src =
-    option_and_then (λ b. option_and_then (λ a. refine cond width taken a b) (number_of (kinds (register_number dst)))) (operand_number kinds false src)
+    option_and_then (λ b. option_and_then (λ a. refine cond width taken a b) (read_number (is_number_test width cond src) (kinds (register_number dst))))
+    (operand_number kinds (is_number_test width cond src) src)
 
 -- whether numbers between the bounds of both operands may answer so
 abbrev pub may_answer : Kinds → Cond → Width → Bool → Reg → Operand → Bool

@@ -8,6 +8,8 @@ use Rattle.std.proofs.lemmas.Bool.{lt-ltb, le-ltb}
 use Rattle.bpf_insn.specs.Instruction.{register_number}
 use Rattle.bpf_insn.specs.Limits.{max_slots}
 use Rattle.bpf_insn.specs.declared.instruction.Reg.{Reg}
+use Rattle.bpf_insn.proofs.RegisterLemmas.{reg_below}
+use Rattle.bpf_lines.specs.Words.{behind}
 use Rattle.bpf_follows_law.specs.declared.notes.Area.{Area}
 use Rattle.bpf_follows_law.specs.declared.notes.Area.TheVariants.{Given, Own}
 use Rattle.bpf_follows_law.specs.declared.notes.Kind.{Kind}
@@ -16,9 +18,9 @@ use Rattle.bpf_follows_law.specs.declared.notes.Place.{Place}
 use Rattle.bpf_follows_notes.specs.declared.error.NotesError.{NotesError}
 use Rattle.bpf_follows_notes.specs.declared.error.NotesError.TheVariants.{Form}
 use Rattle.bpf_follows_notes.specs.NotesText.{IntFits, KindFits, PlaceFits, NoteFits, entry_text, behind_text, bounds_text, kept_text, beside_text, area_text, held_text, kinds_text, place_text, note_text, note_line, note_lines}
-use Rattle.bpf_follows_notes.specs.code.Reading.{behind, number_in, word_in, value_in, bounds_in, behind_in, plain_in, numbered_in, offset_in, area_in, kind_in, entry_in, kinds_in, nothing_said, place_in, note_in, taken_at, with_front, lines_in, after_lines, saved_in, kept_in, closing_in, held_in}
-use Rattle.bpf_follows_notes.proofs.Spelled.{behind_word}
-use Rattle.bpf_follows_notes.proofs.Decimals.{Ends, digits_again, number_again, int_again, register_again, register_small}
+use Rattle.bpf_follows_notes.specs.code.Reading.{number_in, word_in, value_in, bounds_in, behind_in, plain_in, numbered_in, offset_in, area_in, kind_in, entry_in, kinds_in, nothing_said, place_in, note_in, taken_at, with_front, lines_in, after_lines, saved_in, kept_in, closing_in, held_in}
+use Rattle.bpf_lines.proofs.WordLemmas.{behind_word}
+use Rattle.bpf_follows_notes.proofs.Decimals.{Ends, digits_again, number_again, int_again, register_again}
 
 -- ---- kinds
 
@@ -169,7 +171,7 @@ ending_again by fits c rest h = rw (digits_again by c rest fits h) refl
 
 saved_again : (of : Reg) (c : ℕ) (rest : List ℕ) → Ends c → kind_in ((codes "saved:r" ++ decimal (register_number of)) ++ c ∷ rest) ≡ Some (Saved of, c ∷ rest)
 unfolding kind_in plain_in word_in numbered_in value_in bounds_in number_in held_in kept_in closing_in saved_in behind
-saved_again of c rest h = rw (digits_again (register_number of) c rest (omega (arith, register_small of)) h, register_again of) refl
+saved_again of c rest h = rw (digits_again (register_number of) c rest (omega (arith, reg_below of)) h, register_again of) refl
 
 -- no other such word stands there
 no_number_front : (text : List ℕ) → bounds_in (codes "number:") (107 ∷ text) ≡ None
@@ -192,7 +194,7 @@ kept_again of least most low high c rest h =
       no_number_front (codes "ept:r" ++ (decimal (register_number of) ++ (58 ∷ (bounds_text least most ++ c ∷ rest)))),
       no_returns_front (codes "ept:r" ++ (decimal (register_number of) ++ (58 ∷ (bounds_text least most ++ c ∷ rest)))),
       no_inner_front (codes "ept:r" ++ (decimal (register_number of) ++ (58 ∷ (bounds_text least most ++ c ∷ rest)))),
-      digits_again (register_number of) 58 (bounds_text least most ++ c ∷ rest) (omega (arith, register_small of)) (refl, refl),
+      digits_again (register_number of) 58 (bounds_text least most ++ c ∷ rest) (omega (arith, reg_below of)) (refl, refl),
       register_again of,
       both_again (codes ":") least most low high c rest h,
     ) refl
@@ -211,7 +213,7 @@ unfolding behind_in behind
 beside_again word of by fits c rest h =
     rw (
       append_assoc (decimal (register_number of)) (58 ∷ signed_decimal by) (c ∷ rest),
-      number_again word (register_number of) 58 (signed_decimal by ++ c ∷ rest) (omega (arith, register_small of)) (refl, refl),
+      number_again word (register_number of) 58 (signed_decimal by ++ c ∷ rest) (omega (arith, reg_below of)) (refl, refl),
       register_again of,
       int_again by c rest fits h,
     ) refl

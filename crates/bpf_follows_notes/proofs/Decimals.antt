@@ -7,9 +7,10 @@ use Rattle.std.proofs.lemmas.Fmt.{decimal_by_steps}
 use Rattle.bpf_insn.specs.Instruction.{register_number}
 use Rattle.bpf_insn.specs.declared.instruction.Reg.{Reg}
 use Rattle.bpf_insn.specs.declared.instruction.Reg.TheVariants.{R0, R1, R2, R3, R4, R5, R6, R7, R8, R9, R10}
+use Rattle.bpf_lines.specs.Words.{behind}
 use Rattle.bpf_follows_notes.specs.NotesText.{IntFits}
-use Rattle.bpf_follows_notes.specs.code.Reading.{behind, is_digit, digits_in, number_in, minus_in, plus_in, int_in, register_at}
-use Rattle.bpf_follows_notes.proofs.Spelled.{behind_word}
+use Rattle.bpf_follows_notes.specs.code.Reading.{is_digit, digits_in, number_in, minus_in, plus_in, int_in, register_at}
+use Rattle.bpf_lines.proofs.WordLemmas.{behind_word}
 
 -- ---- numbers
 
@@ -74,16 +75,3 @@ register_again R7 = refl
 register_again R8 = refl
 register_again R9 = refl
 register_again R10 = refl
-
-pub register_small : (r : Reg) → register_number r < 11
-register_small R0 = omega arith
-register_small R1 = omega arith
-register_small R2 = omega arith
-register_small R3 = omega arith
-register_small R4 = omega arith
-register_small R5 = omega arith
-register_small R6 = omega arith
-register_small R7 = omega arith
-register_small R8 = omega arith
-register_small R9 = omega arith
-register_small R10 = omega arith

@@ -3,13 +3,14 @@ use Rattle.std.proofs.Common.{◌≡◌, ℕ, zero, suc, ◌+◌, ◌≤◌, ◌
 use Rattle.std.specs.Prelude.{option_map, Result, Ok, Err}
 use Rattle.std.specs.Option.{option_map_or}
 use Rattle.bpf_insn.specs.Limits.{max_slots}
+use Rattle.bpf_lines.specs.Words.{behind}
 use Rattle.bpf_follows_law.specs.declared.notes.Place.{Place}
 use Rattle.bpf_follows_notes.specs.declared.error.NotesError.{NotesError}
 use Rattle.bpf_follows_notes.specs.declared.error.NotesError.TheVariants.{Form}
 use Rattle.bpf_follows_notes.specs.NotesText.{note_line, note_lines}
 use Rattle.bpf_follows_notes.specs.Refused.{NoLine, StopsAt}
-use Rattle.bpf_follows_notes.specs.code.Reading.{◌>>=◌, behind, note_in, taken_at, with_front, lines_in}
-use Rattle.bpf_follows_notes.proofs.Spelled.{behind_is}
+use Rattle.bpf_follows_notes.specs.code.Reading.{◌>>=◌, note_in, taken_at, with_front, lines_in}
+use Rattle.bpf_lines.proofs.WordLemmas.{behind_is}
 use Rattle.bpf_follows_notes.proofs.Again.{taken_again}
 
 taken_is : (slot : ℕ) (text : List ℕ) (note : Option Place) (rest : List ℕ) → taken_at slot text ≡ Some (note, rest) → text ≡ note_line slot note ++ rest

@@ -2,13 +2,14 @@
 use Rattle.std.proofs.Common.{◌≡◌, ◌≢◌, ℕ, ◌⊎◌, inl, inr, List, ◌++◌, Option, Some, None, sym, ap, subst, ◌∙◌, arith}
 use Rattle.std.specs.Prelude.{Result, Ok, Err, MatchResult, IfOk, IfErr}
 use Rattle.bpf_insn.specs.Limits.{max_slots}
+use Rattle.bpf_lines.specs.Words.{behind}
 use Rattle.bpf_follows_law.specs.declared.notes.Place.{Place}
 use Rattle.bpf_follows_notes.specs.declared.error.NotesError.{NotesError}
 use Rattle.bpf_follows_notes.specs.declared.error.NotesError.TheVariants.{Form, Memory}
 use Rattle.bpf_follows_notes.specs.NotesText.{AreNotes, note_lines, head_line, notes_text}
 use Rattle.bpf_follows_notes.specs.Refused.{IsRefused, StopsAt}
-use Rattle.bpf_follows_notes.specs.code.Reading.{behind, lines_in}
-use Rattle.bpf_follows_notes.proofs.Spelled.{behind_word, behind_is}
+use Rattle.bpf_follows_notes.specs.code.Reading.{lines_in}
+use Rattle.bpf_lines.proofs.WordLemmas.{behind_word, behind_is}
 use Rattle.bpf_follows_notes.proofs.Again.{lines_again}
 use Rattle.bpf_follows_notes.proofs.Found.{found, refused}
 

@@ -1,7 +1,9 @@
 //! Numbers in decimal digits.
 
 ghost use Rattle.std.specs.Prelude.{◌≡◌, option_map};
-ghost use Rattle.bpf_follows_notes.specs.code.Reading.{behind, with_digit, digits_in, number_in, signed_of, minus_in, plus_in, int_in};
+ghost use Rattle.bpf_follows_notes.specs.code.Reading.{with_digit, digits_in, number_in, signed_of, minus_in, plus_in, int_in};
+
+use bpf_lines::behind;
 
 /// The number with one digit more, if it has 32 bits.
 fn with_digit(number: u32, digit: u8) -> Option<u32>
@@ -9,13 +11,6 @@ fn with_digit(number: u32, digit: u8) -> Option<u32>
 {
     let more = u64::from(number) * 10 + u64::from(digit.saturating_sub(b'0'));
     u32::try_from(more).ok()
-}
-
-/// What stands behind the word.
-pub fn behind<'a>(text: &'a [u8], word: &[u8]) -> Option<&'a [u8]>
-    ensures { option_map (λ x. x.now) result ≡ behind word.now text.now }
-{
-    text.strip_prefix(word)
 }
 
 /// The number at the front, and what stands behind its digits.

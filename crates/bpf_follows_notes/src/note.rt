@@ -3,9 +3,10 @@
 ghost use Rattle.std.specs.Prelude.{◌≡◌, option_map};
 ghost use Rattle.bpf_follows_notes.specs.code.Reading.{register_at, plain_in, value_in, bounds_in, behind_in, saved_in, kept_in, closing_in, held_in, numbered_in, offset_in, area_in, kind_in, entry_in, kinds_in, nothing_said, place_in, note_in};
 
-use crate::digits::{behind, int_in, number_in};
+use crate::digits::{int_in, number_in};
 use bpf_follows_law::{Area, Kind, Kinds, PLACES, Place};
 use bpf_insn::Reg;
+use bpf_lines::behind;
 
 /// How many registers there are.
 const REGISTERS: usize = 11;

@@ -8,12 +8,12 @@ ghost use Rattle.bpf_follows_notes.specs.NotesText.{AreNotes, notes_text};
 ghost use Rattle.bpf_follows_notes.specs.Refused.{IsRefused};
 ghost use Rattle.bpf_follows_notes.specs.code.Reading.{taken_at, lines_in};
 
-use crate::digits::behind;
 use crate::error::NotesError;
 use crate::note::note_in;
 use crate::writing::{HEAD, put_line};
 use bpf_follows_law::Place;
 use bpf_insn::MAX_SLOTS;
+use bpf_lines::behind;
 use std::alloc::{AllocError, Global};
 
 /// A note, and what stands behind its line.

@@ -236,8 +236,9 @@ fn written(facts: &Facts, site: &Site) -> Kind {
 /// What a test tells where it leads away (`taken`), or goes on.
 fn tell(facts: &mut Facts, site: &Site, taken: bool) {
     for number in 0..REGISTERS as u8 {
-        if let Kind::Number { .. } | Kind::Natural { .. } = facts.get(Reg::numbered(number)) {
-            facts.set(Reg::numbered(number), told(site, taken, number));
+        let r = Reg::numbered(number);
+        if let Kind::Same | Kind::Both | Kind::Number { .. } | Kind::Natural { .. } = facts.get(r) {
+            facts.set(r, told(site, taken, number));
         }
     }
 }

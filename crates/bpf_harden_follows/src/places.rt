@@ -1,4 +1,5 @@
-//! The places of a hardened program, by the slots of the old one.
+//! The places of a hardened program, by the slots of the old one: an abstract interpretation of both, with widening. The lowest slot is looked
+//! at first, so that a loop is settled before what stands behind it.
 
 use crate::behind::{Frames, step};
 use crate::extra::{pass, taken, tested};
@@ -14,7 +15,10 @@ use std::alloc::{AllocError, Global};
 /// The most instructions that are looked at in front of an old one.
 const MOST_EXTRA: u32 = 128;
 
-/// The most rounds over all slots. What isn't stable by then isn't shown.
+/// How often each slot is looked at, in the mean. What isn't stable by then isn't shown.
+const LOOKS: u32 = 96;
+
+/// How often calls of which no EXIT is found are taken to give back anything.
 const ROUNDS: u32 = 96;
 
 /// How often bounds grow at a slot before they grow at once, and before they pass by what the old program compares with.
@@ -38,6 +42,10 @@ struct Finder<'a> {
     facts: Vec<Option<Facts>>,
     /// By old slots, whether that was changed since it was looked at.
     is_new: Vec<bool>,
+    /// No slot below this one is such.
+    next: u32,
+    /// How many slots may still be looked at.
+    looks: u32,
     /// The bytes of a context.
     length: u32,
     frames: Frames,
@@ -117,6 +125,8 @@ impl<'a> Finder<'a> {
             entries,
             facts: vec![in alloc; None; old.slots() as usize]?,
             is_new: vec![in alloc; false; old.slots() as usize]?,
+            next: 0,
+            looks: old.slots().saturating_mul(LOOKS),
             length,
             frames,
             times: vec![in alloc; 0; old.slots() as usize]?,
@@ -243,8 +253,14 @@ impl<'a> Finder<'a> {
         if is_new {
             put(&mut self.times, slot, times.saturating_add(1));
             put(&mut self.facts, slot, Some(found));
-            put(&mut self.is_new, slot, true);
+            self.renew(slot);
         }
+    }
+
+    /// A slot is to be looked at.
+    fn renew(&mut self, slot: u32) {
+        put(&mut self.is_new, slot, true);
+        self.next = self.next.min(slot);
     }
 
     /// A call, or the start, leads to a function's first slot.
@@ -273,7 +289,7 @@ impl<'a> Finder<'a> {
         for slot in 0..self.old.slots() {
             if let Some(insn) = self.old.at(slot) {
                 if matches!(*insn, Insn::CallLocal { .. }) && led(slot, insn) == Some(function) {
-                    put(&mut self.is_new, slot, true);
+                    self.renew(slot);
                 }
             }
         }
@@ -312,7 +328,7 @@ impl<'a> Finder<'a> {
             if let (Insn::CallLocal { .. }, Some(to)) = (*insn, led(slot, insn)) {
                 if self.returns.given(to).is_none() {
                     self.returns.give(to, Kind::Same);
-                    put(&mut self.is_new, slot, true);
+                    self.renew(slot);
                     is_found = true;
                 }
             }
@@ -366,20 +382,28 @@ impl<'a> Finder<'a> {
         }
     }
 
-    /// Goes on from each old slot where something is new. Whether there was one.
-    fn round(&mut self) -> bool {
-        let mut is_changed = false;
-        for slot in 0..self.old.slots() {
-            if let (Some(facts), Some(true)) = (
-                at(&self.facts, slot),
-                self.is_new.get(slot as usize).copied(),
-            ) {
-                put(&mut self.is_new, slot, false);
-                self.go_on(slot, &facts);
-                is_changed = true;
-            }
+    /// Goes on from an old slot, if something is new there.
+    fn look(&mut self, slot: u32) {
+        if let (Some(facts), Some(true)) = (
+            at(&self.facts, slot),
+            self.is_new.get(slot as usize).copied(),
+        ) {
+            put(&mut self.is_new, slot, false);
+            self.go_on(slot, &facts);
         }
-        is_changed
+    }
+
+    /// Goes on from the lowest old slot where something is new, until nothing is, or no more slots may be looked at.
+    fn settle(&mut self) {
+        for _ in 0..self.looks {
+            let slot = self.next;
+            if slot >= self.old.slots() {
+                return;
+            }
+            self.next = slot.saturating_add(1);
+            self.looks = self.looks.saturating_sub(1);
+            self.look(slot);
+        }
     }
 
     /// What stands for an old slot, if a way leads there.
@@ -433,7 +457,8 @@ fn found<'a>(
     let mut finder = Finder::new(alloc, old, new, bounds.length, frames)?;
     finder.enter(0, &Facts::start(bounds, are_alone));
     for _ in 0..ROUNDS {
-        if !finder.round() && !finder.unanswered() {
+        finder.settle();
+        if !finder.unanswered() {
             break;
         }
     }

@@ -116,11 +116,8 @@ fn led(piece: &Piece, distance: i32) -> Result<Insn, HardenError> {
     let off = displacement(i64::from(distance));
     let is_near = i32::from(off) == distance;
     match piece.insn {
-        Insn::Ja { .. } | Insn::JaLong { .. } => if is_near {
-            Ok(Insn::Ja { off })
-        } else {
-            Ok(Insn::JaLong { off: distance })
-        },
+        Insn::Ja { .. } if is_near => Ok(Insn::Ja { off }),
+        Insn::Ja { .. } | Insn::JaLong { .. } => Ok(Insn::JaLong { off: distance }),
         Insn::CallLocal { .. } => Ok(Insn::CallLocal { off: distance }),
         Insn::JumpIf {
             cond,

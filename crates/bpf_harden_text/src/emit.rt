@@ -3,7 +3,7 @@
 use crate::access::Site;
 use crate::draft::Draft;
 use crate::edits::{widened, with_offset};
-use crate::parts::{JUMP, add_constant, fetch, keep};
+use crate::parts::{add_constant, fetch, keep};
 use crate::piece::Goal;
 use crate::region::Region;
 use crate::temps::{Temp, first_of};
@@ -149,11 +149,7 @@ impl<'a> Writer<'a> {
     fn put_other(&mut self, slot: u32, insn: &Insn) -> Result<(), HardenError> {
         match Flow::of(slot, insn) {
             Flow::Next | Flow::Exit => self.put_edited(slot, insn, Goal::Next),
-            Flow::Jump(target) => {
-                let goal = self.goal(slot, target);
-                Ok(self.put(slot, JUMP, goal, None)?)
-            }
-            Flow::Branch(target) => {
+            Flow::Jump(target) | Flow::Branch(target) => {
                 let goal = self.goal(slot, target);
                 self.put_edited(slot, insn, goal)
             }

@@ -12,8 +12,6 @@ use Rattle.bpf_harden_notes.specs.declared.error.HardenError.TheVariants.{Memory
 use Rattle.bpf_host_runs.specs.Told.{TellsImage}
 use Rattle.bpf_host_runs.specs.declared.answers.BpfRefusal.{BpfRefusal}
 use Rattle.bpf_host_advice.specs.Told.{TellsHardening}
-use Rattle.bpf_host_advice.specs.declared.hardening.Unhardened.{Unhardened}
-use Rattle.bpf_host_advice.specs.declared.hardening.Unhardened.TheVariants.{Memory as Spent, Refused as Told}
 
 -- bytes are the image of a program
 pub record IsProgramsImage (bytes : List ℕ) : Type 0 where
@@ -41,8 +39,3 @@ pub record IsUnhardened (order : Order) (image : List ℕ) (told : BpfRefusal) :
 -- the image is refused, or its program isn't hardened, as is told
 abbrev pub IsNotHardened : Order → List ℕ → BpfRefusal → Type 0
 IsNotHardened order image told = ((e : DecodeError) × IsRefused order image e × TellsImage e told) ⊎ IsUnhardened order image told
-
--- a refusal is told; where memory ran out there is nothing to tell
-abbrev pub IsToldUnhardened : Order → List ℕ → Unhardened → Type 0
-IsToldUnhardened order image Spent = Unit {0}
-IsToldUnhardened order image (Told told) = IsNotHardened order image told

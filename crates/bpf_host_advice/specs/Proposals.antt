@@ -14,8 +14,6 @@ use Rattle.bpf_infer_error.specs.declared.error.InferError.TheVariants.{Memory a
 use Rattle.bpf_host_runs.specs.Told.{TellsImage}
 use Rattle.bpf_host_runs.specs.declared.answers.BpfRefusal.{BpfRefusal}
 use Rattle.bpf_host_advice.specs.Told.{TellsInference}
-use Rattle.bpf_host_advice.specs.declared.proposal.Unproposed.{Unproposed}
-use Rattle.bpf_host_advice.specs.declared.proposal.Unproposed.TheVariants.{Memory as NoMemory, Refused}
 
 -- a text spells a certificate of version 2 for contexts of least to most bytes
 pub record IsProposal (least most : ℕ) (text : List ℕ) : Type 0 where
@@ -45,8 +43,3 @@ pub record IsUnproposed (order : Order) (image : List ℕ) (told : BpfRefusal) :
 -- the image is refused, or no certificate is proposed for its program, as is told
 abbrev pub IsNotProposed : Order → List ℕ → BpfRefusal → Type 0
 IsNotProposed order image told = ((e : DecodeError) × IsRefused order image e × TellsImage e told) ⊎ IsUnproposed order image told
-
--- a refusal is told; where memory ran out there is nothing to tell
-abbrev pub IsToldUnproposed : Order → List ℕ → Unproposed → Type 0
-IsToldUnproposed order image NoMemory = Unit {0}
-IsToldUnproposed order image (Refused told) = IsNotProposed order image told

@@ -7,6 +7,8 @@ use Rattle.bpf_harden_notes.specs.RefusalNumbers.{harden_number, harden_slot}
 use Rattle.bpf_harden_notes.specs.declared.error.HardenError.{HardenError}
 use Rattle.bpf_harden_notes.specs.declared.error.HardenError.TheVariants.{Fault as Unmended}
 use Rattle.bpf_host_runs.specs.declared.answers.BpfRefusal.{BpfRefusal}
+use Rattle.bpf_host_advice.specs.declared.refusals.Unmade.{Unmade}
+use Rattle.bpf_host_advice.specs.declared.refusals.Unmade.TheVariants.{Memory as NoMemory, Refused as RefusedAs}
 
 -- the number of the checker's condition that an instruction would fail, from 3 to 12
 abbrev pub condition_of : InferError → ℕ
@@ -28,3 +30,8 @@ unhardened_condition error = 0
 -- of a hardening: H (72), its number, its slot and the condition
 abbrev pub TellsHardening : HardenError → BpfRefusal → Type 0
 TellsHardening e r = r ≡ record { kind = 72; number = harden_number e; place = harden_slot e; condition = unhardened_condition e }
+
+-- a refusal tells so; where memory ran out there is nothing to tell
+abbrev pub IsTold : (BpfRefusal → Type 0) → Unmade → Type 0
+IsTold Tells NoMemory = Unit {0}
+IsTold Tells (RefusedAs told) = Tells told

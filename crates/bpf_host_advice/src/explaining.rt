@@ -11,6 +11,7 @@ use crate::explanation::{Given, Judged, checked, read_alone, searched, shown_of}
 use crate::proposal::give;
 use bpf_explain::Search;
 use bpf_host_runs::{BAD_CALL, BpfRefusal, DONE, NO_MEMORY, REFUSED, order_of};
+use bpf_infer::Wanted;
 use bpf_insn::MAX_CONTEXT;
 use std::alloc::Global;
 
@@ -131,9 +132,11 @@ pub fn explain_search(
         return BAD_CALL;
     };
     let asked = Search {
-        least,
-        most,
-        deep: deep == 1,
+        wanted: Wanted {
+            least,
+            most,
+            deep: deep == 1,
+        },
         shown,
     };
     let mut words = Vec::new(alloc);

@@ -137,9 +137,9 @@ pub(crate) fn searched(
     given: Given<'_>,
     asked: Search<'_>,
 ) -> Option<Judged>
-    requires order { asked.least ≤ asked.most }
-    requires short { asked.most ≤ max_context }
-    ensures { IfSome result (IsSearchedAs given.entry.order given.entry.image.now asked.entry.least asked.entry.most) }
+    requires order { asked.wanted.least ≤ asked.wanted.most }
+    requires short { asked.wanted.most ≤ max_context }
+    ensures { IfSome result (IsSearchedAs given.entry.order given.entry.image.now asked.entry.wanted.least asked.entry.wanted.most) }
 {
     let program = match decode(alloc, given.image, given.order) {
         Ok(program) => program,

@@ -3,22 +3,14 @@
 ghost use Rattle.std.specs.Prelude.{◌≡◌, ◌≤◌, IfOk, IfErr, IfSome};
 ghost use Rattle.bpf_insn.specs.Limits.{max_context};
 ghost use Rattle.bpf_insn.specs.Image.{IsProgram, image};
-ghost use Rattle.bpf_host_advice.specs.Hardened.{IsProgramsImage, IsToldUnhardened};
+ghost use Rattle.bpf_host_advice.specs.Hardened.{IsProgramsImage, IsNotHardened};
+ghost use Rattle.bpf_host_advice.specs.Told.{IsTold};
 
-use crate::refusals::of_hardening;
+use crate::refusals::{Unmade, of_hardening};
 use bpf_harden::{HardenError, Options, harden};
-use bpf_host_runs::{BpfRefusal, of_image};
+use bpf_host_runs::of_image;
 use bpf_insn::{Code, DecodeError, Order, Program, decode, encode};
 use std::alloc::Global;
-
-/// Why there is no hardened image.
-#[derive(Clone, Copy)]
-pub(crate) enum Unhardened {
-    /// Memory ran out.
-    Memory,
-    /// The image is refused, or its program isn't hardened.
-    Refused(BpfRefusal),
-}
 
 /// The image of a program; None where memory ran out.
 fn image_of(alloc: Global, program: &Program) -> Option<Vec<u8>>
@@ -39,23 +31,23 @@ pub(crate) fn hardened(
     order: Order,
     length: u32,
     options: &Options,
-) -> Result<Vec<u8>, Unhardened>
+) -> Result<Vec<u8>, Unmade>
     requires { length ≤ max_context }
     ensures ok { IfOk result (λ bytes. IsProgramsImage bytes.items) }
-    ensures err { IfErr result (IsToldUnhardened order image.now) }
+    ensures err { IfErr result (IsTold (IsNotHardened order image.now)) }
 {
     let program = match decode(alloc, image, order) {
         Ok(program) => program,
-        Err(DecodeError::Memory) => return Err(Unhardened::Memory),
-        Err(error) => return Err(Unhardened::Refused(of_image(error))),
+        Err(DecodeError::Memory) => return Err(Unmade::Memory),
+        Err(error) => return Err(Unmade::Refused(of_image(error))),
     };
     let hardened = match harden(alloc, &program, length, options) {
         Ok(hardened) => hardened,
-        Err(HardenError::Memory) => return Err(Unhardened::Memory),
-        Err(error) => return Err(Unhardened::Refused(of_hardening(error))),
+        Err(HardenError::Memory) => return Err(Unmade::Memory),
+        Err(error) => return Err(Unmade::Refused(of_hardening(error))),
     };
     match image_of(alloc, &hardened.program) {
         Some(bytes) => Ok(bytes),
-        None => Err(Unhardened::Memory),
+        None => Err(Unmade::Memory),
     }
 }

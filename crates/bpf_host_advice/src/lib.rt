@@ -18,10 +18,12 @@ mod texts;
 
 use bpf_harden::Options;
 use bpf_host_runs::{BAD_CALL, BpfRefusal, NO_MEMORY, REFUSED, order_of};
+use bpf_infer::Wanted;
 use bpf_insn::MAX_CONTEXT;
 pub use explaining::{explain, explain_image, explain_search};
-use hardening::{Unhardened, hardened};
-use proposal::{Unproposed, Wanted, give, proposal};
+use hardening::hardened;
+use proposal::{give, proposal};
+use refusals::Unmade;
 use std::alloc::Global;
 use texts::{give_beginning, text_of};
 
@@ -62,8 +64,8 @@ pub fn infer(
     };
     match proposal(alloc, image, order, wanted_of) {
         Ok(words) => give(&words, text, wanted),
-        Err(Unproposed::Memory) => NO_MEMORY,
-        Err(Unproposed::Refused(told)) => {
+        Err(Unmade::Memory) => NO_MEMORY,
+        Err(Unmade::Refused(told)) => {
             *refusal = told;
             REFUSED
         }
@@ -111,8 +113,8 @@ pub fn harden(
     };
     match hardened(alloc, image, order, size, &options) {
         Ok(bytes) => give(&bytes, text, wanted),
-        Err(Unhardened::Memory) => NO_MEMORY,
-        Err(Unhardened::Refused(told)) => {
+        Err(Unmade::Memory) => NO_MEMORY,
+        Err(Unmade::Refused(told)) => {
             *refusal = told;
             REFUSED
         }

@@ -7,6 +7,15 @@ use bpf_harden::HardenError;
 use bpf_host_runs::{BpfRefusal, letter};
 use bpf_infer::InferError;
 
+/// Why nothing is made of an image: no certificate for its program, or no hardened image.
+#[derive(Clone, Copy)]
+pub(crate) enum Unmade {
+    /// Memory ran out.
+    Memory,
+    /// The image or its program is refused.
+    Refused(BpfRefusal),
+}
+
 /// The condition of the checker that an instruction would fail.
 fn condition_of(error: &InferError) -> u64
     ensures { result ≡ condition_of error.now }

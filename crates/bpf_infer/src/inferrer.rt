@@ -14,6 +14,14 @@ use bpf_infer_plain::plain_proposal;
 use bpf_insn::{Code, Program};
 use std::alloc::Global;
 
+/// A certificate for contexts of `least` to `most` bytes is wanted, and whether `search` is to look for it.
+#[derive(Clone, Copy)]
+pub struct Wanted {
+    pub least: u32,
+    pub most: u32,
+    pub deep: bool,
+}
+
 /// The certificate of a proposal, where there is one. I2 at slot 0 if it is over a limit.
 fn certificate_of<E: From<InferError> + Drop>(
     least: u32,
@@ -129,5 +137,28 @@ pub fn search<W: Watch>(
     match search_or_stop(alloc, program, least, most, watch) {
         Ok(certificate) => Ok(certificate),
         Err(stop) => Err(stop.error),
+    }
+}
+
+/// What `search` proposes where the search is to be deep, else what `infer` does, with the same refusals.
+pub fn propose<W: Watch>(
+    alloc: Global,
+    program: &Program,
+    wanted: Wanted,
+    watch: &mut W,
+) -> Result<Certificate, InferError>
+    requires order { wanted.least ≤ wanted.most }
+    requires short { wanted.most ≤ max_context }
+    ensures version { IfOk result (λ c. c.version ≡ 2) }
+    ensures least { IfOk result (λ c. c.least ≡ wanted.least) }
+    ensures most { IfOk result (λ c. c.most ≡ wanted.most) }
+    ensures certificate { IfOk result (λ c. IsCertificate c) }
+    ensures slot { IfErr result (λ e. infer_slot e < slots program.now.list) }
+{
+    let Wanted { least, most, deep } = wanted;
+    if deep {
+        search(alloc, program, least, most, watch)
+    } else {
+        infer(alloc, program, least, most)
     }
 }

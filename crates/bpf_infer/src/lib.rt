@@ -9,4 +9,4 @@ pub use bpf_infer_base::{
 };
 pub use bpf_infer_error::{Condition, InferError};
 pub use bpf_infer_plain::sketch_of;
-pub use inferrer::{infer, search, search_or_stop};
+pub use inferrer::{Wanted, infer, propose, search, search_or_stop};

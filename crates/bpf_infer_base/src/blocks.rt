@@ -134,5 +134,5 @@ pub fn graph_of(alloc: Global, program: &Program, blocks: &Blocks) -> Result<Gra
     for block in 0..blocks.count() {
         add_block(&mut arcs, program, blocks, block)?;
     }
-    Ok(Graph::of(blocks.count(), arcs))
+    Graph::of(alloc, blocks.count(), arcs)
 }

@@ -47,7 +47,7 @@ fn first_recursion(
     functions: &Blocks,
     calls: Vec<Arc>,
 ) -> Result<Option<u32>, AllocError> {
-    let graph = Graph::of(functions.count(), calls);
+    let graph = Graph::of(alloc, functions.count(), calls)?;
     let components = Components::of(alloc, &graph)?;
     let found = graph.arcs().iter().find(|call| components.contains(call));
     Ok(found.and_then(|call| u32::try_from(call.path).ok()))

@@ -35,6 +35,18 @@ pub struct Graph {
     count: usize,
     /// By the nodes that they leave.
     arcs: Vec<Arc>,
+    /// By nodes, the number of the first arc that leaves this one or a later one; and that of all arcs.
+    starts: Vec<usize>,
+}
+
+/// Where the arcs of each node start, and how many there are.
+fn starts_of(alloc: Global, count: usize, arcs: &[Arc]) -> Result<Vec<usize>, AllocError> {
+    let mut starts = Vec::with_capacity(alloc, count.saturating_add(1))?;
+    for (number, arc) in arcs.iter().enumerate() {
+        starts.resize(arc.from.saturating_add(1), number)?;
+    }
+    starts.resize(count.saturating_add(1), arcs.len())?;
+    Ok(starts)
 }
 
 /// Arcs that lead the other way.
@@ -45,8 +57,13 @@ fn turned(alloc: Global, arcs: &[Arc]) -> Result<Vec<Arc>, AllocError> {
 
 impl Graph {
     /// A graph of so many nodes, with arcs that rise by the nodes that they leave.
-    pub fn of(count: usize, arcs: Vec<Arc>) -> Graph {
-        Graph { count, arcs }
+    pub fn of(alloc: Global, count: usize, arcs: Vec<Arc>) -> Result<Graph, AllocError> {
+        let starts = starts_of(alloc, count, &arcs)?;
+        Ok(Graph {
+            count,
+            arcs,
+            starts,
+        })
     }
 
     /// How many nodes there are.
@@ -61,12 +78,12 @@ impl Graph {
 
     /// The number of the first arc that leaves a node or a later one.
     pub fn start(&self, node: usize) -> usize {
-        self.arcs.partition_point(|arc| arc.from < node)
+        number_in(&self.starts, node)
     }
 
     /// The number of the first arc that leaves a later node.
     pub fn end(&self, node: usize) -> usize {
-        self.arcs.partition_point(|arc| arc.from <= node)
+        number_in(&self.starts, node.saturating_add(1))
     }
 
     /// The node that the arc with a number leads to.
@@ -83,7 +100,7 @@ impl Graph {
     pub fn reversed(&self, alloc: Global) -> Result<Graph, AllocError> {
         let mut arcs = turned(alloc, &self.arcs)?;
         arcs.sort_by_key(|arc| arc.from)?;
-        Ok(Graph::of(self.count, arcs))
+        Graph::of(alloc, self.count, arcs)
     }
 
     /// Which nodes a node leads to, itself where it lies on a cycle, on paths that meet no barred node. A barred node counts

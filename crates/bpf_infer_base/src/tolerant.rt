@@ -4,32 +4,8 @@ ghost use Rattle.bpf_state.specs.State.{IsRegister};
 
 use crate::places::slots_touched;
 use bpf_insn::{Access, AluOp, Insn, Size, Width};
-use bpf_num::{KnownBits, Num, Signed, Unsigned, WordDomain};
-use bpf_state::{FARTHEST, Pointer, RegState, SlotState, State};
-
-/// Any number that a load of a size may give.
-fn any_number(size: Size) -> Num {
-    let unsigned = match size {
-        Size::B => Unsigned::new(0, u8::MAX as u64),
-        Size::H => Unsigned::new(0, u16::MAX as u64),
-        Size::W => Unsigned::new(0, u32::MAX as u64),
-        Size::DW => Unsigned::new(0, u64::MAX),
-    };
-    let number = Num::of(KnownBits::top(), unsigned, Signed::top());
-    number.tighten().unwrap_or(number)
-}
-
-/// Any number that a sign-extending load of a size may give.
-fn any_signed(size: Size) -> Num {
-    let signed = match size {
-        Size::B => Signed::new(i8::MIN as i64, i8::MAX as i64),
-        Size::H => Signed::new(i16::MIN as i64, i16::MAX as i64),
-        Size::W => Signed::new(i32::MIN as i64, i32::MAX as i64),
-        Size::DW => Signed::new(i64::MIN, i64::MAX),
-    };
-    let number = Num::of(KnownBits::top(), Unsigned::top(), signed);
-    number.tighten().unwrap_or(number)
-}
+use bpf_num::Num;
+use bpf_state::{FARTHEST, Pointer, RegState, SlotState, State, any_number, any_signed};
 
 /// A pointer whose offset moved by a distance between two bounds, cut to the farthest offsets.
 fn moved(pointer: RegState, least: i64, greatest: i64) -> RegState
@@ -96,17 +72,17 @@ fn value_after(insn: &Insn, state: &State) -> RegState
             size,
             off: _off,
             ..
-        } => RegState::Num(any_number(size)),
+        } => RegState::Num(any_number(size).unwrap_or(Num::top())),
         Insn::LoadSx {
             size,
             off: _off,
             ..
-        } => RegState::Num(any_signed(size)),
+        } => RegState::Num(any_signed(size).unwrap_or(Num::top())),
         Insn::Atomic {
             wide,
             off: _off,
             ..
-        } => RegState::Num(any_number(Size::of_word(wide))),
+        } => RegState::Num(any_number(Size::of_word(wide)).unwrap_or(Num::top())),
         Insn::Neg { .. } | Insn::MovSx { .. } | Insn::End { .. } | Insn::LoadImm64 { .. } => {
             RegState::Num(Num::top())
         }

@@ -243,7 +243,7 @@ pub fn paths_of(
     let arcs = walker.list.iter().filter_map(arc_of).collect(alloc)?;
     Ok(Paths {
         blocks,
-        graph: Graph::of(function.labels.len(), arcs),
+        graph: Graph::of(alloc, function.labels.len(), arcs)?,
         list: walker.list,
         held: walker.held,
         starts: walker.starts,

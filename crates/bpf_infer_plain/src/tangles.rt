@@ -23,7 +23,7 @@ impl Visitor for Arcs {
 fn graph_of(rounds: &Rounds) -> Result<Graph, AllocError> {
     let mut arcs = Arcs(Vec::new(rounds.task.alloc));
     rounds.task.walk_all(&rounds.states.list, &mut arcs)?;
-    Ok(Graph::of(rounds.states.list.len(), arcs.0))
+    Graph::of(rounds.task.alloc, rounds.states.list.len(), arcs.0)
 }
 
 /// The slot of the last jump that leads back to a loop's head.

@@ -134,7 +134,7 @@ abbrev pub IsHardening : List Row → Hardening → Type 0
 IsHardening rows h =
     IsInput rows h.input.now h.order × IsCount 32 0 (one_of (codes "LEN") rows) h.length × (h.output.now ≡ word_of (codes "OUT") rows)
     × IsCount 32 usual_turns (one_of (codes "turns") rows) h.turns × IsCount 64 0 (one_of (codes "otherwise") rows) h.otherwise
-    × IsFlag (one_of (codes "padded") rows) h.padded × IsFlag (one_of (codes "proved") rows) h.proved
+    × IsFlag (one_of (codes "padded") rows) h.padded × IsFlag (one_of (codes "unproved") rows) h.unproved
     × (option_map (λ s. s.now) h.notes ≡ first_of (codes "notes") rows) × (option_map (λ s. s.now) h.changes ≡ first_of (codes "changes") rows)
 
 -- which programs are to be compared, by which notes, for which contexts and runs

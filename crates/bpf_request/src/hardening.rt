@@ -17,8 +17,8 @@ pub struct Hardening<'a> {
     pub otherwise: u64,
     /// Contexts are blocks: a packet's length in eight bytes, the packet, and padding.
     pub padded: bool,
-    /// Nothing goes anywhere unless it is shown that the hardened program keeps the meaning.
-    pub proved: bool,
+    /// A hardened program goes out that isn't shown to keep the meaning, too.
+    pub unproved: bool,
     /// Where the notes go by which that is shown.
     pub notes: Option<&'a str>,
     /// Where a line for each change goes.

@@ -192,7 +192,7 @@ fn hardening_in<'a>(matches: &ArgMatches<'a>) -> Hardening<'a>
         turns: number(matches, "turns", USUAL_TURNS),
         otherwise: wide_number(matches, "otherwise", 0),
         padded: has_flag(matches, "padded"),
-        proved: has_flag(matches, "proved"),
+        unproved: has_flag(matches, "unproved"),
         notes: word_if(matches, "notes"),
         changes: word_if(matches, "changes"),
         order: order_of(matches),

@@ -8,6 +8,7 @@ use Rattle.bpf_insn.specs.declared.instruction.Reg.TheVariants.{R0, R1, R2, R3, 
 use Rattle.bpf_semantics.specs.declared.value.Value.TheVariants.{Number as NumberValue}
 use Rattle.bpf_insn.specs.Instruction.{register_number}
 use Rattle.bpf_insn.specs.Order.{number_of}
+use Rattle.bpf_insn.proofs.RegisterLemmas.{reg_below}
 use Rattle.bpf_semantics.specs.State as machine
 use Rattle.bpf_semantics.specs.State.{Cell}
 use Rattle.bpf_semantics.specs.State.Cell.{Byte, Part}
@@ -26,7 +27,6 @@ use Rattle.bpf_state.specs.declared.known.Place.{Place}
 use Rattle.bpf_cert.specs.declared.certificate.Term.{Term}
 use Rattle.bpf_state.specs.declared.known.Place.TheVariants.{Register, Slot}
 use Rattle.bpf_state.specs.Held.{held}
-use Rattle.bpf_state.proofs.EntryLemmas.{register_below}
 use Rattle.bpf_state.specs.State.{tag as tag_of}
 use Rattle.bpf_safety.specs.Budget.{unsigned_bounds, bounds, place_of}
 use Rattle.bpf_safety.specs.Flow.{with_term, with_tags}
@@ -132,7 +132,7 @@ entailed_slot a (Spilled q) e h = unbounded (Ptr q) refl h
 
 pub entailed_bounds : (s t : AbstractState) (place : Place) → IsAbstract s → IsAbstract t → IsPlace place → state_entails s t ≡ true → IsBounded (held t place) → IsBounded (held s place)
 entailed_bounds s t (Register r) valid valid' is e h =
-    let below = register_below r in
+    let below = reg_below r in
     let long = valid.eleven in
     let long' = valid'.eleven in
     entailed_register (register s r) (register t r) (pairs_at register_entails s.registers t.registers Any (register_number r) (omega arith) (omega arith) (and_parts (all_pairs register_entails s.registers t.registers) (all_pairs slot_entails s.slots t.slots) e).0) h

@@ -14,6 +14,7 @@ use Rattle.bpf_insn.specs.declared.order.Order.{Order}
 use Rattle.bpf_semantics.specs.declared.value.Value.TheVariants.{Number as NumberValue}
 use Rattle.bpf_insn.specs.Arithmetic.{jumps}
 use Rattle.bpf_insn.specs.Instruction.{register_number}
+use Rattle.bpf_insn.proofs.RegisterLemmas.{reg_below}
 use Rattle.bpf_semantics.specs.State as machine
 use Rattle.bpf_semantics.specs.Step.{does, next, jump, test_of_values, operand as machine_operand}
 use Rattle.bpf_num.specs.Number.{Number, IsNumber, Has}
@@ -28,7 +29,6 @@ use Rattle.bpf_sound.specs.Describes.{Describes, DescribesRegister, TaggedRegist
 use Rattle.bpf_sound.specs.Laws.{Leads, Tests, BranchKeeps}
 use Rattle.bpf_sound.proofs.Judged.{step_is, leads_at}
 use Rattle.bpf_sound.proofs.Lists.{Given}
-use Rattle.bpf_sound.proofs.Registers.{below_eleven}
 use Rattle.bpf_sound.proofs.Operands.{operand_describes, operand_valid}
 use Rattle.bpf_sound.proofs.PlainLaws.{at_slot_keeps, jump_slot}
 
@@ -66,7 +66,7 @@ module _ (order : Order) (least most : ℕ) (x : List ℕ) (m : machine.State) w
       let d = is.1 in
       let k : ℕ = register_number r in
       let eleven = ok.eleven in
-      let lt = below_eleven r in
+      let lt = reg_below r in
       let same : set s.register_tags k (register_tag s r) ≡ s.register_tags = set-get_or s.register_tags k None in (
         record {
           eleven = length-set s.registers k (Num n) ∙ ok.eleven;

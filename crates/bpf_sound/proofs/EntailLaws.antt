@@ -9,6 +9,7 @@ use Rattle.bpf_insn.specs.declared.order.Order.{Order}
 use Rattle.bpf_semantics.specs.declared.value.Value.{Value}
 use Rattle.bpf_semantics.specs.declared.value.Value.TheVariants.{Pointer as PointerValue}
 use Rattle.bpf_insn.specs.Instruction.{register_number}
+use Rattle.bpf_insn.proofs.RegisterLemmas.{reg_below}
 use Rattle.bpf_semantics.specs.State as machine
 use Rattle.bpf_semantics.specs.State.{Cell}
 use Rattle.bpf_semantics.specs.State.Cell.{Part}
@@ -23,7 +24,6 @@ use Rattle.bpf_state.specs.Entails.{pointer_entails, register_entails, slot_enta
 use Rattle.bpf_sound.specs.Describes.{DescribesRegister, DescribesSlot, slot_cell, region_of}
 use Rattle.bpf_sound.specs.Laws.{EntailsDescribes}
 use Rattle.bpf_sound.proofs.Areas.{area_is}
-use Rattle.bpf_sound.proofs.Registers.{below_eleven}
 use Rattle.bpf_sound.proofs.Lists.{pair_passes}
 use Rattle.bpf_sound.proofs.Tests.{and3_true}
 
@@ -74,7 +74,7 @@ entails_describes law order least most x s t m ok ok' test d =
     record {
       length_within = d.length_within;
       registers = λ r.
-          let lt = below_eleven r in
+          let lt = reg_below r in
           register_included law (machine.depth m) (register s r) (register t r) (machine.register m r) (ok'.registers r) (pair_passes register_entails s.registers t.registers (register_number r) Any Any h.0 (omega arith) (omega arith)) (d.registers r);
       slots = λ k low high. slot_included law order (machine.depth m) (slot s k) (slot t k) (slot_cell m k) (ok'.slots k low high) (pair_passes slot_entails s.slots t.slots (k - 1) (Bytes 0) (Bytes 0) h.1 (omega arith) (omega arith)) (d.slots k low high);
       register_tags = d.register_tags;

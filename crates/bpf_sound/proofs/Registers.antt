@@ -6,7 +6,7 @@ use Rattle.std.proofs.lemmas.List.{get_or-set_same, get_or-set_other, length-set
 use Rattle.bpf_semantics.specs.declared.value.Value.{Value}
 use Rattle.bpf_insn.specs.Instruction.{register_number, Instructions}
 use Rattle.bpf_insn.specs.declared.instruction.Reg.{Reg}
-use Rattle.bpf_insn.specs.declared.instruction.Reg.TheVariants.{R0, R1, R2, R3, R4, R5, R6, R7, R8, R9, R10}
+use Rattle.bpf_insn.proofs.RegisterLemmas.{reg_below}
 use Rattle.bpf_semantics.specs.State as machine
 use Rattle.bpf_semantics.specs.State.{put, IsFrame}
 use Rattle.bpf_state.specs.declared.known.RegState.{RegState}
@@ -15,19 +15,6 @@ use Rattle.bpf_state.specs.declared.known.Tag.{Tag}
 use Rattle.bpf_state.specs.State.{AbstractState, put_register, IsAbstract, IsAbstractRegister}
 use Rattle.bpf_sound.specs.Describes.{Describes, DescribesRegister, TaggedRegister}
 use Rattle.bpf_sound.specs.Laws.{Leads}
-
-pub below_eleven : (r : Reg) → register_number r < 11
-below_eleven R0 = omega arith
-below_eleven R1 = omega arith
-below_eleven R2 = omega arith
-below_eleven R3 = omega arith
-below_eleven R4 = omega arith
-below_eleven R5 = omega arith
-below_eleven R6 = omega arith
-below_eleven R7 = omega arith
-below_eleven R8 = omega arith
-below_eleven R9 = omega arith
-below_eleven R10 = omega arith
 
 -- two lists of which the same place is changed
 pub both_set : {A B : Type 0} (P : A → B → Type 0) (xs : List A) (ys : List B) (k j : ℕ) (a d : A) (b e : B) → k < length xs → k < length ys → P a b → P (get_or xs j d) (get_or ys j e) → P (get_or (set xs k a) j d) (get_or (set ys k b) j e)
@@ -54,7 +41,7 @@ put_is r v sl m other = ap (λ b. cond b None (Some (reg_top m sl r v))) other
 pub register_put : (p : Instructions) (least most : ℕ) (x : List ℕ) (s : AbstractState) (m : machine.State) (r : Reg) (v : Value) (sl : ℕ) (value : RegState) (tag : Option Tag) → IsAbstract s → IsFrame m.top → Describes p.order least most x s m → DescribesRegister (machine.depth m) value (Some v) → TaggedRegister x tag (Some v) → IsAbstractRegister value → Leads p least most x (Some (put_register r value tag s)) (reg_top m sl r v)
 register_put p least most x s m r v sl value tag valid frame d is tagged ok =
     let eleven = frame.eleven in
-    let lt = below_eleven r in
+    let lt = reg_below r in
     let here = valid.eleven in
     let tags = valid.eleven_tags in
     record {

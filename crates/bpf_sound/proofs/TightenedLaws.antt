@@ -5,6 +5,7 @@ use Rattle.bpf_insn.specs.declared.order.Order.{Order}
 use Rattle.bpf_semantics.specs.declared.value.Value.{Value}
 use Rattle.bpf_insn.specs.declared.instruction.Reg.{Reg}
 use Rattle.bpf_insn.specs.Instruction.{register_number}
+use Rattle.bpf_insn.proofs.RegisterLemmas.{reg_below}
 use Rattle.bpf_semantics.specs.State as machine
 use Rattle.bpf_semantics.specs.State.{Cell}
 use Rattle.bpf_num.specs.Laws.{TightenKeeps}
@@ -15,7 +16,6 @@ use Rattle.bpf_state.specs.declared.known.SlotState.TheVariants.{Bytes, Word, Sp
 use Rattle.bpf_state.specs.State.{register, slot, tightened_register, tightened_slot, each_if, IsAbstractRegister, IsAbstractSlot}
 use Rattle.bpf_sound.specs.Describes.{DescribesRegister, DescribesSlot, slot_cell}
 use Rattle.bpf_sound.specs.Laws.{TightenedDescribes}
-use Rattle.bpf_sound.proofs.Registers.{below_eleven}
 use Rattle.bpf_sound.proofs.Lists.{each_register, Given, each_given}
 
 tighten_register : TightenKeeps → (depth : ℕ) (value : RegState) (v : Option Value) → IsAbstractRegister value → DescribesRegister depth value v → Given (tightened_register value) (λ t. IsAbstractRegister t × DescribesRegister depth t v)
@@ -48,7 +48,7 @@ tightened_describes law p least most x s m ok d =
     let GoodSlot : ℕ → SlotState → Type 0 = λ k t. IsAbstractSlot t × DescribesSlot p.order depth t (slot_cell m k) in
     let registers = each_given tightened_register GoodRegister Any s.registers (λ k lt. each_register (λ k. Given (tightened_register (get_or s.registers k Any)) (GoodRegister k)) (λ r. tighten_register law depth (register s r) (machine.register m r) (ok.registers r) (d.registers r)) k (omega arith)) in
     let slots = each_given tightened_slot (λ n. GoodSlot (suc n)) (Bytes 0) s.slots (λ n lt. from_slots (λ n k. Given (tightened_slot (get_or s.slots n (Bytes 0))) (GoodSlot k)) (λ k low high. tighten_slot law p.order depth (slot s k) (slot_cell m k) (ok.slots k low high) (d.slots k low high)) n (omega arith)) in
-    let good : (r : Reg) → GoodRegister (register_number r) (get_or registers.list (register_number r) Any) = λ r. let lt = below_eleven r in registers.good (register_number r) (omega arith) in
+    let good : (r : Reg) → GoodRegister (register_number r) (get_or registers.list (register_number r) Any) = λ r. let lt = reg_below r in registers.good (register_number r) (omega arith) in
     let good' : (k : ℕ) → 1 ≤ k → k ≤ 64 → GoodSlot k (get_or slots.list (k - 1) (Bytes 0)) = to_slots (λ n k. GoodSlot k (get_or slots.list n (Bytes 0))) (λ n lt. slots.good n (omega arith)) in
     record {
       state = record s { registers = registers.list; slots = slots.list };

@@ -24,10 +24,10 @@ use Rattle.bpf_state.specs.declared.known.Pointer.{Pointer}
 use Rattle.bpf_state.specs.declared.fault.StateFault.TheVariants.{WrongKinds, OutOfBounds}
 use Rattle.bpf_state.specs.declared.known.Tag.{Tag}
 use Rattle.bpf_state.specs.State.{AbstractState, register, put_register, same_area}
-use Rattle.bpf_state.specs.Fault.{operand, difference, some_passes, leaves_bounds, alu_of_kinds, reads_any}
+use Rattle.bpf_state.specs.Fault.{operand, is_pointer, difference, some_passes, leaves_bounds, alu_of_kinds, makes_far_pointer, reads_any}
 use Rattle.bpf_state.specs.Transfer.{Outcome, Faulty, Live, live, unless, transfer, operand_tag, alu_tag}
 use Rattle.bpf_state.specs.Condition.{fault_number}
-use Rattle.bpf_state.specs.code.Results.{Known, judged_result, numbers_result, result_of, written}
+use Rattle.bpf_state.specs.code.Results.{Known, moved_pointer, judged_result, numbers_result, result_of, written}
 
 -- the code holds sums of 64-bit numbers in 128 bits
 abbrev pub held : ℤ → ℤ
@@ -104,11 +104,53 @@ others_plain Sub width f g h = absurd (h refl)
 others_plain op W32 f g h = tt
 others_plain op W64 f g h = tt
 
--- ---- outcomes
+-- from what is no pointer
+pub difference_plain : (a b : RegState) → is_pointer a ≡ false → numbers_result W64 Sub a b ≡ result_of W64 Sub a b
+difference_plain (Num m) (Num n) e = judged_number Sub (num_alu W64 Sub m n)
+difference_plain (Num m) (Ptr q) e = refl
+difference_plain (Num m) Any e = refl
+difference_plain Any (Num n) e = refl
+difference_plain Any (Ptr q) e = refl
+difference_plain Any Any e = refl
+difference_plain (Ptr p) b e = absurd (false≢true (sym e))
+
+-- ---- pointers that go too far
 
 abbrev is_far : AluOp → Option (Option RegState) → Bool
 is_far Mov kinds = false
 is_far op kinds = some_passes leaves_bounds (option_and_then (λ r. r) kinds)
+
+numbers_near : (op : AluOp) (o : Option Number) → is_far op (Some (option_map Num o)) ≡ false
+numbers_near Mov o = refl
+numbers_near op None = refl
+numbers_near op (Some n) = refl
+
+difference_near : (same : Bool) (o : Option Number) → is_far Sub (if same then Some (option_map Num o) else None) ≡ false
+difference_near true o = numbers_near Sub o
+difference_near false o = refl
+
+moved_far : (width : Width) (op : AluOp) (a b : RegState) → is_far op (alu_of_kinds width op a b) ≡ some_passes leaves_bounds (moved_pointer width op a b)
+moved_far W64 Mov a b = refl
+moved_far W32 Mov a b = refl
+moved_far W64 Add (Ptr p) (Num n) = refl
+moved_far W64 Add (Num m) (Ptr q) = refl
+moved_far W64 Sub (Ptr p) (Num n) = refl
+moved_far W64 Sub (Ptr p) (Ptr q) = difference_near (same_area p.area q.area) (tighten (number bits_top unsigned_top (signed_sub (signed_interval p.lo p.hi) (signed_interval q.lo q.hi))))
+moved_far width op (Num m) (Num n) = numbers_near op (num_alu width op m n)
+moved_far width op (Num m) (Ptr q) = refl
+moved_far width op (Num m) Any = refl
+moved_far width op (Ptr p) (Num n) = refl
+moved_far width op (Ptr p) (Ptr q) = refl
+moved_far width op (Ptr p) Any = refl
+moved_far width op Any (Num n) = refl
+moved_far width op Any (Ptr q) = refl
+moved_far width op Any Any = refl
+
+pub moved_told : (s : AbstractState) (width : Width) (op : AluOp) (dst : Reg) (src : Operand) → some_passes leaves_bounds (moved_pointer width op (register s dst) (operand s src)) ≡ makes_far_pointer s (Alu op width dst src)
+moved_told s width Mov dst src = sym (moved_far width Mov (register s dst) (operand s src))
+moved_told s width op dst src = sym (moved_far width op (register s dst) (operand s src))
+
+-- ---- outcomes
 
 abbrev told : AluOp → Bool → Option (Option RegState) → Reg → Option Tag → AbstractState → Outcome
 told op unset kinds dst tag s =

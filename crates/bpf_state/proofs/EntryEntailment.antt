@@ -7,6 +7,7 @@ use Rattle.std.proofs.lemmas.Bool.{eq-eqb, and_parts, and_from}
 use Rattle.std.proofs.lemmas.List.Sums.{list_all-from_AllPass}
 use Rattle.bpf_insn.specs.declared.instruction.Reg.TheVariants.{R10}
 use Rattle.bpf_insn.specs.Instruction.{register_number}
+use Rattle.bpf_insn.proofs.RegisterLemmas.{reg_below}
 use Rattle.bpf_state.specs.declared.known.RegState.{RegState}
 use Rattle.bpf_state.specs.declared.known.RegState.TheVariants.{Any, Num, Ptr}
 use Rattle.bpf_state.specs.declared.known.Area.TheVariants.{Frame}
@@ -17,7 +18,6 @@ use Rattle.bpf_state.specs.declared.entries.Entry.TheVariants.{Register, Slot}
 use Rattle.bpf_state.specs.State.{AbstractState, IsAbstractState, register, slot, start_of, blank}
 use Rattle.bpf_state.specs.Entails.{register_entails, slot_entails, all_pairs, state_entails}
 use Rattle.bpf_state.specs.code.Entries.{put, put_all, state_of, keeps, IsEntry, AreEntries}
-use Rattle.bpf_state.proofs.EntryLemmas.{register_below}
 
 -- ---- pairs
 
@@ -83,7 +83,7 @@ entails_all s t (x ∷ es) e f = let parts = and_parts (keeps s x) (list_all (ke
 kept : (s t : AbstractState) (e : Entry) → IsAbstractState s → IsAbstractState t → IsEntry t e → state_entails s t ≡ true → keeps s e ≡ true
 kept s t (Register r v) is it x e =
     let parts = and_parts (all_pairs register_entails s.registers t.registers) (all_pairs slot_entails s.slots t.slots) e in
-    let few = register_below r in let long = is.register_count in let long' = it.register_count in
+    let few = reg_below r in let long = is.register_count in let long' = it.register_count in
     ap (register_entails (register s r)) (sym x.said) ∙ pair_at register_entails s.registers t.registers (register_number r) Any (omega arith) (omega arith) parts.0
 kept s t (Slot k v) is it x e =
     let parts = and_parts (all_pairs register_entails s.registers t.registers) (all_pairs slot_entails s.slots t.slots) e in

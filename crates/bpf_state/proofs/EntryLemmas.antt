@@ -4,8 +4,9 @@ use Rattle.std.specs.Prelude.{All}
 use Rattle.std.proofs.lemmas.List.{take_more, length-set, get_or-set_same, get_or-set_other, get_or-replicate}
 use Rattle.std.proofs.lemmas.List.Elements.{All-set, All-append, All-nil, All-cons, All-get_or}
 use Rattle.bpf_insn.specs.declared.instruction.Reg.{Reg}
-use Rattle.bpf_insn.specs.declared.instruction.Reg.TheVariants.{R0, R1, R2, R3, R4, R5, R6, R7, R8, R9, R10}
+use Rattle.bpf_insn.specs.declared.instruction.Reg.TheVariants.{R10}
 use Rattle.bpf_insn.specs.Instruction.{register_number}
+use Rattle.bpf_insn.proofs.RegisterLemmas.{reg_below}
 use Rattle.bpf_state.specs.declared.known.RegState.{RegState}
 use Rattle.bpf_state.specs.declared.known.RegState.TheVariants.{Any}
 use Rattle.bpf_state.specs.declared.known.SlotState.{SlotState}
@@ -32,19 +33,6 @@ state_next es i e h is = ap state_of (take_more es i e h) ∙ state_more (take i
 
 -- ---- places
 
-pub register_below : (r : Reg) → register_number r < 11
-register_below R0 = omega arith
-register_below R1 = omega arith
-register_below R2 = omega arith
-register_below R3 = omega arith
-register_below R4 = omega arith
-register_below R5 = omega arith
-register_below R6 = omega arith
-register_below R7 = omega arith
-register_below R8 = omega arith
-register_below R9 = omega arith
-register_below R10 = omega arith
-
 pub register_elsewhere : (s : AbstractState) (q r : Reg) (v : RegState) → (register_number q ≡ register_number r → ⊥) → register (with_register s q v) r ≡ register s r
 register_elsewhere s q r v apart = get_or-set_other s.registers (register_number q) (register_number r) v Any (λ same. apart (sym same))
 
@@ -55,7 +43,7 @@ pub blank_slot : (k : ℕ) → 1 ≤ k → k ≤ 64 → slot blank k ≡ Bytes 0
 blank_slot k low high = get_or-replicate 64 (k - 1) (Bytes 0) (Bytes 0) (omega arith)
 
 pub register_ordered : (s : AbstractState) (r : Reg) → IsAbstractState s → IsRegister (register s r)
-register_ordered s r is = let long = is.register_count in let few = register_below r in All-get_or IsRegister s.registers (register_number r) Any (omega arith) is.registers
+register_ordered s r is = let long = is.register_count in let few = reg_below r in All-get_or IsRegister s.registers (register_number r) Any (omega arith) is.registers
 
 pub slot_ordered : (s : AbstractState) (k : ℕ) → 1 ≤ k → k ≤ 64 → IsAbstractState s → IsSlot (slot s k)
 slot_ordered s k low high is = let long = is.slot_count in All-get_or IsSlot s.slots (k - 1) (Bytes 0) (omega arith) is.slots

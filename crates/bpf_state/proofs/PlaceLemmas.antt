@@ -5,6 +5,7 @@ use Rattle.std.proofs.lemmas.Bool.{and_from, and_parts, false_from_ne_true, fals
 use Rattle.bpf_insn.specs.declared.instruction.Reg.{Reg}
 use Rattle.bpf_insn.specs.declared.instruction.Reg.TheVariants.{R0, R1, R2, R3, R4, R5, R6, R7, R8, R9, R10}
 use Rattle.bpf_insn.specs.Instruction.{register_number}
+use Rattle.bpf_insn.proofs.RegisterLemmas.{reg_below}
 use Rattle.bpf_state.specs.declared.known.Place.{Place}
 use Rattle.bpf_state.specs.declared.known.Place.TheVariants.{Register, Slot}
 use Rattle.bpf_state.specs.declared.known.RegState.{RegState}
@@ -14,7 +15,6 @@ use Rattle.bpf_state.specs.declared.known.SlotState.TheVariants.{Bytes}
 use Rattle.bpf_state.specs.State.{AbstractState, IsAbstractState, IsPlace, tightened, tightened_register, tightened_slot, each_if}
 use Rattle.bpf_state.specs.Entails.{register_entails, slot_entails, all_pairs, state_entails}
 use Rattle.bpf_state.specs.Places.{place_number, entails_at, is_empty_at}
-use Rattle.bpf_state.proofs.EntryLemmas.{register_below}
 use Rattle.bpf_state.proofs.EntryEntailment.{pair_at}
 
 -- no place up to a number passes a test
@@ -44,7 +44,7 @@ unmarked false e = absurd (false≢true (sym e))
 each_register : (test : Place → Bool) → NoneTo test 75 → (f : ℕ → Bool) → ((r : Reg) → test (Register r) ≡ f (register_number r)) → (i : ℕ) → i < 11 → f i ≡ false
 each_register test none f same i h =
     let at = reg_at i h in
-    let few = register_below at.0 in
+    let few = reg_below at.0 in
     subst (λ n. f n ≡ false) at.1 (sym (same at.0) ∙ none (Register at.0) tt (omega arith))
 
 each_slot : (test : Place → Bool) → NoneTo test 75 → (f : ℕ → Bool) → ((k : ℕ) → test (Slot k) ≡ f (k - 1)) → (i : ℕ) → i < 64 → f i ≡ false
@@ -59,7 +59,7 @@ lost s t p is it placed e = sym (false_from_ne_true _ (λ all. false≢true (sym
   where
     entailed : (p : Place) → IsPlace p → (all_pairs register_entails s.registers t.registers ≡ true) × (all_pairs slot_entails s.slots t.slots ≡ true) → entails_at s t p ≡ true
     entailed (Register r) placed parts =
-        let few = register_below r in let long = is.register_count in let long' = it.register_count in
+        let few = reg_below r in let long = is.register_count in let long' = it.register_count in
         pair_at register_entails s.registers t.registers (register_number r) Any (omega arith) (omega arith) parts.0
     entailed (Slot k) placed parts =
         let low = placed.0 in let high = placed.1 in let long = is.slot_count in let long' = it.slot_count in
@@ -103,7 +103,7 @@ some_each {A = A} f (x ∷ xs) d each = go (f x) (each_if f xs) (each 0 (omega a
 
 pub empty : (s : AbstractState) (p : Place) → IsAbstractState s → IsPlace p → is_empty_at s p ≡ true → false ≡ is_some (tightened s)
 empty s (Register r) is placed e =
-    let few = register_below r in let long = is.register_count in
+    let few = reg_below r in let long = is.register_count in
     sym (ap (λ o. is_some (option_and_then (λ registers. option_map (λ slots. record s { registers = registers; slots = slots }) (each_if tightened_slot s.slots)) o))
     (if_each tightened_register s.registers (register_number r) Any (omega arith) e))
 empty s (Slot k) is placed e =

@@ -1,5 +1,5 @@
 -- What is at fault where an instruction is refused: which slot is read so, and what each mistake of kinds says.
-use Rattle.std.specs.Prelude.{◌≡◌, ℕ, Bool, true, false, not, ◌&&◌, List, [], ◌∷◌, Contains, Some, option_map}
+use Rattle.std.specs.Prelude.{◌≡◌, ℕ, Bool, true, false, not, ◌&&◌, List, [], ◌∷◌, Contains, Option, Some, None, option_map}
 use Rattle.bpf_insn.specs.Effects.{operand_register, atomic_registers, access_of}
 use Rattle.bpf_insn.specs.declared.instruction.Reg.{Reg}
 use Rattle.bpf_insn.specs.declared.instruction.Reg.TheVariants.{R0}
@@ -9,11 +9,12 @@ use Rattle.bpf_insn.specs.declared.instruction.Insn.{Insn}
 use Rattle.bpf_insn.specs.declared.instruction.Insn.TheVariants.{Alu, Neg, MovSx, End, Store, Atomic, JumpIf, Exit}
 use Rattle.bpf_state.specs.declared.known.RegState.{RegState}
 use Rattle.bpf_state.specs.declared.known.RegState.TheVariants.{Ptr}
+use Rattle.bpf_state.specs.declared.known.Moved.{Moved}
 use Rattle.bpf_state.specs.declared.cause.Mistake.{Mistake}
 use Rattle.bpf_state.specs.declared.cause.Mistake.TheVariants.{NotNumber, NotPointer, PointersAdded, PointerSubtracted, OtherAreas, WrongTest, StoredInPart, ReadInPart}
 use Rattle.bpf_state.specs.State.{AbstractState, register, same_area}
 use Rattle.bpf_state.specs.Access.{Span, span_of, is_slot, touches, touched_bytes, is_pointer_slot, are_known_bytes, IsFirstSlot}
-use Rattle.bpf_state.specs.Fault.{operand, is_number, is_pointer, can_test, loads_slot, reads_memory, on_span}
+use Rattle.bpf_state.specs.Fault.{operand, alu_of_kinds, is_number, is_pointer, can_test, loads_slot, reads_memory, on_span}
 
 -- ---- slots that are read
 
@@ -85,3 +86,14 @@ Shows s i OtherAreas = subtracts_other s i ≡ true
 Shows s i WrongTest = tests_wrongly s i ≡ true
 Shows s i StoredInPart = stores_part s i ≡ true
 Shows s i (ReadInPart k) = IsReadInPart s i k
+
+-- ---- pointers that go too far
+
+-- a pointer with any bounds
+abbrev pub pointer_of : Moved → RegState
+pointer_of made = Ptr (record { area = made.area; lo = made.lo; hi = made.hi })
+
+-- what arithmetic makes of its operands
+abbrev pub made : AbstractState → Insn → Option (Option RegState)
+made s (Alu op width dst src) = alu_of_kinds width op (register s dst) (operand s src)
+made s _ = None

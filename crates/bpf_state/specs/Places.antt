@@ -1,10 +1,25 @@
--- The places of a state in their order, and the first of which something holds.
-use Rattle.std.specs.Prelude.{◌≡◌, ℕ, ◌+◌, ◌<◌, Bool, true, false, is_none}
+-- What a state knows of a place, the places in their order, and the first of which something holds.
+use Rattle.std.specs.Prelude.{◌≡◌, ℕ, ◌+◌, ◌<◌, nat_le, Bool, true, false, ◌&&◌, if◌then◌else◌, is_none}
 use Rattle.bpf_insn.specs.Instruction.{register_number}
 use Rattle.bpf_state.specs.declared.known.Place.{Place}
 use Rattle.bpf_state.specs.declared.known.Place.TheVariants.{Register, Slot}
-use Rattle.bpf_state.specs.State.{AbstractState, IsPlace, register, slot, tightened_register, tightened_slot}
+use Rattle.bpf_state.specs.declared.known.SlotState.{SlotState}
+use Rattle.bpf_state.specs.declared.known.SlotState.TheVariants.{Bytes}
+use Rattle.bpf_state.specs.State.{AbstractState, IsPlace, register, slot, with_register, with_slot, value_slot, tightened_register, tightened_slot}
 use Rattle.bpf_state.specs.Entails.{register_entails, slot_entails}
+
+abbrev pub is_slot_number : ℕ → Bool
+is_slot_number k = nat_le 1 k && nat_le k 64
+
+-- what is known of a place, of a register as of a slot that holds the same; nothing of a slot that isn't there
+abbrev pub content : AbstractState → Place → SlotState
+content s (Register r) = value_slot (register s r)
+content s (Slot k) = if is_slot_number k then slot s k else Bytes 0
+
+-- a state with what another one knows of a place
+abbrev pub taken_over : AbstractState → AbstractState → Place → AbstractState
+taken_over s other (Register r) = with_register s r (register other r)
+taken_over s other (Slot k) = if is_slot_number k then with_slot s k (slot other k) else s
 
 -- r0 to r10, and then the slots
 abbrev pub place_number : Place → ℕ

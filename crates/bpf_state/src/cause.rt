@@ -1,20 +1,21 @@
-//! What is at fault where an instruction is refused: which register, which mistake of kinds, which slot. Each is None exactly where the
-//! condition doesn't hold by which `transfer` refuses with that number.
+//! What is at fault where an instruction is refused: which register, which mistake of kinds, which pointer, which slot. Each is None exactly
+//! where the condition doesn't hold by which `transfer` refuses with that number.
 
-ghost use Rattle.std.specs.Prelude.{◌≡◌, ◌&&◌, not, find, is_some, IfSome, false};
+ghost use Rattle.std.specs.Prelude.{◌≡◌, ◌&&◌, not, find, is_some, IfSome, Some, false};
 ghost use Rattle.bpf_insn.specs.Effects.{registers_read};
 ghost use Rattle.bpf_state.specs.declared.known.SlotState.TheVariants.{Bytes};
 ghost use Rattle.bpf_state.specs.State.{register, slot};
 ghost use Rattle.bpf_state.specs.Access.{span_at};
-ghost use Rattle.bpf_state.specs.Fault.{operand, is_any, reads_any, has_wrong_kinds, loads_slot, reads_part, reads_unknown_byte};
-ghost use Rattle.bpf_state.specs.Cause.{IsReadInPart, IsReadUnknown, Shows};
+ghost use Rattle.bpf_state.specs.Fault.{operand, is_any, reads_any, has_wrong_kinds, loads_slot, reads_part, makes_far_pointer, reads_unknown_byte};
+ghost use Rattle.bpf_state.specs.Cause.{IsReadInPart, IsReadUnknown, Shows, pointer_of, made};
 ghost use Rattle.bpf_state.specs.code.Mistakes.{unless_number, unless_pointer, unless_operand, unless_numbers, of_sum, of_difference, of_alu, of_span, of_atomic, of_operands};
 
 use crate::access::Reach;
-use crate::known::{RegState, SlotState};
+use crate::known::{Moved, RegState, SlotState};
 use crate::slots::{pointer_slot, unknown_slot};
 use crate::state::State;
 use crate::transfers::can_test;
+use crate::transfers::results::moved_pointer;
 use bpf_insn::{AluOp, AtomicOp, Insn, Operand, Reg, Size, Width};
 
 /// C3: the first register that is read and may be uninitialised.
@@ -224,6 +225,26 @@ pub fn mistake_of_kinds(insn: &Insn, state: &State) -> Option<Mistake>
     }
     let slot = read_in_part(insn, state)?;
     Some(Mistake::ReadInPart(slot))
+}
+
+// ---- pointers that go too far
+
+/// C5: the pointer that arithmetic would make, where its bounds leave -2^31 to 2^31.
+pub fn far_pointer(insn: &Insn, state: &State) -> Option<Moved>
+    ensures made { IfSome result (λ p. made state.now insn.now ≡ Some (Some (pointer_of p))) }
+    ensures refused { is_some result ≡ makes_far_pointer state.now insn.now }
+{
+    let Insn::Alu {
+        op,
+        width,
+        dst,
+        src,
+    } = *insn
+    else {
+        return None;
+    };
+    let made = moved_pointer(width, op, &state.reg(dst), &state.operand(src))?;
+    if made.is_far() { Some(made) } else { None }
 }
 
 // ---- bytes

@@ -1,5 +1,8 @@
 //! What is known of a register, of a slot, and of a counter that either holds.
 
+ghost use Rattle.std.specs.Prelude.{◌≡◌};
+ghost use Rattle.bpf_state.specs.State.{IsRegister, IsSlot, value_slot};
+
 use bpf_insn::{FRAME_BYTES, Reg};
 use bpf_num::Num;
 
@@ -24,6 +27,14 @@ pub struct Pointer {
     pub area: Area,
     pub lo: i64,
     pub hi: i64,
+}
+
+/// What arithmetic makes of a pointer: what it points into, and the bounds of its offset, however far off they are.
+#[derive(Clone, Copy, Debug)]
+pub struct Moved {
+    pub area: Area,
+    pub lo: i128,
+    pub hi: i128,
 }
 
 /// What is known of a register.
@@ -145,6 +156,19 @@ impl Pointer {
     }
 }
 
+impl Moved {
+    ghost use Rattle.std.specs.Prelude.{◌≡◌};
+    ghost use Rattle.bpf_state.specs.Cause.{pointer_of};
+    ghost use Rattle.bpf_state.specs.Fault.{leaves_bounds};
+
+    /// Whether its bounds leave -2^31 to 2^31.
+    pub(crate) fn is_far(self) -> bool
+        ensures { result ≡ leaves_bounds (pointer_of self) }
+    {
+        self.lo < -(FARTHEST as i128) || self.hi > FARTHEST as i128
+    }
+}
+
 impl SlotState {
     ghost use Rattle.std.specs.Prelude.{◌≡◌};
     ghost use Rattle.bpf_state.specs.State.{slot_value};
@@ -158,5 +182,17 @@ impl SlotState {
             SlotState::Spilled(p) => RegState::Ptr(p),
             SlotState::Bytes(_) => RegState::Any,
         }
+    }
+}
+
+/// What a slot would hold that holds what a register does.
+pub fn value_slot(value: RegState) -> SlotState
+    ensures value { result ≡ value_slot value }
+    ensures ordered { IsRegister value → IsSlot result }
+{
+    match value {
+        RegState::Any => SlotState::Bytes(0),
+        RegState::Num(n) => SlotState::Word(n),
+        RegState::Ptr(p) => SlotState::Spilled(p),
     }
 }

@@ -24,12 +24,16 @@ mod work;
 pub use access::Reach;
 pub use branches::branch;
 pub use calls::{enter, leave};
-pub use cause::{Mistake, UnknownBytes, mistake_of_kinds, unknown_bytes, unset_register};
+pub use cause::{
+    Mistake, UnknownBytes, far_pointer, mistake_of_kinds, unknown_bytes, unset_register,
+};
 pub use condition::Condition;
 pub use entries::Entries;
 pub use fault::StateFault;
-pub use known::{Area, FARTHEST, FRAME_START, Place, Pointer, RegState, SlotState, Tag};
+pub use known::{
+    Area, FARTHEST, FRAME_START, Moved, Place, Pointer, RegState, SlotState, Tag, value_slot,
+};
 pub use lanes::covers;
 pub use state::State;
-pub use transfers::transfer;
+pub use transfers::{any_number, any_signed, transfer};
 pub use work::Work;

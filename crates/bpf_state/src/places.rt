@@ -1,10 +1,11 @@
-//! The first place at which a state doesn't lie in another, and the first of which a state has no member.
+//! What a state knows of a place, of a register as of a slot; the first place at which a state doesn't lie in another, and the first of
+//! which a state has no member.
 
 ghost use Rattle.std.specs.Prelude.{◌≡◌, ◌<◌};
 ghost use Rattle.bpf_state.specs.State.{IsPlace};
-ghost use Rattle.bpf_state.specs.Places.{place_number};
+ghost use Rattle.bpf_state.specs.Places.{place_number, is_slot_number};
 
-use crate::known::Place;
+use crate::known::{Place, SlotState, value_slot};
 use crate::state::State;
 use crate::tightening::{tightened_register, tightened_slot};
 use bpf_insn::Reg;
@@ -25,11 +26,49 @@ fn numbered(number: u8) -> Place
     }
 }
 
+/// Whether a slot has this number: they go from 1 to 64.
+fn is_slot_number(k: u8) -> bool
+    ensures { result ≡ is_slot_number k }
+{
+    1 <= k && k <= 64
+}
+
 impl State {
     ghost use Rattle.std.specs.Prelude.{◌≡◌, IfSome, is_some, is_none, not};
     ghost use Rattle.bpf_state.specs.State.{tightened};
     ghost use Rattle.bpf_state.specs.Entails.{state_entails};
-    ghost use Rattle.bpf_state.specs.Places.{IsFirstPlace, entails_at, is_empty_at};
+    ghost use Rattle.bpf_state.specs.Places.{IsFirstPlace, content, taken_over, entails_at, is_empty_at};
+
+    /// What is known of a place, of a register as of a slot that holds the same; nothing of a slot whose number isn't from 1 to 64.
+    pub fn content(&self, place: Place) -> SlotState
+        ensures { result ≡ content self.now place }
+    {
+        match place {
+            Place::Register(r) => value_slot(self.reg(r)),
+            Place::Slot(k) => {
+                if is_slot_number(k) {
+                    self.slot(k)
+                } else {
+                    SlotState::Bytes(0)
+                }
+            }
+        }
+    }
+
+    /// Makes what is known of a place the same as what another state knows of it; its tag stays, and a slot whose number isn't from 1
+    /// to 64 changes nothing.
+    pub fn take_over(&mut self, other: &State, place: Place)
+        ensures { self.new ≡ taken_over self.old other.now place }
+    {
+        match place {
+            Place::Register(r) => self.set_reg(r, other.reg(r)),
+            Place::Slot(k) => {
+                if is_slot_number(k) {
+                    self.set_slot(k, other.slot(k));
+                }
+            }
+        }
+    }
 
     /// Whether what it knows of a place lies in what another one does.
     fn entails_at(&self, other: &State, place: Place) -> bool

@@ -3,7 +3,7 @@
 mod alu;
 mod atomic;
 mod load;
-mod results;
+pub(crate) mod results;
 mod store;
 
 ghost use Rattle.std.specs.Prelude.{◌≡◌, ℕ, ℤ};
@@ -18,6 +18,7 @@ use crate::known::RegState;
 use crate::state::State;
 use crate::transfers::load::Extension;
 use bpf_insn::{Cond, Insn, Operand, Order, Reg, Width};
+pub use load::{any_number, any_signed};
 
 /// Makes the state at an instruction the one after it, in every context of at least `least` bytes. False only if that
 /// state has no member. C3 to C7, the lowest that applies, if the instruction isn't allowed. After a fault and after false the

@@ -106,7 +106,7 @@ harden_places = with_rule (with_rule (with_rule (new_app (codes "harden")) (plac
 
 abbrev pub harden : App
 harden =
-    with_rule (with_rule (with_rule (with_rule (with_rule (with_rule (with_rule harden_places turns) otherwise) (flag (codes "padded"))) (flag (codes "proved")))
+    with_rule (with_rule (with_rule (with_rule (with_rule (with_rule (with_rule harden_places turns) otherwise) (flag (codes "padded"))) (flag (codes "unproved")))
     (option (codes "notes"))) (option (codes "changes"))) big
 
 abbrev pub follows_places : App

@@ -131,8 +131,8 @@ pub const SECOND: [Entry; 4] = [
                 "contexts are blocks: a packet's length in 8 bytes, the packet, padding up to LEN",
             ),
             Flag(
-                "proved",
-                "writes nothing unless `follows` says yes to the hardened image",
+                "unproved",
+                "writes an image of which `follows` doesn't say yes, too",
             ),
             Named("notes", "the notes that `follows` reads go to FILE"),
             Named(

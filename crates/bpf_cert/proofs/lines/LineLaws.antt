@@ -5,9 +5,11 @@ use Rattle.std.specs.List.{slice_split, join_with_byte}
 use Rattle.std.specs.Str.{bytes_eq}
 use Rattle.std.proofs.lemmas.Bool.{eqb-true}
 use Rattle.std.proofs.lemmas.List.Splits.{join_with_byte-slice_split}
+use Rattle.bpf_lines.specs.Words.{behind}
+use Rattle.bpf_lines.proofs.WordLemmas.{behind_is}
 use Rattle.bpf_cert.specs.Numeral.{is_numeral}
 use Rattle.bpf_cert.specs.Line.{Part, Number, Content, PlaceText, Measure, Lengths, Line, signed_text, range_text, part_text, number_text, content_text, place_text, measure_text, term_text, fields, line_text}
-use Rattle.bpf_cert.specs.Reading.{◌>>=◌, or_else, all_there, cut, behind, numeral_in, end_in, signed_in, range_in, part_in, number_in, pointer_in, bytes_in, content_in, place_in, place_closed_in, measure_in, term_in, one_length_in, two_lengths_in, header_in, function_in, label_in, entry_in, line_of_fields, line_in}
+use Rattle.bpf_cert.specs.Reading.{◌>>=◌, or_else, all_there, cut, numeral_in, end_in, signed_in, range_in, part_in, number_in, pointer_in, bytes_in, content_in, place_in, place_closed_in, measure_in, term_in, one_length_in, two_lengths_in, header_in, function_in, label_in, entry_in, line_of_fields, line_in}
 use Rattle.bpf_cert.proofs.Bools.{both_true}
 
 -- what is there has the property
@@ -50,13 +52,7 @@ cut_gives c (x ∷ xs) = elim (eqb x c) as (λ b. eqb x c ≡ b → Gives (cond 
 ] refl
 
 pub behind_gives : (word text : List ℕ) → Gives (behind word text) (λ rest. text ≡ word ++ rest)
-unfolding behind
-behind_gives [] text = some_gives text refl
-behind_gives (c ∷ word) [] = none_gives
-behind_gives (c ∷ word) (x ∷ text) = elim (eqb x c) as (λ b. eqb x c ≡ b → Gives (cond b (behind word text) None) (λ rest. x ∷ text ≡ c ∷ (word ++ rest))) [
-  | true ↦ λ e. record { holds = λ rest there. ap (λ z. z ∷ text) (eqb-true x c e) ∙ ap (λ z. c ∷ z) ((behind_gives word text).holds rest there) }
-  | false ↦ λ e. none_gives
-] refl
+behind_gives word text = record { holds = λ rest there. behind_is word text rest there }
 
 numeral_gives : (text : List ℕ) → Gives (numeral_in text) (λ ds. text ≡ ds)
 unfolding numeral_in

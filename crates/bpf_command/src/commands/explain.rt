@@ -23,7 +23,7 @@ use bpf_explain::{
     Search, Shown, explain, explain_search, is_table, write_alone, write_fault, write_program,
     write_refusal, write_text_refusal,
 };
-use bpf_infer::Watch;
+use bpf_infer::{Wanted, Watch};
 use bpf_insn::{Code, DecodeError, MAX_CONTEXT, Order, Program, ProgramView, decode};
 use bpf_places::{Keeping, Places};
 use bpf_request::{Aspect, Subject};
@@ -225,16 +225,17 @@ fn say_inferred<'a, W: Write, H: Watch>(
     program: &Program,
     asked: Search<'_>,
 ) -> Result<u8, Failure<'a>>
-    ensures ok { IfOk result (Answers (SoughtSays asked.entry.least asked.entry.most program.now)) }
+    ensures ok { IfOk result (Answers (SoughtSays asked.entry.wanted.least asked.entry.wanted.most program.now)) }
     ensures err { IfErr result OutputFails }
 {
     // `respond` has seen that the lengths are in order, and the words' parser that they are at most the greatest.
-    let most = asked.most.min(MAX_CONTEXT as u32);
-    let within = Search {
-        least: asked.least.min(most),
+    let most = asked.wanted.most.min(MAX_CONTEXT as u32);
+    let wanted = Wanted {
+        least: asked.wanted.least.min(most),
         most,
-        ..asked
+        ..asked.wanted
     };
+    let within = Search { wanted, ..asked };
     match explain_search(alloc, program, within, watch, out) {
         Ok(Ok(found)) => Ok(status_by(found.refusal)),
         Ok(Err(_error)) => Ok(REFUSED),
@@ -253,7 +254,7 @@ fn explained_inferred<'a, P: Places, W: Write, H: Watch>(
     order: Order,
 ) -> Result<u8, Failure<'a>>
     ensures ok { IfOk result (Answers (ImageSays P.opens order places.old input.entry.now places.new
-        (SoughtSays asked.entry.least asked.entry.most))) }
+        (SoughtSays asked.entry.wanted.least asked.entry.wanted.most))) }
     ensures err { IfErr result (ImageFails P.opens places.old input.entry.now places.new) }
     ensures opened { OpensFirst P.opens (input.entry.now ∷ []) places.old places.new }
 {
@@ -336,9 +337,7 @@ fn explained_subject<'a, P: Places, W: Write, H: Watch>(
             aspect,
         } => {
             let asked = Search {
-                least,
-                most,
-                deep,
+                wanted: Wanted { least, most, deep },
                 shown: shown_of(aspect, lines),
             };
             explained_inferred(alloc, places, out, watch, input, asked, order)

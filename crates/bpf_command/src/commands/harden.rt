@@ -1,7 +1,7 @@
 //! `bpf harden IN LEN OUT`.
 
 ghost use Rattle.bpf_insn.specs.Written.{AppendsBeginning};
-ghost use Rattle.std.specs.Prelude.{◌≡◌, ◌<◌, List, Option, IfOk, IfErr, IfSome, true};
+ghost use Rattle.std.specs.Prelude.{◌≡◌, ◌<◌, List, Option, IfOk, IfErr, IfSome, false};
 ghost use Rattle.bpf_insn.specs.Instruction.{slots};
 ghost use Rattle.bpf_insn.specs.Image.{IsProgram};
 ghost use Rattle.bpf_harden_notes.specs.RefusalNumbers.{harden_slot};
@@ -104,8 +104,8 @@ impl From<AllocError> for Unshown {
     }
 }
 
-/// Notes of a hardened program. With `--proved` they show that it keeps the meaning, or it is refused. People are told whether they show it,
-/// and for which runs.
+/// Notes of a hardened program. They show that it keeps the meaning, or it is refused, but with `--unproved`. People are told whether they
+/// show it, and for which runs.
 fn shown<H: Aside>(
     alloc: Global,
     aside: &H,
@@ -113,7 +113,7 @@ fn shown<H: Aside>(
     hardened: &Hardened,
     asked: Hardening<'_>,
 ) -> Result<Vec<Option<Place>>, Unshown>
-    ensures matches { IfOk result (λ notes. asked.entry.proved ≡ true → MatchesLeaving asked.entry program.now hardened.now.program notes.items) }
+    ensures matches { IfOk result (λ notes. asked.entry.unproved ≡ false → MatchesLeaving asked.entry program.now hardened.now.program notes.items) }
     ensures err { IfErr result (IsUnshown program.now hardened.now.program asked.entry) }
 {
     let runs = Bounds {
@@ -132,11 +132,11 @@ fn shown<H: Aside>(
             after_proof(aside, untouched);
             Ok(notes)
         }
-        Some(mismatch) if asked.proved => Err(Unshown::Differs(mismatch)),
-        Some(mismatch) => {
+        Some(mismatch) if asked.unproved => {
             after_mismatch(aside, mismatch);
             Ok(notes)
         }
+        Some(mismatch) => Err(Unshown::Differs(mismatch)),
     }
 }
 
@@ -182,7 +182,7 @@ fn beside_of<H: Aside>(
     asked: Hardening<'_>,
 ) -> Result<Beside, Unshown>
     ensures shown { IfOk result (λ beside. (notes : List (Option Place))
-        × (asked.entry.proved ≡ true → MatchesLeaving asked.entry program.now hardened.now.program notes)
+        × (asked.entry.unproved ≡ false → MatchesLeaving asked.entry program.now hardened.now.program notes)
         × IfSome asked.entry.notes (λ _. beside.notes.items ≡ notes_text notes)) }
     ensures err { IfErr result (IsUnshown program.now hardened.now.program asked.entry) }
 {

@@ -1,12 +1,8 @@
 //! `bpf infer IN LEN OUT`, and the same with `--deep`.
 
 ghost use Rattle.bpf_insn.specs.Written.{AppendsBeginning};
-ghost use Rattle.std.specs.Prelude.{◌≡◌, ◌≤◌, ◌<◌, IfOk, IfErr};
+ghost use Rattle.std.specs.Prelude.{◌≡◌, IfOk, IfErr};
 ghost use Rattle.std.specs.String.{string_bytes};
-ghost use Rattle.bpf_insn.specs.Instruction.{slots};
-ghost use Rattle.bpf_insn.specs.Limits.{max_context};
-ghost use Rattle.bpf_cert.specs.Limits.{IsCertificate};
-ghost use Rattle.bpf_infer_error.specs.RefusalNumbers.{infer_slot};
 ghost use Rattle.bpf_answers.specs.Answer.{Answered, Says, text_of, Unfinished};
 ghost use Rattle.bpf_answers.specs.Answer.Answer.{NotProposed};
 ghost use Rattle.bpf_places.specs.Made.{making};
@@ -16,9 +12,8 @@ ghost use Rattle.bpf_answers.specs.Told.{OutputFails};
 use crate::advice::{Sought, after_search};
 use crate::aside::Aside;
 use bpf_answers::{Failure, REFUSED, program_at, put, refuse_image, say};
-use bpf_cert::Certificate;
-use bpf_infer::{InferError, Watch, infer, search};
-use bpf_insn::{MAX_CONTEXT, Order, Program};
+use bpf_infer::{InferError, Wanted, propose};
+use bpf_insn::{MAX_CONTEXT, Order};
 use bpf_places::Places;
 use std::alloc::{AllocError, Global};
 use std::io::Write;
@@ -54,30 +49,6 @@ fn refuse_inference<'a, W: Write>(
     Ok(REFUSED)
 }
 
-/// The certificate that the table of the inferrer proposes, or the deep search.
-fn proposed<H: Watch>(
-    alloc: Global,
-    program: &Program,
-    least: u32,
-    most: u32,
-    deep: bool,
-    watch: &mut H,
-) -> Result<Certificate, InferError>
-    requires order { least ≤ most }
-    requires short { most ≤ max_context }
-    ensures version { IfOk result (λ c. c.version ≡ 2) }
-    ensures least { IfOk result (λ c. c.least ≡ least) }
-    ensures most { IfOk result (λ c. c.most ≡ most) }
-    ensures certificate { IfOk result (λ c. IsCertificate c) }
-    ensures slot { IfErr result (λ e. infer_slot e < slots program.now.list) }
-{
-    if deep {
-        search(alloc, program, least, most, watch)
-    } else {
-        infer(alloc, program, least, most)
-    }
-}
-
 /// Writes a certificate for an image and contexts of `least` to `most` bytes. The place for it is made only where there is
 /// one.
 pub fn inferred<'a, P: Places, W: Write, H: Aside>(
@@ -107,15 +78,18 @@ pub fn inferred<'a, P: Places, W: Write, H: Aside>(
     };
     // `respond` has seen that the lengths are in order, and the words' parser that they are at most the greatest.
     let most = most.min(MAX_CONTEXT as u32);
-    match proposed(alloc, &program, least.min(most), most, deep, aside) {
+    let wanted = Wanted {
+        least: least.min(most),
+        most,
+        deep,
+    };
+    match propose(alloc, &program, wanted, aside) {
         Ok(certificate) => put(places, output, &certificate),
         Err(error) => {
             let status = refuse_inference(alloc, out, error)?;
             let sought = Sought {
                 input,
-                least,
-                most,
-                deep,
+                wanted,
                 order,
             };
             after_search(&*aside, &program, sought, error);

@@ -1,7 +1,7 @@
 //! Budgets that don't cover a cost.
 
 use crate::known::{Known, Name, Offset};
-use crate::places::{content, tag_at};
+use crate::places::tag_at;
 use crate::sight::{Sight, Way};
 use bpf_cert::{Label, Measure, Term};
 use bpf_check::place_of;
@@ -38,7 +38,7 @@ fn tell_worst<W: Tell>(out: &mut W, state: &State, term: &Term) {
     let place = place_of(term);
     let name = Name(place);
     let weight = term.weight;
-    let held = content(state, place);
+    let held = state.content(place);
     let SlotState::Word(number) = held else {
         let held = Known(held);
         return write!(out, ", and {name} is {held}");

@@ -1,7 +1,6 @@
 //! C8: states that don't lie in the label that they lead to.
 
 use crate::known::{Known, Name, Written, known_register};
-use crate::places::content;
 use crate::sight::{Sight, Way};
 use bpf_cert::Label;
 use bpf_check::Callee;
@@ -13,7 +12,7 @@ use bpf_state::{SlotState, State, enter};
 pub fn first_difference(state: &State, label: &Label) -> Option<(Name, Known, Written)> {
     let claimed = label.state.state();
     let place = state.first_lost(&claimed)?;
-    let (held, said) = (content(state, place), content(&claimed, place));
+    let (held, said) = (state.content(place), claimed.content(place));
     Some((Name(place), Known(held), Written(said)))
 }
 

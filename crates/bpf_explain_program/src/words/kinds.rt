@@ -1,7 +1,6 @@
 //! Registers of which nothing is known, and operands of the wrong kinds.
 
 use crate::known::{Known, Name, Offset, known_register};
-use crate::places::content;
 use crate::sight::Sight;
 use crate::words::origins::tell_lost;
 use crate::words::register;
@@ -17,20 +16,25 @@ pub fn tell_unknown<C: Code, W: Tell>(out: &mut W, sight: &Sight<'_, C>) {
     }
 }
 
-/// A rule, and what some registers hold.
-fn tell_registers<W: Tell>(out: &mut W, rule: &str, state: &State, registers: [Option<Reg>; 3]) {
-    write!(out, "{rule}");
+/// What some registers hold, as `r1 is ctx0..0 and r2 is 8`.
+pub fn tell_held<W: Tell>(out: &mut W, state: &State, registers: [Option<Reg>; 3]) {
     let mut is_first = true;
     for reg in registers.into_iter().flatten() {
-        let begin = if is_first { ":" } else { " and" };
+        let and = if is_first { "" } else { " and " };
         let (name, held) = (register(reg), known_register(state.reg(reg)));
-        write!(out, "{begin} {name} is {held}");
+        write!(out, "{and}{name} is {held}");
         is_first = false;
     }
 }
 
+/// A rule, and what some registers hold.
+fn tell_registers<W: Tell>(out: &mut W, rule: &str, state: &State, registers: [Option<Reg>; 3]) {
+    write!(out, "{rule}: ");
+    tell_held(out, state, registers);
+}
+
 /// A rule, and what the registers that an instruction reads hold.
-pub fn tell_operands<C: Code, W: Tell>(out: &mut W, rule: &str, sight: &Sight<'_, C>) {
+fn tell_operands<C: Code, W: Tell>(out: &mut W, rule: &str, sight: &Sight<'_, C>) {
     tell_registers(out, rule, &sight.before, sight.site.insn.registers_read());
 }
 
@@ -58,7 +62,7 @@ fn tell_number_wanted<C: Code, W: Tell>(out: &mut W, sight: &Sight<'_, C>, reg: 
 /// The spilled pointer in a slot that is read in part, or changed.
 fn tell_part<C: Code, W: Tell>(out: &mut W, sight: &Sight<'_, C>, slot: u8) {
     let place = Place::Slot(slot);
-    let (name, held) = (Name(place), Known(content(&sight.before, place)));
+    let (name, held) = (Name(place), Known(sight.before.content(place)));
     let (deed, rule) = if matches!(sight.site.insn, Insn::Atomic { .. }) {
         ("change", "an atomic operation takes numbers alone")
     } else {

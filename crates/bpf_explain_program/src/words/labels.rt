@@ -2,7 +2,6 @@
 
 use crate::known::{Known, Name, Written};
 use crate::listing::steps_of;
-use crate::places::content;
 use crate::words::edges::first_difference;
 use bpf_cert::{Function, Label, Measure, Term};
 use bpf_check::{Index, SeenStart, Standing, function_at, label_at, place_of};
@@ -28,7 +27,7 @@ fn tell_place<C: Code, W: Tell>(out: &mut W, program: &C, slot: u32) {
 /// C9: a term counts what is no number, or what may be above its limit.
 fn tell_term<W: Tell>(out: &mut W, label: &Label, term: &Term) {
     let place = place_of(term);
-    let (name, held) = (Name(place), Known(content(&label.state.state(), place)));
+    let (name, held) = (Name(place), Known(label.state.state().content(place)));
     match (term.measure, held) {
         (Measure::Up(_, limit), Known(SlotState::Word(_))) => write!(
             out,
@@ -61,7 +60,7 @@ fn tell_outside<W: Tell>(out: &mut W, certificate: &Index, function: &Function, 
 fn tell_empty<W: Tell>(out: &mut W, label: &Label) {
     let state = label.state.state();
     if let Some(place) = state.first_empty() {
-        let (name, said) = (Name(place), Written(content(&state, place)));
+        let (name, said) = (Name(place), Written(state.content(place)));
         write!(out, "no number is {said}, as the label says of {name}");
     }
 }

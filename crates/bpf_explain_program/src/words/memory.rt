@@ -1,15 +1,15 @@
 //! Accesses out of bounds, of bytes that aren't initialised, and of what may not be written.
 
-use crate::known::{Name, Offset, known_register};
+use crate::known::{Far, Name, Offset, known_register};
 use crate::listing::Lengths;
 use crate::sight::Sight;
-use crate::words::kinds::tell_operands;
+use crate::words::kinds::tell_held;
 use crate::words::origins::{tell_operand_tested, tell_sum_tested};
 use crate::words::register;
 use bpf_check::Index;
 use bpf_explain_page::{Count, Tell};
 use bpf_insn::{Access, Code};
-use bpf_state::{Place, Reach, unknown_bytes};
+use bpf_state::{FARTHEST, Place, Reach, far_pointer, unknown_bytes};
 use std::fmt;
 
 /// What an access does.
@@ -64,12 +64,24 @@ fn tell_outside<W: Tell>(out: &mut W, certificate: &Index, reach: Reach) {
     }
 }
 
+/// C5 of arithmetic: the pointer that would come out, and what the operands hold.
+fn tell_far<C: Code, W: Tell>(out: &mut W, sight: &Sight<'_, C>) {
+    let Some(made) = far_pointer(&sight.site.insn, &sight.before) else {
+        return;
+    };
+    let far = Far(made);
+    write!(
+        out,
+        "the pointer may leave its bounds, -{FARTHEST} to {FARTHEST}: it would be {far}; "
+    );
+    tell_held(out, &sight.before, sight.site.insn.registers_read());
+    tell_operand_tested(out, sight);
+}
+
 /// C5: an access may leave the context or the frame, or a pointer its bounds.
 pub fn tell_bounds<C: Code, W: Tell>(out: &mut W, sight: &Sight<'_, C>) {
     let Some(access) = sight.site.insn.access() else {
-        let rule = "the pointer may leave its bounds, -2147483648 to 2147483648";
-        tell_operands(out, rule, sight);
-        return tell_operand_tested(out, sight);
+        return tell_far(out, sight);
     };
     let held = known_register(sight.before.reg(access.base));
     let (touch, name) = (Touch(access), register(access.base));

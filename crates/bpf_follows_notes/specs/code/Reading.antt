@@ -1,9 +1,10 @@
 -- What stands at the front of a text, and what is left behind it. What is read so is spelled again and compared, so it needn't be strict.
-use Rattle.std.specs.Prelude.{ℕ, zero, suc, ◌+◌, ◌*◌, ◌-◌, ◌^◌, ◌==◌, ◌&&◌, nat_le, nat_lt, List, [], ◌∷◌, ◌++◌, Bool, true, false, Option, Some, None, option_map, if◌then◌else◌, Result, Ok, Err, codes, set, replicate, ℤ, pos, neg_ℤ}
+use Rattle.std.specs.Prelude.{ℕ, zero, suc, ◌+◌, ◌*◌, ◌-◌, ◌^◌, ◌&&◌, nat_le, nat_lt, List, [], ◌∷◌, ◌++◌, Bool, true, false, Option, Some, None, option_map, if◌then◌else◌, Result, Ok, Err, codes, set, replicate, ℤ, pos, neg_ℤ}
 use Rattle.std.specs.List.{slice_get}
 use Rattle.std.specs.Option.{option_map_or}
 use Rattle.bpf_insn.specs.declared.instruction.Reg.{Reg}
 use Rattle.bpf_insn.specs.declared.instruction.Reg.TheVariants.{R0, R1, R2, R3, R4, R5, R6, R7, R8, R9, R10}
+use Rattle.bpf_lines.specs.Words.{behind}
 use Rattle.bpf_follows_law.specs.declared.notes.Area.{Area}
 use Rattle.bpf_follows_law.specs.declared.notes.Area.TheVariants.{Given, Own}
 use Rattle.bpf_follows_law.specs.declared.notes.Kind.{Kind}
@@ -22,12 +23,6 @@ None >>= f = None
 abbrev pub or_else : {A : Type 0} → Option A → Option A → Option A
 or_else None y = y
 or_else (Some x) y = Some x
-
--- what stands behind the word
-unfoldable pub behind : List ℕ → List ℕ → Option (List ℕ)
-behind [] text = Some text
-behind (c ∷ word) [] = None
-behind (c ∷ word) (x ∷ text) = if x == c then behind word text else None
 
 -- ---- numbers
 

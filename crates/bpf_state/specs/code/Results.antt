@@ -1,10 +1,11 @@
 -- What arithmetic makes of what is known of two values, or why it is refused.
-use Rattle.std.specs.Prelude.{ℕ, ℤ, Option, Some, None, Result, Ok, Err, IfOk, IfSome, option_map, if◌then◌else◌}
+use Rattle.std.specs.Prelude.{ℕ, Option, Some, None, Result, Ok, Err, IfOk, IfSome, option_map, if◌then◌else◌}
 use Rattle.bpf_insn.specs.Effects.{is_frame_pointer}
 use Rattle.bpf_insn.specs.declared.instruction.Reg.{Reg}
 use Rattle.bpf_insn.specs.declared.instruction.Width.{Width}
+use Rattle.bpf_insn.specs.declared.instruction.Width.TheVariants.{W64}
 use Rattle.bpf_insn.specs.declared.instruction.AluOp.{AluOp}
-use Rattle.bpf_insn.specs.declared.instruction.AluOp.TheVariants.{Lsh, Rsh, Mov, Arsh}
+use Rattle.bpf_insn.specs.declared.instruction.AluOp.TheVariants.{Add, Sub, Lsh, Rsh, Mov, Arsh}
 use Rattle.bpf_num.specs.Word.{exact}
 use Rattle.bpf_num.specs.Number.{is_constant}
 use Rattle.bpf_num.specs.Operation.{num_alu}
@@ -12,10 +13,9 @@ use Rattle.bpf_state.specs.declared.fault.StateFault.{StateFault}
 use Rattle.bpf_state.specs.declared.fault.StateFault.TheVariants.{WrongKinds, OutOfBounds}
 use Rattle.bpf_state.specs.declared.known.RegState.{RegState}
 use Rattle.bpf_state.specs.declared.known.RegState.TheVariants.{Num, Ptr}
-use Rattle.bpf_state.specs.declared.known.Area.{Area}
 use Rattle.bpf_state.specs.declared.known.Tag.{Tag}
 use Rattle.bpf_state.specs.State.{AbstractState, IsRegister, put_register}
-use Rattle.bpf_state.specs.Fault.{alu_of_kinds, leaves_bounds}
+use Rattle.bpf_state.specs.Fault.{pointer_plus, pointer_minus, alu_of_kinds, leaves_bounds}
 use Rattle.bpf_state.specs.Transfer.{Outcome, Faulty, live}
 
 -- the number that is known of a value, if it is one alone
@@ -43,9 +43,6 @@ IsKnown known = IfOk known (λ result. IfSome result IsRegister)
 abbrev pub near_value : RegState → Known
 near_value value = if leaves_bounds value then Err OutOfBounds else Ok (Some value)
 
-abbrev pub near : Area → ℤ → ℤ → Known
-near area lo hi = near_value (Ptr (record { area = area; lo = lo; hi = hi }))
-
 -- a move takes any pointer
 abbrev pub judged_result : AluOp → Option (Option RegState) → Known
 judged_result op None = Err WrongKinds
@@ -55,6 +52,21 @@ judged_result op (Some (Some value)) = near_value value
 
 abbrev pub result_of : Width → AluOp → RegState → RegState → Known
 result_of width op a b = judged_result op (alu_of_kinds width op a b)
+
+-- the pointer that a pointer and a number make, however far off it is
+abbrev pub moved_by_sum : RegState → RegState → Option RegState
+moved_by_sum (Ptr p) (Num n) = Some (pointer_plus p n)
+moved_by_sum (Num n) (Ptr p) = Some (pointer_plus p n)
+moved_by_sum _ _ = None
+
+abbrev pub moved_by_difference : RegState → RegState → Option RegState
+moved_by_difference (Ptr p) (Num n) = Some (pointer_minus p n)
+moved_by_difference _ _ = None
+
+abbrev pub moved_pointer : Width → AluOp → RegState → RegState → Option RegState
+moved_pointer W64 Add a b = moved_by_sum a b
+moved_pointer W64 Sub a b = moved_by_difference a b
+moved_pointer _ _ _ _ = None
 
 -- of numbers alone
 abbrev pub numbers_result : Width → AluOp → RegState → RegState → Known

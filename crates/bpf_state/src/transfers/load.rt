@@ -33,8 +33,8 @@ pub(crate) fn load_imm64(dst: Reg, value: u64, state: &mut State) -> Result<bool
     Ok(true)
 }
 
-/// Any number of a size, zero-extended.
-fn any_number(size: Size) -> Option<Num>
+/// Any number of a size, zero-extended: what a load gives where nothing more is known. None only if there is none.
+pub fn any_number(size: Size) -> Option<Num>
     ensures { result ≡ any_number (byte_count size) }
 {
     let unsigned = match size {
@@ -46,8 +46,8 @@ fn any_number(size: Size) -> Option<Num>
     Num::of(KnownBits::top(), unsigned, Signed::top()).tighten()
 }
 
-/// Any number of a size, sign-extended.
-fn any_signed(size: Size) -> Option<Num>
+/// Any number of a size, sign-extended: what a sign-extending load gives. None only if there is none.
+pub fn any_signed(size: Size) -> Option<Num>
     ensures { result ≡ any_signed (byte_count size) }
 {
     let signed = match size {

@@ -8,10 +8,11 @@ ghost use Rattle.bpf_state.specs.declared.known.RegState.{RegState};
 ghost use Rattle.bpf_state.specs.declared.known.RegState.TheVariants.{Num as Number, Ptr};
 ghost use Rattle.bpf_state.specs.State.{IsPointer, IsRegister};
 ghost use Rattle.bpf_state.specs.Fault.{difference, pointer_plus, pointer_minus};
-ghost use Rattle.bpf_state.specs.code.Results.{IsKnown, near, near_value, numbers_result, result_of};
+ghost use Rattle.bpf_state.specs.Cause.{pointer_of};
+ghost use Rattle.bpf_state.specs.code.Results.{IsKnown, near_value, moved_by_sum, moved_by_difference, moved_pointer, numbers_result, result_of};
 
 use crate::fault::StateFault;
-use crate::known::{Area, FARTHEST, Pointer, RegState};
+use crate::known::{Moved, Pointer, RegState};
 use bpf_insn::{AluOp, Width};
 use bpf_num::{KnownBits, Num, Signed, Unsigned, WordDomain};
 
@@ -36,49 +37,96 @@ fn difference(lo: i64, hi: i64, least: i64, most: i64) -> Option<RegState>
     number_state(Num::of(KnownBits::top(), Unsigned::top(), signed).tighten())
 }
 
-/// The pointer with other bounds, if they aren't too far off.
-fn near(area: Area, lo: i128, hi: i128) -> Result<Option<RegState>, StateFault>
-    requires { lo ≤ℤ hi }
-    ensures value { result ≡ near area lo hi }
+/// The pointer, if it isn't too far off.
+fn near(made: Moved) -> Result<Option<RegState>, StateFault>
+    requires { made.lo ≤ℤ made.hi }
+    ensures value { result ≡ near_value (pointer_of made) }
     ensures ordered { IsKnown result }
 {
-    if -(FARTHEST as i128) <= lo && hi <= FARTHEST as i128 {
-        Ok(Some(RegState::Ptr(Pointer {
-            area,
-            lo: lo as i64,
-            hi: hi as i64,
-        })))
-    } else {
-        Err(StateFault::OutOfBounds)
+    if made.is_far() {
+        return Err(StateFault::OutOfBounds);
+    }
+    Ok(Some(RegState::Ptr(Pointer {
+        area: made.area,
+        lo: made.lo as i64,
+        hi: made.hi as i64,
+    })))
+}
+
+fn pointer_plus(p: Pointer, n: Num) -> Moved
+    requires { IsPointer p }
+    ensures value { pointer_of result ≡ pointer_plus p n }
+    ensures ordered { result.lo ≤ℤ result.hi }
+{
+    n.valid();
+    let by = n.signed();
+    Moved {
+        area: p.area,
+        lo: p.lo as i128 + by.lo() as i128,
+        hi: p.hi as i128 + by.hi() as i128,
     }
 }
 
-fn pointer_plus(p: Pointer, n: Num) -> Result<Option<RegState>, StateFault>
+fn pointer_minus(p: Pointer, n: Num) -> Moved
     requires { IsPointer p }
-    ensures value { result ≡ near_value (pointer_plus p n) }
-    ensures ordered { IsKnown result }
+    ensures value { pointer_of result ≡ pointer_minus p n }
+    ensures ordered { result.lo ≤ℤ result.hi }
 {
     n.valid();
     let by = n.signed();
-    near(
-        p.area,
-        p.lo as i128 + by.lo() as i128,
-        p.hi as i128 + by.hi() as i128,
-    )
+    Moved {
+        area: p.area,
+        lo: p.lo as i128 - by.hi() as i128,
+        hi: p.hi as i128 - by.lo() as i128,
+    }
 }
 
-fn pointer_minus(p: Pointer, n: Num) -> Result<Option<RegState>, StateFault>
-    requires { IsPointer p }
-    ensures value { result ≡ near_value (pointer_minus p n) }
-    ensures ordered { IsKnown result }
+/// The pointer that the sum of a pointer and a number is.
+fn moved_by_sum(a: &RegState, b: &RegState) -> Option<Moved>
+    requires left { IsRegister a.now }
+    requires right { IsRegister b.now }
+    ensures value { option_map pointer_of result ≡ moved_by_sum a.now b.now }
+    ensures ordered { IfSome result (λ made. made.lo ≤ℤ made.hi) }
 {
-    n.valid();
-    let by = n.signed();
-    near(
-        p.area,
-        p.lo as i128 - by.hi() as i128,
-        p.hi as i128 - by.lo() as i128,
-    )
+    match *a {
+        RegState::Ptr(p) => match *b {
+            RegState::Num(n) => Some(pointer_plus(p, n)),
+            RegState::Any | RegState::Ptr(_) => None,
+        },
+        RegState::Num(n) => match *b {
+            RegState::Ptr(p) => Some(pointer_plus(p, n)),
+            RegState::Any | RegState::Num(_) => None,
+        },
+        RegState::Any => None,
+    }
+}
+
+/// The pointer that a pointer less a number is.
+fn moved_by_difference(a: &RegState, b: &RegState) -> Option<Moved>
+    requires left { IsRegister a.now }
+    ensures value { option_map pointer_of result ≡ moved_by_difference a.now b.now }
+    ensures ordered { IfSome result (λ made. made.lo ≤ℤ made.hi) }
+{
+    match *a {
+        RegState::Ptr(p) => match *b {
+            RegState::Num(n) => Some(pointer_minus(p, n)),
+            RegState::Any | RegState::Ptr(_) => None,
+        },
+        RegState::Any | RegState::Num(_) => None,
+    }
+}
+
+/// The pointer that an operation other than a move makes, however far off it is.
+pub(crate) fn moved_pointer(width: Width, op: AluOp, a: &RegState, b: &RegState) -> Option<Moved>
+    requires left { IsRegister a.now }
+    requires right { IsRegister b.now }
+    ensures { option_map pointer_of result ≡ moved_pointer width op a.now b.now }
+{
+    match (width, op) {
+        (Width::W64, AluOp::Add) => moved_by_sum(a, b),
+        (Width::W64, AluOp::Sub) => moved_by_difference(a, b),
+        _ => None,
+    }
 }
 
 /// What is known of the difference of two pointers, if both are into the same.
@@ -135,17 +183,9 @@ fn sum_result(a: RegState, b: RegState) -> Result<Option<RegState>, StateFault>
     ensures value { result ≡ result_of W64 Add a b }
     ensures ordered { IsKnown result }
 {
-    match a {
-        RegState::Num(m) => match b {
-            RegState::Num(n) => Ok(number_state(m.alu(AluOp::Add, Width::W64, n))),
-            RegState::Ptr(q) => pointer_plus(q, m),
-            RegState::Any => Err(StateFault::WrongKinds),
-        },
-        RegState::Ptr(p) => match b {
-            RegState::Num(n) => pointer_plus(p, n),
-            RegState::Any | RegState::Ptr(_) => Err(StateFault::WrongKinds),
-        },
-        RegState::Any => Err(StateFault::WrongKinds),
+    match moved_by_sum(&a, &b) {
+        Some(made) => near(made),
+        None => numbers_result(Width::W64, AluOp::Add, a, b),
     }
 }
 
@@ -156,15 +196,14 @@ fn difference_result(a: RegState, b: RegState) -> Result<Option<RegState>, State
     ensures value { result ≡ result_of W64 Sub a b }
     ensures ordered { IsKnown result }
 {
+    if let Some(made) = moved_by_difference(&a, &b) {
+        return near(made);
+    }
     match a {
-        RegState::Num(m) => match b {
-            RegState::Num(n) => Ok(number_state(m.alu(AluOp::Sub, Width::W64, n))),
-            RegState::Any | RegState::Ptr(_) => Err(StateFault::WrongKinds),
-        },
+        RegState::Num(_) => numbers_result(Width::W64, AluOp::Sub, a, b),
         RegState::Ptr(p) => match b {
-            RegState::Num(n) => pointer_minus(p, n),
             RegState::Ptr(q) => pointer_difference(p, q),
-            RegState::Any => Err(StateFault::WrongKinds),
+            RegState::Any | RegState::Num(_) => Err(StateFault::WrongKinds),
         },
         RegState::Any => Err(StateFault::WrongKinds),
     }

@@ -2,7 +2,7 @@
 
 ghost use Rattle.std.specs.Prelude.{◌≡◌, IsTrue, true, Some, option_map};
 ghost use Rattle.bpf_insn.specs.declared.order.Order.{Order};
-ghost use Rattle.bpf_state.specs.State.{IsRegister, IsSlot, value_slot};
+ghost use Rattle.bpf_state.specs.State.{IsRegister};
 ghost use Rattle.bpf_state.specs.Access.{is_inside};
 ghost use Rattle.bpf_state.specs.Transfer.{transfer, stored};
 ghost use Rattle.bpf_state.specs.code.Parts.{store_fault, store_insn, store_outcome};
@@ -11,23 +11,10 @@ ghost use Rattle.bpf_state.specs.Condition.{fault_number};
 
 use crate::access::Reach;
 use crate::fault::StateFault;
-use crate::known::{RegState, SlotState, Tag};
+use crate::known::{RegState, Tag, value_slot};
 use crate::slots::{maybe_write, write};
 use crate::state::State;
 use bpf_insn::{Operand, Reg, Size};
-
-/// A slot that holds what a register does.
-fn value_slot(value: RegState) -> SlotState
-    requires { IsRegister value }
-    ensures value { result ≡ value_slot value }
-    ensures mask { IsSlot result }
-{
-    match value {
-        RegState::Num(n) => SlotState::Word(n),
-        RegState::Ptr(p) => SlotState::Spilled(p),
-        RegState::Any => SlotState::Bytes(0),
-    }
-}
 
 /// Writes a value to the frame: a whole slot holds it then with its counter; of others the bytes are known or not.
 fn put(reach: Reach, value: RegState, tag: Option<Tag>, state: &mut State)

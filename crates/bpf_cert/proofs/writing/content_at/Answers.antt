@@ -6,7 +6,7 @@ use Rattle.bpf_cert.proofs.writing.content_at.Goals as goal
 
 pub returns-then-j-lt10 : goal.returns-then-j-lt10
 returns-then-j-lt10 c =
-    c.value_slot.ensures ∙ ap value_slot (c.reg.ensures.value ∙ ap (λ n. get_or c.args.state.now.registers n Any) c.numbered.ensures)
+    c.value_slot.ensures.value ∙ ap value_slot (c.reg.ensures.value ∙ ap (λ n. get_or c.args.state.now.registers n Any) c.numbered.ensures)
     ∙ sym (content_register c.args.state.now c.args.j c.if-j-lt10.true c.valid.ensures.state)
 
 pub returns-else-j-lt10 : goal.returns-else-j-lt10

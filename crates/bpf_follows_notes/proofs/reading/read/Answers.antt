@@ -1,6 +1,6 @@
 use Rattle.std.proofs.Common.{◌≡◌, inl, None, refl, sym}
+use Rattle.bpf_lines.specs.Words.{behind}
 use Rattle.bpf_follows_notes.specs.NotesText.{head_line}
-use Rattle.bpf_follows_notes.specs.code.Reading.{behind}
 use Rattle.bpf_follows_notes.proofs.Whole.{no_head, whole_ok, whole_only, whole_err}
 use Rattle.bpf_follows_notes.proofs.reading.read.Goals as goal
 

@@ -1,6 +1,7 @@
 use Rattle.std.proofs.Common.{rules, ◌≡◌, Some, None, sym, ap, ◌∙◌}
+use Rattle.bpf_lines.specs.Words.{behind}
 use Rattle.bpf_follows_notes.specs.NotesText.{note_line}
-use Rattle.bpf_follows_notes.specs.code.Reading.{behind, note_in}
+use Rattle.bpf_follows_notes.specs.code.Reading.{note_in}
 use Rattle.bpf_follows_notes.proofs.Again.{taken_none, taken_some, taken_other}
 use Rattle.bpf_follows_notes.proofs.reading.taken_at.Goals as goal
 

@@ -13,10 +13,10 @@ pub returns-in-Ok-Ok-clause-ok : goal.returns-in-Ok-Ok-clause-ok
 returns-in-Ok-Ok-clause-ok g c =
     let k = c.in-Ok-Ok.found.certificate in
     let o = c.in-Ok-Ok.found.refusal in
-    let found : IsProposal c.args.asked.least c.args.asked.most k = search rules in
+    let found : IsProposal c.args.asked.wanted.least c.args.asked.wanted.most k = search rules in
     let certifies : IfNone o (IsCertifiedBy c.args.program.now k) = search rules in
     let flaw : IfSome o (λ r. IsLeastFlaw c.args.program.now k (refusal_slot r) (refusal_number r)) = search rules in
-    sought c.args.asked.least c.args.asked.most c.args.program.now k c.status_by.result found (judges_by c.args.program.now k o c.status_by.result certifies flaw c.status_by.ensures.yes c.status_by.ensures.no)
+    sought c.args.asked.wanted.least c.args.asked.wanted.most c.args.program.now k c.status_by.result found (judges_by c.args.program.now k o c.status_by.result certifies flaw c.status_by.ensures.yes c.status_by.ensures.no)
 
 pub returns-in-Ok-Err-clause-ok : goal.returns-in-Ok-Err-clause-ok
 returns-in-Ok-Err-clause-ok g c =
