@@ -54,7 +54,7 @@ says() {
 
 # Sources that make no image, and those that do.
 refusals() {
-    says "2 functions in .text that aren't static, all filter" <<'C'
+    says "2 functions in .text that aren't static, all, filter" <<'C'
 u64 all(const struct context *context, u64 size) { return 1; }
 u64 filter(const struct context *context, u64 size) { return context->length > 14; }
 C
@@ -81,6 +81,26 @@ C
     says 'case.c:4: calls `memcmp`, which isn'"'"'t in .text' <<'C'
 int memcmp(const void *, const void *, __SIZE_TYPE__);
 u64 filter(const struct context *context, u64 size) { return memcmp(context->packet, context->packet + 8, context->length & 7); }
+C
+    says 'needs more than the 512 bytes of a frame' <<'C'
+u64 filter(const struct context *context, u64 size)
+{
+	volatile u64 counts[80];
+	for (u64 i = 0; i < 80; i++) counts[i] = i;
+	return counts[context->length & 63];
+}
+C
+    says '' <<'C'
+#include <stdbool.h>
+#include <stddef.h>
+#include <stdint.h>
+uint64_t filter(const struct context *context, uint64_t size)
+{
+	uint32_t first;
+	__builtin_memcpy(&first, context->packet, sizeof(first));
+	bool is_long = context->length > 14;
+	return first + is_long;
+}
 C
     says 'calls `twice`, which isn'"'"'t in xdp' <<'C'
 static __attribute__((noinline)) u64 twice(u64 x) { HIDE(x); return 2 * x; }

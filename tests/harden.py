@@ -314,7 +314,14 @@ def long_loop(count):
     return f'r7 = 10\n{INDEX * count}r7 += -1\nif r7 == 0 goto +1\ngotol -{5 * count + 3}\n'
 
 
-LONG = [WALK * 150, INDEX * 300, HALVE * 60, nest(3, WALK) * 40, long_loop(100)]
+def functions(count):
+    """So many functions, each called once."""
+    calls = ''.join(f'r1 = r6\ncall f{number}\n' for number in range(count))
+    bodies = 'exit\n'.join(f'f{number}:\nr0 = 0\nr6 = r1\n{WALK * 3}' for number in range(count))
+    return f'{calls}exit\n{bodies}'
+
+
+LONG = [WALK * 150, INDEX * 300, HALVE * 60, nest(3, WALK) * 40, long_loop(100), functions(250)]
 
 
 def try_long(bpf):

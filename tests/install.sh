@@ -183,7 +183,7 @@ refuses "prebuilt/bpf isn't there" with "$tree/tests/prebuilt.sh"
 while read -r path; do
     [ -s "$path" ] || complains "$path isn't there"
 done <"$dir/said"
-for path in bin/bpf bin/bpf-cc lib/libbpf_host.a lib/pkgconfig/bpf_host.pc include/bpf.h include/bpf/filter.h share/man/man1/bpf.1 share/doc/bpf/docs/GUIDE.md; do
+for path in bin/bpf bin/bpf-cc lib/libbpf_host.a lib/pkgconfig/bpf_host.pc include/bpf.h include/bpf.hpp include/bpf/filter.h share/man/man1/bpf.1 share/doc/bpf/docs/GUIDE.md; do
     grep -qx "$dir/real/$path" "$dir/said" || complains "$path isn't said"
 done
 lost=$(python3 - "$dir/real/share/doc/bpf" <<'LINKS'

@@ -2,7 +2,7 @@
 # build.sh [--big] [--section NAME] FILE.c OUT [FLAG..]: compiles a filter in C to an image. FLAGs go to the compiler.
 #
 # OUT gets the instructions of .text, or of the section NAME, into which SEC("NAME") puts a function. OUT.lines gets the source line of each
-# slot that has one: the slot, a blank, the file's name, a colon, the line's number, a blank, and the line as it stands there.
+# slot: the slot, a blank, the file's name, a colon, the line's number, a blank, and the line as it stands there; or that it has no line of its own.
 #
 # What no image has is refused in words, with status 1: a first function that isn't the one global function of its section, a table, a string
 # or a variable, which lie in other sections, and a call of what lies elsewhere. BPF_CC names the compiler, clang or bpf-gcc; else it is clang.
@@ -35,11 +35,12 @@ shift 2
 
 compiler=${BPF_CC:-clang}
 command -v "$compiler" >/dev/null || fail "no $compiler is there; BPF_CC names another compiler, clang or bpf-gcc"
-flags=(-O2 -Wall -g -mcpu=v3 -fno-jump-tables)
+# There is no C library: its headers are those of the compiler, as <stdint.h>. A copy of a constant length is still no call.
+flags=(-O2 -Wall -g -mcpu=v3 -fno-jump-tables -ffreestanding -fbuiltin)
 if "$compiler" --version | grep -q clang; then
     [ "$order" = little ] && target=bpfel || target=bpfeb
     # Without the reduction of strength an index stays an index, and no pointer walks. Without idioms no loop becomes a table or a call.
-    flags+=(-target "$target" -mllvm -disable-lsr -mllvm -disable-loop-idiom-all)
+    flags+=(-target "$target" -mllvm -disable-lsr -mllvm -disable-loop-idiom-all -fno-crash-diagnostics)
     tool() { "$compiler" -print-prog-name="llvm-$1"; }
 else
     # Functions stay in the order in which they are written, and a switch becomes no table.
@@ -60,7 +61,17 @@ done
 made=$(mktemp -d)
 trap 'rm -rf "$made"' EXIT
 object=$made/object
-"$compiler" "${flags[@]}" "$@" -c "$file" -o "$object" || fail "$file isn't compiled by $compiler"
+if ! "$compiler" "${flags[@]}" "$@" -c "$file" -o "$object" 2>"$made/errors"; then
+    # Of a crash of the compiler the lines behind the reason help nobody.
+    sed '/^PLEASE submit a bug report/,$d' "$made/errors" >&2
+    if grep -q -i 'signed division' "$made/errors"; then
+        fail "$file divides numbers with a sign, which takes a later compiler and -mcpu=v4: use unsigned ones, or a shift"
+    elif grep -q -i 'stack limit' "$made/errors"; then
+        fail "$file needs more than the 512 bytes of a frame: smaller arrays, or bits of a number"
+    fi
+    fail "$file isn't compiled by $compiler"
+fi
+cat "$made/errors" >&2
 
 # The symbols: section, place in hexadecimal, `global` or `local`, `function` or `data`, name.
 "$objdump" -t "$object" 2>/dev/null | awk -F '\t' '/^[0-9a-f]+ / && NF == 2 {
@@ -84,7 +95,7 @@ first=$(awk -v section="$section" '$1 == section && $2 ~ /^0+$/ && $4 == "functi
 case ${#filters[@]} in
 0) fail "$file has no function in $section that isn't static: which one is the filter?" ;;
 1) ;;
-*) fail "$file has ${#filters[@]} functions in $section that aren't static, ${filters[*]}: make each static but the filter" ;;
+*) fail "$file has ${#filters[@]} functions in $section that aren't static, $(printf '%s, ' "${filters[@]}" | sed 's/, $//'): make each static but the filter" ;;
 esac
 [ "$first" = "${filters[0]}" ] ||
     fail "$file: $section begins with \`$first\`, not with \`${filters[0]}\`: declare \`$first\` in front of it, and define it behind it"
@@ -101,13 +112,15 @@ awk '
         }
         return lines[path, number]
     }
+    # A block begins, or a function. Where no line follows, its instructions are of several lines, or of none.
+    /^; .*\(\):$/ { number = 0 }
     /^; .*:[0-9]+$/ { match($0, /:[0-9]+$/); path = substr($0, 3, RSTART - 3); number = substr($0, RSTART + 1) + 0 }
-    /^ *[0-9]+:\t/ && number {
-        text = line_of(path, number)
+    /^ *[0-9]+:\t/ && path {
+        text = number ? line_of(path, number) : "no line of its own"
         gsub(/[ \t\r]+/, " ", text)
         short = path
         sub(/.*\//, "", short)
-        print $1 + 0, short ":" number, text
+        print $1 + 0, short ":" (number ? number : ""), text
     }' "$made/listing" | sed 's/  */ /g; s/ $//' >"$made/lines"
 
 # ---- what lies elsewhere
@@ -123,7 +136,7 @@ awk '
     /^ *[0-9]+:\t/ { slot = $1 + 0; insn = $0; sub(/^[^\t]*\t/, "", insn) }
     /R_BPF_/ { print slot, $NF, insn }' "$made/listing" >"$made/relocations"
 while read -r slot symbol insn; do
-    place=$(awk -v slot="$slot" '$1 == slot { print $2 }' "$made/lines")
+    place=$(awk -v slot="$slot" '$1 == slot && $2 ~ /:[0-9]+$/ { print $2 }' "$made/lines")
     place=${place:-$file, slot $slot}
     number=$(sed -nE 's/.* (-?(0x[0-9a-f]+|[0-9]+))( ll)?$/\1/p' <<<"$insn")
     case $insn in
@@ -135,7 +148,7 @@ while read -r slot symbol insn; do
     esac
     case $symbol in
     .rodata.str*) fail "$place: uses a string, which lies in $symbol: an image holds instructions alone; compare characters or numbers" ;;
-    *) fail "$place: uses \`$(name_of "$symbol" "${number:-0}")\`, which isn't in $section: an image holds instructions alone; compare, or pack a table into a number's bits, or use local variables" ;;
+    *) fail "$place: uses \`$(name_of "$symbol" "${number:-0}")\`, which isn't in $section: an image holds instructions alone; compare, pack a table into a number's bits, or set a local array cell by cell, since what initialises one lies there, too" ;;
     esac
 done <"$made/relocations"
 

@@ -1,5 +1,5 @@
 -- What was read of a text.
-use Rattle.std.proofs.Common.{◌≡◌, ℕ, ◌<◌, ◌≤◌, List, [], length, Option, Some, None, IfSome, inl, inr, refl, subst}
+use Rattle.std.proofs.Common.{◌≡◌, ℕ, ◌<◌, List, [], length, Option, Some, None, IfSome, inl, refl, subst}
 use Rattle.std.specs.Prelude.{◌⊎◌}
 use Rattle.std.specs.Str.{IsUtf8}
 use Rattle.bpf_places.specs.Opened.{Fails, Opening}
@@ -14,16 +14,9 @@ pub may_fail : (known : Option (List ℕ)) → Fails known
 may_fail None = ([], tt)
 may_fail (Some bytes) = ([], refl)
 
--- a text that was read to its end is as short as what was read
-pub short_text : (known : Option (List ℕ)) (got text : List ℕ) → length got ≤ max_text → text ≡ got → IfSome known (λ bytes. got ≡ bytes) → IfSome known (λ bytes. (length bytes ≤ max_text) × (text ≡ bytes))
-short_text known got text short is h = if_some known (λ bytes same. subst (λ b. (length b ≤ max_text) × (text ≡ b)) same (short, is)) h
-
 -- what was read isn't UTF-8, and so isn't what is there
 pub no_text : (known : Option (List ℕ)) (got : List ℕ) → (¬ (IsUtf8 got)) → IfSome known (λ bytes. got ≡ bytes) → IfSome known (λ bytes. (¬ (IsUtf8 bytes)) ⊎ (max_text < length bytes))
 no_text known got none h = if_some known (λ bytes same. inl (subst (λ b. ¬ (IsUtf8 b)) same none)) h
-
-pub long_text : (known : Option (List ℕ)) → IfSome known (λ bytes. max_text < length bytes) → IfSome known (λ bytes. (¬ (IsUtf8 bytes)) ⊎ (max_text < length bytes))
-long_text known h = if_some known (λ bytes long. inr long) h
 
 -- what is said of the text that was read is said of the one at the name
 pub text_says : {S : Type 0} (opening : Opening S) (old : S) (name : List ℕ) (new : S) (text : List ℕ) (Q : List ℕ → Type 0) → ShortTextAt opening old name new (λ bytes. text ≡ bytes) → Q text → ShortTextAt opening old name new Q

@@ -1,5 +1,5 @@
 -- What stands at names: the image of a program, a text, a certificate, a context.
-use Rattle.std.specs.Prelude.{◌≡◌, ◌⊎◌, ◌<◌, ◌≤◌, length, ℕ, Bool, true, false, List, [], ◌∷◌, Option, Some, None, IfSome}
+use Rattle.std.specs.Prelude.{◌≡◌, ◌⊎◌, ◌<◌, ◌≤◌, length, ℕ, Bool, true, false, List, [], ◌∷◌, Option, Some, None, IfSome, ⊤}
 use Rattle.bpf_insn.specs.Instruction.{Instructions}
 use Rattle.bpf_insn.specs.Laws.{IsImageOfProgram}
 use Rattle.bpf_insn.specs.Refusal.{IsRefused}
@@ -16,6 +16,8 @@ use Rattle.bpf_places.specs.Opened.{Opening, ReadsAt, Unreadable}
 use Rattle.bpf_insn.specs.Limits.{max_context}
 use Rattle.bpf_answers.specs.Told.{OutputFails}
 use Rattle.bpf_answers.specs.declared.context.ContextError.TheVariants.{TooLong}
+use Rattle.bpf_answers.specs.declared.bytes.BytesError.{BytesError}
+use Rattle.bpf_answers.specs.declared.bytes.BytesError.TheVariants.{Unreadable as Unread, TooLong as TooMany, Memory as NoSpace}
 use Rattle.bpf_answers.specs.declared.failure.Failure.{Failure}
 use Rattle.bpf_answers.specs.declared.failure.Failure.TheVariants.{CannotRead, BadContext}
 
@@ -51,11 +53,21 @@ abbrev pub ImageFails : {S : Type 0} → Opening S → S → List ℕ → S → 
 ImageFails opening old input new (CannotRead name) = (name.now ≡ input) × Unreadable opening old input new
 ImageFails opening old input new failure = OutputFails failure
 
--- ---- texts
+-- ---- bytes
 
 -- what the name is opened to, with what is said of its text, where that is known
 abbrev pub TextAt : {S : Type 0} → Opening S → S → List ℕ → S → (List ℕ → Type 0) → Type 0
 TextAt opening old name new says = (text : Option (List ℕ)) × opening old name (Some text) new × IfSome text says
+
+-- these are all bytes at the name, and no more than so many
+abbrev pub BytesAt : {S : Type 0} → ℕ → Opening S → S → List ℕ → S → List ℕ → Type 0
+BytesAt most opening old name new bytes = TextAt opening old name new (λ text. bytes ≡ text) × (length bytes ≤ most)
+
+-- the name can't be opened, or its reader fails; or there are more
+abbrev pub AreUnread : {S : Type 0} → ℕ → Opening S → S → List ℕ → S → BytesError → Type 0
+AreUnread most opening old name new Unread = Unreadable opening old name new
+AreUnread most opening old name new TooMany = TextAt opening old name new (λ text. most < length text)
+AreUnread most opening old name new NoSpace = ⊤
 
 -- the greatest length of a text that is read, in bytes
 abbrev pub max_text : ℕ
@@ -99,7 +111,7 @@ CertificateFails opening old certificate new failure = OutputFails failure
 
 -- the bytes at the name are the context
 abbrev pub ContextAt : {S : Type 0} → Opening S → S → List ℕ → S → List ℕ → Type 0
-ContextAt opening old name new context = TextAt opening old name new (λ text. context ≡ text) × (length context ≤ max_context)
+ContextAt opening old name new context = BytesAt max_context opening old name new context
 
 -- there are too many bytes, or the name can't be read
 abbrev pub ContextFails : {S : Type 0} → Opening S → S → List ℕ → S → Failure → Type 0

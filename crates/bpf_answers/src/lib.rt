@@ -2,6 +2,7 @@
 //! refusal in its line, and what is told of failures.
 #![tactic(auto)]
 
+mod bytes;
 mod certificate;
 mod context;
 mod each;

@@ -5,45 +5,22 @@ ghost use Rattle.std.specs.String.{string_bytes};
 ghost use Rattle.bpf_insn.specs.Written.{AppendsBeginning};
 ghost use Rattle.bpf_answers.specs.Answer.{Says, follows_end, text_of};
 ghost use Rattle.bpf_answers.specs.Answer.Answer.{Follows, NoNotes, NotFollowed};
-ghost use Rattle.bpf_answers.specs.Loaded.{TextAt, Tried};
+ghost use Rattle.bpf_answers.specs.Loaded.{Tried};
 ghost use Rattle.bpf_answers.specs.Notes.{LoadsNotes, NotesFail, NotesRefused};
 ghost use Rattle.bpf_answers.specs.Told.{OutputFails};
 
+use crate::bytes::{BytesError, bytes_at};
 use crate::failure::{DONE, Failure, say};
 use crate::refusal::refuse_at;
 use bpf_follows::Mismatch;
 use bpf_follows_law::{Bounds, Place};
 use bpf_follows_notes::{NotesError, read};
-use bpf_places::{PlaceError, Places, read_up_to};
+use bpf_places::Places;
 use std::alloc::{AllocError, Global};
 use std::io::Write;
 
 /// The greatest length of a text of notes that is read, in bytes. Those of a program are shorter.
 const MAX_NOTES: usize = 33_554_432;
-
-/// All bytes at a name, which may be a text of notes.
-fn bytes_at<'a, P: Places>(
-    alloc: Global,
-    places: &mut P,
-    name: &'a str,
-) -> Result<Vec<u8>, Failure<'a>>
-    ensures ok { IfOk result (λ v. TextAt P.opens places.old name.entry.now places.new (λ text. v.items ≡ text)) }
-    ensures err { IfErr result (NotesFail P.opens places.old name.entry.now places.new) }
-    ensures names { Tried P.opens places.old name.entry.now places.new }
-{
-    let mut reader = match places.open(name) {
-        Ok(reader) => reader,
-        Err(PlaceError::Refused) => return Err(Failure::CannotRead(name)),
-        Err(PlaceError::Memory) => return Err(Failure::NoMemory),
-    };
-    let Some(bytes) = read_up_to(alloc, &mut reader, MAX_NOTES)? else {
-        return Err(Failure::CannotRead(name));
-    };
-    if bytes.len() > MAX_NOTES {
-        return Err(Failure::CannotRead(name));
-    }
-    Ok(bytes)
-}
 
 /// The notes at a name, or why they are refused. They can't be read where the text is longer than that of any notes of a program.
 pub fn notes_at<'a, P: Places>(
@@ -56,8 +33,11 @@ pub fn notes_at<'a, P: Places>(
     ensures err { IfErr result (NotesFail P.opens places.old name.entry.now places.new) }
     ensures names { Tried P.opens places.old name.entry.now places.new }
 {
-    let text = bytes_at(alloc, places, name)?;
-    Ok(read(alloc, &text))
+    match bytes_at(alloc, places, name, MAX_NOTES) {
+        Ok(text) => Ok(read(alloc, &text)),
+        Err(BytesError::Unreadable | BytesError::TooLong) => Err(Failure::CannotRead(name)),
+        Err(BytesError::Memory) => Err(Failure::NoMemory),
+    }
 }
 
 /// Prints why a text is none of notes; where that fails, standard output has a beginning of the line.

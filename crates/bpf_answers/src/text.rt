@@ -8,8 +8,9 @@ ghost use Rattle.bpf_answers.specs.Answer.Answer.{NoText};
 ghost use Rattle.bpf_answers.specs.Loaded.{ShortTextAt, TextFails, Tried};
 ghost use Rattle.bpf_answers.specs.Told.{OutputFails};
 
+use crate::bytes::{BytesError, bytes_at};
 use crate::failure::{Failure, REFUSED, say};
-use bpf_places::{PlaceError, Places, read_up_to};
+use bpf_places::Places;
 use bpf_text::TextError;
 use std::alloc::{AllocError, Global};
 use std::io::Write;
@@ -27,17 +28,11 @@ pub fn text_at<'a, P: Places>(
     ensures err { IfErr result (TextFails P.opens places.old name.entry.now places.new) }
     ensures names { Tried P.opens places.old name.entry.now places.new }
 {
-    let mut reader = match places.open(name) {
-        Ok(reader) => reader,
-        Err(PlaceError::Refused) => return Err(Failure::CannotRead(name)),
-        Err(PlaceError::Memory) => return Err(Failure::NoMemory),
+    let bytes = match bytes_at(alloc, places, name, MAX_TEXT) {
+        Ok(bytes) => bytes,
+        Err(BytesError::Unreadable | BytesError::TooLong) => return Err(Failure::CannotRead(name)),
+        Err(BytesError::Memory) => return Err(Failure::NoMemory),
     };
-    let Some(bytes) = read_up_to(alloc, &mut reader, MAX_TEXT)? else {
-        return Err(Failure::CannotRead(name));
-    };
-    if bytes.len() > MAX_TEXT {
-        return Err(Failure::CannotRead(name));
-    }
     let Ok(text) = String::from_utf8(bytes) else {
         return Err(Failure::CannotRead(name));
     };

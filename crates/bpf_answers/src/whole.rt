@@ -3,10 +3,11 @@
 ghost use Rattle.std.specs.Prelude.{IfOk, IfErr};
 ghost use Rattle.bpf_answers.specs.Loaded.{ContextAt, ContextFails, Tried};
 
+use crate::bytes::{BytesError, bytes_at};
 use crate::context::ContextError;
 use crate::failure::Failure;
 use bpf_insn::MAX_CONTEXT;
-use bpf_places::{PlaceError, Places, read_up_to};
+use bpf_places::Places;
 use std::alloc::Global;
 
 /// The context at a name.
@@ -19,16 +20,10 @@ pub fn context_at<'a, P: Places>(
     ensures err { IfErr result (ContextFails P.opens places.old name.entry.now places.new) }
     ensures names { Tried P.opens places.old name.entry.now places.new }
 {
-    let mut reader = match places.open(name) {
-        Ok(reader) => reader,
-        Err(PlaceError::Refused) => return Err(Failure::CannotRead(name)),
-        Err(PlaceError::Memory) => return Err(Failure::NoMemory),
-    };
-    let Some(bytes) = read_up_to(alloc, &mut reader, MAX_CONTEXT)? else {
-        return Err(Failure::CannotRead(name));
-    };
-    if bytes.len() > MAX_CONTEXT {
-        return Err(Failure::BadContext(ContextError::TooLong));
+    match bytes_at(alloc, places, name, MAX_CONTEXT) {
+        Ok(bytes) => Ok(bytes),
+        Err(BytesError::Unreadable) => Err(Failure::CannotRead(name)),
+        Err(BytesError::TooLong) => Err(Failure::BadContext(ContextError::TooLong)),
+        Err(BytesError::Memory) => Err(Failure::NoMemory),
     }
-    Ok(bytes)
 }

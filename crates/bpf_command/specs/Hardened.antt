@@ -68,7 +68,7 @@ MatchesLeaving h program made notes = (untouched : ℕ) × (untouched ≤ frame_
 abbrev pub KeepsLeaving : Hardening → Instructions → Instructions → Type 0
 KeepsLeaving h program made = (untouched : ℕ) × (untouched ≤ frame_bytes) × KeepsMeaning program made (bounds_of h untouched)
 
--- What was made isn't shown to keep the meaning: for want of memory, or since notes don't match, whatever bytes runs leave, where that matters.
+-- What was made isn't shown to keep the meaning: for want of memory, or, without `--unproved`, since notes don't match, whatever bytes runs leave.
 abbrev pub IsUnshown : Instructions → Instructions → Hardening → Unshown → Type 0
 IsUnshown program made h NoSpace = ⊤
 IsUnshown program made h (Differs m) = (h.unproved ≡ false) × ((notes : List (Option Place)) × IsMismatch program made notes (bounds_of h 0) m)

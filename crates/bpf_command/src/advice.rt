@@ -5,9 +5,11 @@ use crate::shown::Line;
 use bpf_answers::{ContextError, Failure};
 use bpf_explain::may_be_found;
 use bpf_follows::Mismatch;
+use bpf_harden::HardenError;
 use bpf_infer::{Condition, InferError, Wanted};
-use bpf_insn::{Order, Program};
-use bpf_request::{Clash, Contexts, Request, Subject};
+use bpf_insn::{MAX_CONTEXT, Order, Program};
+use bpf_packets::HEAD_BYTES;
+use bpf_request::{Clash, Contexts, Hardening, Request, Subject};
 use std::fmt::{self, Display};
 use std::io::Write;
 
@@ -62,6 +64,12 @@ pub(crate) fn after_refusal<H: Aside>(aside: &H, request: Request<'_>) {
     }
 }
 
+/// Names the command that tells why an image was refused.
+pub(crate) fn after_image<H: Aside>(aside: &H, input: &str, order: Order) {
+    let order = order_word(order);
+    tell!(aside, "`bpf explain {order}{input}` tells why")
+}
+
 // ---- a refusal of a search
 
 /// What a search was asked for.
@@ -72,9 +80,12 @@ pub(crate) struct Sought<'a> {
     pub order: Order,
 }
 
-/// The command that explains the search.
+/// The command that explains the search, or an instruction at a slot with what the search knows there.
 #[derive(Clone, Copy)]
-struct Explaining<'a>(Sought<'a>);
+struct Explaining<'a> {
+    sought: Sought<'a>,
+    slot: Option<u32>,
+}
 
 impl<'a> Display for Explaining<'a> {
     fn fmt<W: fmt::Write>(&self, f: &mut fmt::Formatter<W>) -> fmt::Result {
@@ -82,18 +93,20 @@ impl<'a> Display for Explaining<'a> {
             input,
             wanted,
             order,
-        } = self.0;
+        } = self.sought;
         let Wanted { least, most, .. } = wanted;
         let order = order_word(order);
-        let deep = if wanted.deep { " --deep" } else { "" };
-        if most == least {
-            write!(f, "`bpf explain {order}{input} --infer {least}{deep}`")
-        } else {
-            write!(
-                f,
-                "`bpf explain {order}{input} --infer {least} --most {most}{deep}`"
-            )
+        write!(f, "`bpf explain {order}{input} --infer {least}")?;
+        if most != least {
+            write!(f, " --most {most}")?;
         }
+        if wanted.deep {
+            f.write_str(" --deep")?;
+        }
+        if let Some(slot) = self.slot {
+            write!(f, " --slot {slot}")?;
+        }
+        f.write_str("`")
     }
 }
 
@@ -126,7 +139,8 @@ pub(crate) fn after_search<H: Aside>(
     }
     let Sought { input, wanted, .. } = sought;
     let Wanted { least, most, deep } = wanted;
-    let (order, explaining) = (order_word(sought.order), Explaining(sought));
+    let explaining = Explaining { sought, slot: None };
+    let order = order_word(sought.order);
     let may_deepen = !deep && may_be_found(program, error);
     let may_harden = least == most && may_be_hardened(error);
     match (may_deepen, may_harden) {
@@ -143,16 +157,54 @@ pub(crate) fn after_search<H: Aside>(
     }
 }
 
+// ---- a refusal of hardening
+
+/// The command that shows an instruction of the program that was to be hardened: in blocks it has packets as its contexts.
+fn showing<'a>(asked: Hardening<'a>, slot: u32) -> Explaining<'a> {
+    let most = asked.length.min(MAX_CONTEXT as u32);
+    let (least, most) = if asked.padded {
+        (0, most.saturating_sub(HEAD_BYTES))
+    } else {
+        (most, most)
+    };
+    let wanted = Wanted {
+        least,
+        most,
+        deep: true,
+    };
+    let sought = Sought {
+        input: asked.input,
+        wanted,
+        order: asked.order,
+    };
+    Explaining {
+        sought,
+        slot: Some(slot),
+    }
+}
+
+/// Names the command that shows the instruction for which a program isn't hardened.
+pub(crate) fn after_hardening<H: Aside>(aside: &H, asked: Hardening<'_>, error: HardenError) {
+    if let HardenError::Memory = error {
+        return;
+    }
+    let showing = showing(asked, error.slot());
+    tell!(aside, "{showing} shows the instruction")
+}
+
 // ---- what a hardened program is shown to keep
 
-/// Tells that notes show that a hardened program keeps the meaning, and for which runs.
-pub(crate) fn after_proof<H: Aside>(aside: &H, untouched: u32) {
+/// Tells that notes show that a hardened program keeps the meaning, and of which runs.
+pub(crate) fn after_proof<H: Aside>(aside: &H, turns: u32, untouched: u32) {
     if untouched == 0 {
-        return tell_line(aside, "shown to keep the meaning");
+        return tell!(
+            aside,
+            "shown to keep the meaning of runs that come to no instruction more than {turns} times"
+        );
     }
     tell!(
         aside,
-        "shown to keep the meaning where the old program leaves the lowest {untouched} bytes of its frames alone"
+        "shown to keep the meaning of runs that come to no instruction more than {turns} times, and to the lowest {untouched} bytes of a frame by r10 alone"
     )
 }
 
@@ -165,12 +217,12 @@ pub(crate) fn after_mismatch<H: Aside>(aside: &H, mismatch: Mismatch) {
     )
 }
 
-/// Tells what fails of the notes of a program that isn't written for that.
-pub(crate) fn after_unshown<H: Aside>(aside: &H, mismatch: Mismatch) {
-    let number = mismatch.number();
+/// Tells what fails of the notes of a program that isn't written for that, and names the command that shows where.
+pub(crate) fn after_unshown<H: Aside>(aside: &H, asked: Hardening<'_>, mismatch: Mismatch) {
+    let (number, showing) = (mismatch.number(), showing(asked, mismatch.slot()));
     tell!(
         aside,
-        "M{number} of its notes; with --unproved it is written all the same"
+        "M{number} of its notes; {showing} shows the instruction"
     )
 }
 

@@ -23,7 +23,8 @@ fn tell_unused<W: Tell>(out: &mut W, fields: FieldSet) {
     for (name, is_wrong) in named {
         if is_wrong {
             write!(out, "{comma}{name}");
-            used = if comma.is_empty() { "it" } else { "them" };
+            let is_one = comma.is_empty() && !fields.reserved;
+            used = if is_one { "it" } else { "them" };
             comma = " and ";
         }
     }

@@ -16,10 +16,10 @@ use crate::graph::plan::Plan;
 pub use crate::graph::plan::call_target;
 use crate::listing::write_header;
 use crate::reach::reached_from_start;
-use crate::slots::Slots;
 use bpf_cert::Certificate;
 use bpf_check::{Index, Refusal};
 use bpf_explain_page::Tell;
+use bpf_infer_base::SlotSet;
 use bpf_insn::Code;
 use std::fmt::Display;
 
@@ -32,7 +32,7 @@ pub struct Scene<'a, 'b> {
     pub plan: Plan,
     pub flow: Flow,
     /// The instructions that slot 0 leads to.
-    pub reached: Slots,
+    pub reached: SlotSet,
     pub refusal: Option<Refusal>,
 }
 

@@ -15,7 +15,6 @@ mod reach;
 mod report;
 mod shown;
 mod sight;
-mod slots;
 mod source;
 mod standing;
 mod trail;

@@ -1,18 +1,18 @@
 //! Which instructions slot 0 leads to: a search of the control-flow graph, with the set of those that wait.
 
 use crate::graph::{Flow, call_target};
-use crate::slots::Slots;
 use bpf_cert::LAST_SLOT;
 use bpf_check::jump_target;
 use bpf_explain_page::Tell;
+use bpf_infer_base::SlotSet;
 use bpf_insn::{Code, MAX_SLOTS};
 use std::fmt;
 
 /// The search as far as it is.
 #[derive(Drop)]
 struct Search {
-    waiting: Slots,
-    reached: Slots,
+    waiting: SlotSet,
+    reached: SlotSet,
 }
 
 impl Search {
@@ -47,10 +47,10 @@ impl Search {
 }
 
 /// The instructions that slot 0 leads to, over edges that aren't known to be dead.
-pub fn reached_from_start<C: Code>(program: &C, flow: &Flow) -> Slots {
+pub fn reached_from_start<C: Code>(program: &C, flow: &Flow) -> SlotSet {
     let mut search = Search {
-        waiting: Slots::none(),
-        reached: Slots::none(),
+        waiting: SlotSet::none(),
+        reached: SlotSet::none(),
     };
     search.lead_to(0);
     for _ in 0..65_536u32 {
@@ -83,7 +83,7 @@ impl fmt::Display for Range {
 }
 
 /// The first slots from one on at which instructions begin that aren't reached, one after the other.
-fn range_from<C: Code>(program: &C, reached: &Slots, from: u32) -> Option<Range> {
+fn range_from<C: Code>(program: &C, reached: &SlotSet, from: u32) -> Option<Range> {
     let mut found: Option<Range> = None;
     for slot in from..program.slots().min(MAX_SLOTS as u32) {
         if let Some(insn) = program.insn(slot) {

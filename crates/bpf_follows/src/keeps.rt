@@ -1,13 +1,14 @@
 //! Extra instructions that put what the new program keeps into its frame, and take it out again.
 
 ghost use Rattle.std.specs.Prelude.{◌≡◌, ◌<◌, IfSome};
-ghost use Rattle.bpf_follows_law.specs.Extras.{frame_slot, own_kind, kept_kind, free_slot, stored, given_in, closing, restored, taken, packet_length, constant_put, moved_by};
+ghost use Rattle.bpf_follows_law.specs.Extras.{frame_slot, own_kind, kept_kind, free_slot, stored, given_in, closing, start_at, starting, restored, taken, packet_length, constant_put, moved_by};
 
 use crate::extras::{copied, is_base, is_same};
 use crate::frame::{is_r10, slot_of};
 use crate::kinds::{REGISTERS, is_free, is_register, kind_in, kind_of};
 use bpf_follows_law::{Area, Kind, Kinds};
 use bpf_insn::{Insn, Reg, Size};
+use bpf_packets::HEAD_BYTES;
 
 /// The slot of the own frame that begins so far from a register.
 fn frame_slot(kinds: &Kinds, r: Reg, off: i16) -> Option<u8>
@@ -92,6 +93,29 @@ fn closing(by: u32, have: Kind) -> Kind
     }
 }
 
+/// The context's start, where the old program has the pointer at this offset.
+fn start_at(offset: i32) -> Kind
+    ensures { result ≡ start_at offset }
+{
+    if offset == 0 {
+        Kind::Start
+    } else if offset == HEAD_BYTES as i32 {
+        Kind::Head
+    } else {
+        Kind::Base
+    }
+}
+
+/// The context's start, in the place of what is of a kind.
+fn starting(have: Kind) -> Kind
+    ensures { result ≡ starting have }
+{
+    match given_in(have) {
+        Some(offset) => start_at(offset),
+        None => Kind::Base,
+    }
+}
+
 /// What is put back of what was saved, in the place of what is of a kind.
 #[tactic(auto, unfolding(bpf_follows_law::specs::Extras::restored))]
 pub fn restored(r: Reg, have: Kind, kind: Kind) -> Kind
@@ -101,6 +125,7 @@ pub fn restored(r: Reg, have: Kind, kind: Kind) -> Kind
         Kind::Saved { of } if is_register(of, r) => Kind::Both,
         Kind::Kept { of, least, most } if is_register(of, r) => Kind::Number { least, most },
         Kind::Ending { by } => closing(by, have),
+        Kind::Base => starting(have),
         _ => kind,
     }
 }

@@ -119,36 +119,25 @@ fn weaker(turns: u32, r: u8, have: Kind, want: Kind) -> bool
         (_, Kind::Within { area, least, most }) => within_weaker(r, have, area, least, most),
         (Kind::Start, Kind::Same | Kind::Base) | (Kind::Head, Kind::Base) => true,
         (Kind::Constant { value }, Kind::Counter { .. }) => u64::from(turns) <= extended(value),
-        (
-            Kind::Number { least, most },
-            Kind::Number {
-                least: low,
-                most: high,
-            },
-        ) => { low <= least && most <= high }
+        (Kind::Number { least, most }, Kind::Number { least: a, most: b }) => {
+            a <= least && most <= b
+        }
         (Kind::Closing { by, .. }, Kind::Ending { by: more }) => r < REGISTERS && by == more,
         (Kind::Number { most, .. }, Kind::Natural { half }) => {
             r < REGISTERS && u64::from(most) <= natural_top(half)
         }
         (Kind::Length { most }, Kind::Length { most: high }) => r < REGISTERS && most <= high,
-        (
-            Kind::Length { most },
-            Kind::Number {
-                least: low,
-                most: high,
-            },
-        ) => { r < REGISTERS && low == 0 && most <= high }
+        (Kind::Length { most }, Kind::Number { least: a, most: b }) => {
+            r < REGISTERS && a == 0 && most <= b
+        }
         (Kind::Length { .. }, Kind::Both | Kind::Same) => r < REGISTERS,
         (Kind::Natural { half }, Kind::Natural { half: more }) => half <= more,
-        (
-            Kind::Inner { least, most },
-            Kind::Inner {
-                least: low,
-                most: high,
-            },
-        ) => { low <= least && most <= high }
-        (Kind::Number { .. } | Kind::Natural { .. } | Kind::Inner { .. }, Kind::Both) => r
-            < REGISTERS,
+        (Kind::Inner { least, most }, Kind::Inner { least: a, most: b }) => {
+            a <= least && most <= b
+        }
+        (Kind::Number { .. } | Kind::Natural { .. } | Kind::Inner { .. }, Kind::Both) => {
+            r < REGISTERS
+        }
         (
             Kind::Number { .. } | Kind::Natural { .. } | Kind::Inner { .. } | Kind::Both,
             Kind::Same,

@@ -110,10 +110,10 @@ fn within_ints(area: Area, low: i64, high: i64) -> Kind
 }
 
 /// The sum of an offset and what is the same in both.
-fn offset_sum(a: Kind, b: Kind) -> Kind
-    ensures { result ≡ offset_sum a b }
+fn offset_sum(kind: Kind, other: Kind) -> Kind
+    ensures { result ≡ offset_sum kind other }
 {
-    match (a, b) {
+    match (kind, other) {
         (Kind::Fixed { area, offset }, Kind::Number { least, most }) => match u64::try_from(
             i64::from(offset),
         ) {
@@ -134,8 +134,7 @@ fn offset_sum(a: Kind, b: Kind) -> Kind
                 u64::from(high) + u64::from(most),
             )
         }
-        (Kind::Offset { .. } | Kind::Fixed { .. } | Kind::Within { .. }, _) => unbounded(a),
-        _ => unbounded(b),
+        _ => unbounded(kind),
     }
 }
 
@@ -143,10 +142,10 @@ fn offset_sum(a: Kind, b: Kind) -> Kind
 fn computed(op: AluOp, a: Kind, b: Kind) -> Option<Kind>
     ensures { result ≡ computed op a b }
 {
-    let is_sum = is_offset(a) && is_same(b) || is_same(a) && is_offset(b);
     match op {
         AluOp::Mov => copy_kind(b),
-        AluOp::Add if is_sum => Some(offset_sum(a, b)),
+        AluOp::Add if is_offset(a) && is_same(b) => Some(offset_sum(a, b)),
+        AluOp::Add if is_same(a) && is_offset(b) => Some(offset_sum(b, a)),
         AluOp::Sub if are_alike(a, b) => Some(Kind::Both),
         _ => None,
     }

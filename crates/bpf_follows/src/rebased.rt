@@ -13,6 +13,7 @@ use crate::pairs::{reads_same, same};
 use crate::tame::is_tame;
 use bpf_follows_law::{Area, Kind, Site};
 use bpf_insn::{Access, Insn, Reg};
+use bpf_packets::HEAD_BYTES;
 
 /// The access by another register.
 fn rebased(insn: &Insn, base: Reg, off: i16) -> Option<Insn>
@@ -112,6 +113,9 @@ fn are_same_place(old: Access, new: Access, kind: Kind, other: Kind) -> bool
     }
     if let Kind::Closing { offset, .. } = other {
         return by_base(Area::Given, offset, kind, old, new);
+    }
+    if let Kind::Head = other {
+        return by_base(Area::Given, HEAD_BYTES as i32, kind, old, new);
     }
     false
 }

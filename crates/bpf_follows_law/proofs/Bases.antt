@@ -26,17 +26,18 @@ use Rattle.bpf_semantics.specs.declared.value.Value.{Value}
 use Rattle.bpf_semantics.specs.declared.value.Value.TheVariants.{Number, Pointer}
 use Rattle.bpf_semantics.specs.declared.value.Region.{Region}
 use Rattle.bpf_semantics.specs.declared.value.Region.TheVariants.{Context, Frame as FrameAt}
+use Rattle.bpf_packets.specs.Blocks.{head_bytes}
 use Rattle.bpf_follows_law.specs.declared.notes.Area.{Area}
 use Rattle.bpf_follows_law.specs.declared.notes.Area.TheVariants.{Given, Own}
 use Rattle.bpf_follows_law.specs.declared.notes.Kind.{Kind}
-use Rattle.bpf_follows_law.specs.declared.notes.Kind.TheVariants.{Same, Fixed, Closing, Address}
+use Rattle.bpf_follows_law.specs.declared.notes.Kind.TheVariants.{Same, Fixed, Closing, Head, Address}
 use Rattle.bpf_follows_law.specs.declared.notes.Place.{Place}
 use Rattle.bpf_follows_law.specs.Areas.{origin, is_own, same_area, IsInto}
 use Rattle.bpf_follows_law.specs.Relation.{Past, Kinds, as_pointer, FitsKind, register_in, is_alone}
 use Rattle.bpf_follows_law.specs.Numbers.{loaded_number, number_kind, told}
 use Rattle.bpf_follows_law.specs.Extras.{is_same, is_r10, base_of, slot_of}
 use Rattle.bpf_follows_law.specs.Exact.{exact_kind, may_fall}
-use Rattle.bpf_follows_law.specs.Matching.{IsTame, is_far, is_homed, fills_slot, slot_kind, slot_whole, by_kinds, is_based, are_same_place, place_area, is_same_place, IsSafe, ByAddress, is_far_put, is_changed, held, kinds_after}
+use Rattle.bpf_follows_law.specs.Matching.{IsTame, is_far, is_homed, fills_slot, slot_kind, slot_whole, by_kinds, is_based, by_base, are_same_place, place_area, is_same_place, IsSafe, ByAddress, is_far_put, is_changed, held, kinds_after}
 use Rattle.bpf_follows_law.specs.declared.site.Span.{Span}
 use Rattle.bpf_follows_law.proofs.Lists.{bind, unmapped, same_is_kept}
 use Rattle.bpf_follows_law.proofs.Owns.{Owns}
@@ -120,6 +121,20 @@ module _ (ends : Order) (notes : List (Option Place)) (turns : ℕ) (passed : Pa
   same_place kinds s t old new base at b short near e eb el =
       by_kinds (kinds (register_number new.base)) (kinds (register_number old.base)) (fits_in ends notes turns passed kinds s t new.base b) (fits_in ends notes turns passed kinds s t old.base b) e
     where
+      -- the old register has the pointer into the context at an offset that is always the same
+      by_given : (kind : Kind) (fixed : ℤ) → FitsKind turns passed (register_in s.top) (register_number new.base) kind (register t new.base) → register s old.base ≡ Some (Pointer Context fixed) → by_base Given fixed kind old new ≡ true → SamePlace s t old new Given at
+      by_given kind fixed f old_is e =
+          let k = both_true (is_based Given new.base kind) (int_eq (fixed +ℤ old.offset) (pos 0 +ℤ new.offset)) e in
+          let sum : fixed +ℤ old.offset ≡ pos 0 +ℤ new.offset = (Decides-int_eq (fixed +ℤ old.offset) (pos 0 +ℤ new.offset)).0 k.1 in
+          let is : base ≡ Pointer Context fixed = same_Some _ _ (sym eb ∙ old_is) in
+          let el' : location_of s (byte_count old.size) old.offset (Pointer Context fixed) ≡ Some at = subst (λ v. location_of s (byte_count old.size) old.offset v ≡ Some at) is el in
+          record {
+            value = Pointer Context (pos 0);
+            is = base_at turns passed (register_in s.top) new.base kind Given Context (register t new.base) (based_is Given new.base kind k.0) refl f;
+            there = there_at kinds s t (byte_count old.size) new.offset old.offset Context (pos 0) fixed at b el' (based fixed (pos 0) fixed new.offset old.offset (unmoved fixed) sum);
+            kept = area_kept Given (register_in s.top 10) s t (byte_count old.size) old.offset fixed Context at refl el';
+          }
+
       by_kinds : (kind other : Kind) → FitsKind turns passed (register_in s.top) (register_number new.base) kind (register t new.base) → FitsKind turns passed (register_in s.top) (register_number old.base) other (register t old.base)
           → are_same_place old new kind other ≡ true → SamePlace s t old new (place_area kind other) at
       by_kinds (Address area of by) other f g e =
@@ -145,17 +160,8 @@ module _ (ends : Order) (notes : List (Option Place)) (turns : ℕ) (passed : Pa
             there = there_at kinds s t (byte_count old.size) new.offset old.offset h.region (pos 0) h.offset at b el' (based h.offset (origin area) fixed new.offset old.offset g.is sum);
             kept = area_kept area (register_in s.top 10) s t (byte_count old.size) old.offset h.offset h.region at h.into el';
           }
-      by_kinds kind (Closing by fixed) f g e =
-          let k = both_true (is_based Given new.base kind) (int_eq (fixed +ℤ old.offset) (pos 0 +ℤ new.offset)) e in
-          let sum : fixed +ℤ old.offset ≡ pos 0 +ℤ new.offset = (Decides-int_eq (fixed +ℤ old.offset) (pos 0 +ℤ new.offset)).0 k.1 in
-          let is : base ≡ Pointer Context fixed = same_Some _ _ (sym eb ∙ g.is.1) in
-          let el' : location_of s (byte_count old.size) old.offset (Pointer Context fixed) ≡ Some at = subst (λ v. location_of s (byte_count old.size) old.offset v ≡ Some at) is el in
-          record {
-            value = Pointer Context (pos 0);
-            is = base_at turns passed (register_in s.top) new.base kind Given Context (register t new.base) (based_is Given new.base kind k.0) refl f;
-            there = there_at kinds s t (byte_count old.size) new.offset old.offset Context (pos 0) fixed at b el' (based fixed (pos 0) fixed new.offset old.offset (unmoved fixed) sum);
-            kept = area_kept Given (register_in s.top 10) s t (byte_count old.size) old.offset fixed Context at refl el';
-          }
+      by_kinds kind (Closing by fixed) f g e = by_given kind fixed f g.is.1 e
+      by_kinds kind Head f g e = by_given kind (pos head_bytes) f g.0 e
       by_kinds kind other f g e = absurd (false≢true e)
 
   -- what is stored is the same

@@ -27,13 +27,14 @@ use Rattle.bpf_semantics.specs.declared.value.Value.{Value}
 use Rattle.bpf_semantics.specs.declared.value.Value.TheVariants.{Number, Pointer}
 use Rattle.bpf_semantics.specs.declared.value.Region.TheVariants.{Context, Frame as FrameAt}
 use Rattle.bpf_semantics.proofs.NumberLemmas.{modulo_below}
+use Rattle.bpf_packets.specs.Blocks.{head_bytes}
 use Rattle.bpf_follows_law.specs.declared.notes.Kind.{Kind}
 use Rattle.bpf_follows_law.specs.declared.notes.Kind.TheVariants.{Nothing, Number as NumberKind, Natural, Inner, Length, Sized, Closing, Ending, Offset, Fixed, Within, Start, Head, Base, Moved, Address, Constant, Counter, Turn, Both, Saved, Kept}
 use Rattle.bpf_follows_law.specs.declared.notes.Place.{Place}
 use Rattle.bpf_follows_law.specs.declared.site.Front.{Front}
 use Rattle.bpf_follows_law.specs.Areas.{origin}
 use Rattle.bpf_follows_law.specs.Relation.{Past, kind_in, is_free, IsOneValue, IsOneNumber, FitsKind, Holds, IsUnset, IsRead, FitsSlot, register_in}
-use Rattle.bpf_follows_law.specs.Extras.{is_same, is_r10, slot_of, kind_of, copied, frame_slot, own_kind, kept_kind, free_slot, stored, stored_constant, given_in, closing, restored, taken, is_base, size_in, packet_length, moved_by, made, put_by}
+use Rattle.bpf_follows_law.specs.Extras.{is_same, is_r10, slot_of, kind_of, copied, frame_slot, own_kind, kept_kind, free_slot, stored, stored_constant, given_in, closing, start_at, starting, restored, taken, is_base, size_in, packet_length, moved_by, made, put_by}
 use Rattle.bpf_follows_law.specs.Guards.{passes, passed_by}
 use Rattle.bpf_follows_law.specs.Sequence.{written, extra, extra_at, behind, most_extras, extras}
 use Rattle.bpf_follows_law.proofs.Lists.{bind, unmapped, cond_first, cond_second, as_long, Cells}
@@ -69,6 +70,24 @@ module _ (ends : Order) (turns : ℕ) (passed : Past) (registers : ℕ → Optio
       by_given None e = f
       by_given (Some offset) e = record { size = f.size; packet_is = f.packet_is; short = f.short; is = (f.is.0, given_is turns passed registers w have offset new e h, f.is.1) }
 
+  starting_fits : (w x : ℕ) (have : Kind) (v : Value) (new : Option Value) → FitsKind turns passed registers w have new → FitsKind turns passed registers x Base (Some v) → FitsKind turns passed registers w (starting have) (Some v)
+  starting_fits w x have v new h f = by_given (given_in have) refl
+    where
+      by_given : (o : Option ℤ) → given_in have ≡ o → FitsKind turns passed registers w (option_map_or start_at o Base) (Some v)
+      by_given None e = f
+      by_given (Some offset) e = by_start (int_eq offset (pos 0)) refl
+        where
+          at : (z : ℤ) → int_eq offset z ≡ true → registers w ≡ Some (Pointer Context z)
+          at z same = given_is turns passed registers w have offset new e h ∙ ap (λ z. Some (Pointer Context z)) ((Decides-int_eq offset z).0 same)
+
+          by_head : (c : Bool) → int_eq offset (pos head_bytes) ≡ c → FitsKind turns passed registers w (if c then Head else Base) (Some v)
+          by_head true ec = (at (pos head_bytes) ec, f)
+          by_head false ec = f
+
+          by_start : (c : Bool) → int_eq offset (pos 0) ≡ c → FitsKind turns passed registers w (if c then Start else if int_eq offset (pos head_bytes) then Head else Base) (Some v)
+          by_start true ec = (at (pos 0) ec, f)
+          by_start false ec = by_head (int_eq offset (pos head_bytes)) refl
+
   -- what is kept is said wherever it stands, and what was saved is put back
   restored_fits : (dst : Reg) (x : ℕ) (have kind : Kind) (v : Value) (new : Option Value) → is_own kind ≡ true → FitsKind turns passed registers (register_number dst) have new → FitsKind turns passed registers x kind (Some v)
       → FitsKind turns passed registers (register_number dst) (restored dst have kind) (Some v)
@@ -84,7 +103,7 @@ module _ (ends : Order) (turns : ℕ) (passed : Past) (registers : ℕ → Optio
       by_cases true eb = subst (λ q. IsOneNumber least most (registers q) (Some v)) (eqb-true (register_number of) (register_number dst) eb) f
       by_cases false eb = f
   restored_fits dst x have (Ending by) v new e h f = closing_fits (register_number dst) x by have v new h f
-  restored_fits dst x have Base v new e h f = f
+  restored_fits dst x have Base v new e h f = starting_fits (register_number dst) x have v new h f
   restored_fits dst x have (Moved area of by) v new e h f = f
   restored_fits dst x have (Address area of by) v new e h f = f
   restored_fits dst x have (Constant value) v new e h f = f

@@ -1,5 +1,5 @@
 -- Instructions on offsets: what the old machine does on pointers the new one does on numbers.
-use Rattle.std.proofs.Common.{◌≡◌, ℕ, ◌+◌, ◌<◌, ◌≤◌, ◌⊎◌, inl, inr, ◌==◌, ◌^◌, Bool, true, false, cond, List, Option, Some, None, refl, sym, ap, ap₂, ◌∙◌, subst, arith}
+use Rattle.std.proofs.Common.{◌≡◌, ℕ, ◌+◌, ◌<◌, ◌%◌, ◌≤◌, ◌⊎◌, inl, inr, ◌==◌, ◌^◌, Bool, true, false, cond, List, Option, Some, None, refl, sym, ap, ap₂, ◌∙◌, subst, arith}
 use Rattle.std.specs.Prelude.{not, ◌&&◌, ◌||◌, nat_le, nat_lt, ℤ, pos, negsuc, ◌+ℤ◌, ◌-ℤ◌, ◌≤ℤ◌, FitsSigned, unsigned_abs, option_and_then, if◌then◌else◌}
 use Rattle.std.specs.Int.{w64}
 use Rattle.std.specs.Option.{option_map_or}
@@ -29,6 +29,7 @@ use Rattle.bpf_semantics.specs.declared.value.Value.{Value}
 use Rattle.bpf_semantics.specs.declared.value.Value.TheVariants.{Number, Pointer}
 use Rattle.bpf_semantics.specs.declared.value.Region.{Region}
 use Rattle.bpf_semantics.specs.declared.value.Region.TheVariants.{Frame as FrameAt}
+use Rattle.bpf_semantics.specs.Flat.{addresses}
 use Rattle.bpf_follows_law.specs.declared.notes.Area.{Area}
 use Rattle.bpf_follows_law.specs.declared.notes.Area.TheVariants.{Given, Own}
 use Rattle.bpf_follows_law.specs.declared.notes.Kind.{Kind}
@@ -43,7 +44,7 @@ use Rattle.bpf_follows_law.proofs.Lists.{bind, cond_first}
 use Rattle.bpf_follows_law.proofs.Owns.{Owns}
 use Rattle.bpf_follows_law.proofs.Has.{offset_has, has_area, unbounded_is, both_areas}
 use Rattle.bpf_follows_law.proofs.Frames.{is_of_register, holding, fits_anew}
-use Rattle.bpf_follows_law.proofs.Offsets.{up, up_from, down, apart, wrapped_fits, wrapped_near, equal_offsets, fits_64, moved_number, fixed_sum}
+use Rattle.bpf_follows_law.proofs.Offsets.{up, down, apart, wrapped_fits, wrapped_near, equal_offsets, fits_64, moved_number, fixed_sum}
 use Rattle.bpf_follows_law.proofs.Between.{Between, Goes, goes_as}
 use Rattle.bpf_follows_law.proofs.Known.{told_between}
 use Rattle.bpf_follows_law.proofs.Ways.{goes_there}
@@ -200,12 +201,6 @@ module _ (ends : Order) (notes : List (Option Place)) (turns : ℕ) (passed : Pa
       moves_to own area h.region (h.offset +ℤ pos b) v _ _ h.into (same_Some _ _ (sym (ap (λ o. alu_result W64 Add o (Number b)) h.old_is) ∙ ev)) (ap (λ o. alu_result W64 Add o (Number b)) h.new_is) (up h.offset (origin area +ℤ pos 0) b)
   sum_right own area old new (Pointer region at) v h ev = absurd (none-some _ (sym (ap (λ o. alu_result W64 Add o (Pointer region at)) h.old_is) ∙ ev))
 
-  sum_left : (own : Option Value) (area : Area) (region : Region) (old new : Option Value) (a : Value) (offset : ℤ) (v : Value) → IsInto area own region → old ≡ Some a → new ≡ Some a → alu_result W64 Add old (Pointer region offset) ≡ Some v
-      → Computes own (Offset area) v (alu_result W64 Add new (as_number (offset +ℤ (origin area +ℤ pos 0))))
-  sum_left own area region old new (Number a) offset v into eo en ev =
-      moves_to own area region (offset +ℤ pos a) v _ _ into (same_Some _ _ (sym (ap (λ o. alu_result W64 Add o (Pointer region offset)) eo) ∙ ev)) (ap (λ o. alu_result W64 Add o (as_number (offset +ℤ (origin area +ℤ pos 0)))) en) (up_from offset (origin area +ℤ pos 0) a)
-  sum_left own area region old new (Pointer other at) offset v into eo en ev = absurd (none-some _ (sym (ap (λ o. alu_result W64 Add o (Pointer region offset)) eo) ∙ ev))
-
   -- a sum that lies between bounds of 32 bits
   within_sum : (own : Option Value) (area : Area) (region : Region) (z : ℤ) (low high n : ℕ) (v : Value) (o : Option Value) → IsInto area own region → Pointer region (wrapped z) ≡ v → o ≡ Some (Number n) → n ≡ modulo (wrapped z +ℤ (origin area +ℤ pos 0)) (2 ^ 64)
       → pos low ≤ℤ (z +ℤ origin area) → (z +ℤ origin area) ≤ℤ pos high → Computes own (within_at area low high) v o
@@ -258,12 +253,45 @@ module _ (ends : Order) (notes : List (Option Place)) (turns : ℕ) (passed : Pa
   sum_within (Within into low high) b area old p q new more x v ea eb f g ex ev s = subst (λ area. Gets old (Offset area) v (option_and_then (alu_result W64 Add new) more)) (sym (same_Some _ _ ea)) s
   sum_within a b area old p q new more x v ea eb f g ex ev s = absurd (none-some _ ea)
 
-  -- the other way round no bounds are said
-  sum_plain : (own : Option Value) (a b : Kind) (area : Area) (v : Value) (o : Option Value) → is_same a ≡ true → area_of b ≡ Some area → Computes own (Offset area) v o → Computes own (offset_sum a b) v o
-  sum_plain own (Offset into) b area v o e ea s = absurd (false≢true e)
-  sum_plain own (Fixed into at) b area v o e ea s = absurd (false≢true e)
-  sum_plain own (Within into low high) b area v o e ea s = absurd (false≢true e)
-  sum_plain own a b area v o e ea s = subst (λ kind. Computes own kind v o) (sym (unbounded_is b area ea)) s
+  sum_of : (a b : Kind) (old : ℕ → Option Value) (p q : ℕ) (new more : Option Value) (x v : Value) → (is_offset a && is_same b) ≡ true → FitsKind turns passed old p a new → FitsKind turns passed old q b more → old q ≡ Some x
+      → alu_result W64 Add (old p) x ≡ Some v → Gets old (offset_sum a b) v (option_and_then (alu_result W64 Add new) more)
+  sum_of a b old p q new more x v e f g ex ev =
+      let k = both_true (is_offset a) (is_same b) e in
+      let area = has_area a k.0 in
+      let h = offset_has turns passed old p a new area.0 area.1 f in
+      let same : more ≡ Some x = same_kept ends notes turns passed old q b more k.1 g x ex in
+      let s = sum_right (old 10) area.0 (old p) new x v h ev in
+      sum_within a b area.0 old p q new more x v area.1 k.1 f g ex ev (record { value = s.value; is = ap (option_and_then (alu_result W64 Add new)) same ∙ s.is; alone = s.alone; fits = s.fits })
+
+  -- the number first: it is the sum with the pointer first, in both
+  pointer_first : (y : Value) (region : Region) (offset : ℤ) (v : Value) → alu_of_values W64 Add y (Pointer region offset) ≡ Some v → alu_of_values W64 Add (Pointer region offset) y ≡ Some v
+  pointer_first (Number n) region offset v e = e
+  pointer_first (Pointer other at) region offset v e = absurd (none-some _ e)
+
+  offset_first : (y : Value) (region : Region) (offset : ℤ) (v : Value) (m : ℕ) → alu_of_values W64 Add y (Pointer region offset) ≡ Some v → alu_of_values W64 Add y (Number m) ≡ alu_of_values W64 Add (Number m) y
+  offset_first (Number n) region offset v m e = ap (λ n. Some (Number (n % addresses))) (omega arith)
+  offset_first (Pointer other at) region offset v m e = absurd (none-some _ e)
+
+  sum_from : (a b : Kind) (old : ℕ → Option Value) (p q : ℕ) (new more : Option Value) (x v : Value) → (is_same a && is_offset b) ≡ true → FitsKind turns passed old p a new → FitsKind turns passed old q b more → old q ≡ Some x
+      → alu_result W64 Add (old p) x ≡ Some v → Gets old (offset_sum b a) v (option_and_then (alu_result W64 Add new) more)
+  sum_from a b old p q new more x v e f g ex ev = option_and_then_some (λ y. alu_of_values W64 Add y x) (old p) v ev (λ y ey e1.
+      let k = both_true (is_same a) (is_offset b) e in
+      let area = has_area b k.1 in
+      let h = offset_has turns passed old q b more area.0 area.1 g in
+      let m = modulo (h.offset +ℤ (origin area.0 +ℤ pos 0)) addresses in
+      let is : x ≡ Pointer h.region h.offset = same_Some _ _ (sym ex ∙ h.old_is) in
+      let e2 : alu_of_values W64 Add y (Pointer h.region h.offset) ≡ Some v = ap (alu_of_values W64 Add y) (sym is) ∙ e1 in
+      let s = sum_of b a old q p more new y v (both_are k.1 k.0) g f ey (ap (λ o. alu_result W64 Add o y) h.old_is ∙ pointer_first y h.region h.offset v e2) in
+      let same : new ≡ Some y = same_kept ends notes turns passed old p a new k.0 f y ey in
+      record {
+        value = s.value;
+        is = ap₂ (λ n m. option_and_then (alu_result W64 Add n) m) same h.new_is ∙ offset_first y h.region h.offset v m e2 ∙ sym (ap₂ (λ m n. option_and_then (alu_result W64 Add m) n) h.new_is same) ∙ s.is;
+        alone = s.alone;
+        fits = s.fits;
+      })
+    where
+      both_are : {c d : Bool} → c ≡ true → d ≡ true → (c && d) ≡ true
+      both_are ec ed = ap₂ (λ c d. c && d) ec ed
 
   -- of two registers; both are set where the old machine computes
   pub computed_by : (op : AluOp) (a b made : Kind) (old : ℕ → Option Value) (p q : ℕ) (new more : Option Value) (x v : Value) → computed op a b ≡ Some made → FitsKind turns passed old p a new → FitsKind turns passed old q b more
@@ -271,33 +299,13 @@ module _ (ends : Order) (notes : List (Option Place)) (turns : ℕ) (passed : Pa
   computed_by Mov a b made old p q new more x v e f g ex ev =
       let h = copied_by b made old q more v e g (ex ∙ ev) in
       record { value = h.value; is = ap (option_and_then (alu_result W64 Mov new)) h.is; alone = h.alone; fits = h.fits }
-  computed_by Add a b made old p q new more x v e f g ex ev =
-      let c = cond_is ((is_offset a && is_same b) || (is_same a && is_offset b)) (offset_sum a b) made e in
-      subst (λ made. Gets old made v (option_and_then (alu_result W64 Add new) more)) c.1 (by_way (either (is_offset a && is_same b) (is_same a && is_offset b) c.0))
+  computed_by Add a b made old p q new more x v e f g ex ev = by_case (is_offset a && is_same b) refl e
     where
-      first_is : (y : Value) → old p ≡ Some y → (y : Value) × (old p ≡ Some y)
-      first_is y ey = (y, ey)
-
-      either : (c d : Bool) → (c || d) ≡ true → (c ≡ true) ⊎ (d ≡ true)
-      either true d e = inl refl
-      either false d e = inr e
-
-      by_way : ((is_offset a && is_same b) ≡ true) ⊎ ((is_same a && is_offset b) ≡ true) → Gets old (offset_sum a b) v (option_and_then (alu_result W64 Add new) more)
-      by_way (inl e) =
-          let k = both_true (is_offset a) (is_same b) e in
-          let area = has_area a k.0 in
-          let h = offset_has turns passed old p a new area.0 area.1 f in
-          let same : more ≡ Some x = same_kept ends notes turns passed old q b more k.1 g x ex in
-          let s = sum_right (old 10) area.0 (old p) new x v h ev in
-          sum_within a b area.0 old p q new more x v area.1 k.1 f g ex ev (record { value = s.value; is = ap (option_and_then (alu_result W64 Add new)) same ∙ s.is; alone = s.alone; fits = s.fits })
-      by_way (inr e) =
-          let k = both_true (is_same a) (is_offset b) e in
-          let area = has_area b k.1 in
-          let h = offset_has turns passed old q b more area.0 area.1 g in
-          let is : x ≡ Pointer h.region h.offset = same_Some _ _ (sym ex ∙ h.old_is) in
-          let set = option_and_then_some (λ y. alu_of_values W64 Add y x) (old p) v ev (λ y ey e1. first_is y ey) in
-          let s = sum_left (old 10) area.0 h.region (old p) new set.0 h.offset v h.into set.1 (same_kept ends notes turns passed old p a new k.0 f set.0 set.1) (subst (λ x. alu_result W64 Add (old p) x ≡ Some v) is ev) in
-          sum_plain (old 10) a b area.0 v _ k.0 area.1 (record { value = s.value; is = ap (option_and_then (alu_result W64 Add new)) h.new_is ∙ s.is; alone = s.alone; fits = s.fits })
+      by_case : (c : Bool) → (is_offset a && is_same b) ≡ c → (if c then Some (offset_sum a b) else if is_same a && is_offset b then Some (offset_sum b a) else None) ≡ Some made → Gets old made v (option_and_then (alu_result W64 Add new) more)
+      by_case true ec e = subst (λ made. Gets old made v (option_and_then (alu_result W64 Add new) more)) (same_Some _ _ e) (sum_of a b old p q new more x v ec f g ex ev)
+      by_case false ec e =
+          let c = cond_is (is_same a && is_offset b) (offset_sum b a) made e in
+          subst (λ made. Gets old made v (option_and_then (alu_result W64 Add new) more)) c.1 (sum_from a b old p q new more x v c.0 f g ex ev)
   computed_by Sub a b made old p q new more x v e f g ex ev =
       let c = cond_is (are_alike a b) Both made e in
       let k = both_areas (area_of a) (area_of b) c.0 in

@@ -188,11 +188,19 @@ given_in kind = None
 abbrev pub closing : ℕ → Kind → Kind
 closing by have = option_map_or (Closing by) (given_in have) (Ending by)
 
+-- the context's start is put where something was: where the old program has there what stands for it, that is said, too
+abbrev pub start_at : ℤ → Kind
+start_at offset = if int_eq offset (pos 0) then Start else if int_eq offset (pos head_bytes) then Head else Base
+
+abbrev pub starting : Kind → Kind
+starting have = option_map_or start_at (given_in have) Base
+
 -- what was saved is put back where something was
 unfoldable pub restored : Reg → Kind → Kind → Kind
 restored r have (Saved of) = if register_number of == register_number r then Both else Saved of
 restored r have (Kept of least most) = if register_number of == register_number r then Number least most else Kept of least most
 restored r have (Ending by) = closing by have
+restored r have Base = starting have
 restored r have kind = kind
 
 -- what is taken out of one

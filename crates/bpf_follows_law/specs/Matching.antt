@@ -81,15 +81,12 @@ within_ints area low high = Offset area
 abbrev pub offset_sum : Kind → Kind → Kind
 offset_sum (Fixed area offset) (Number least most) = option_map_or (λ o. within_at area (o + least) (o + most)) (not_negative offset) (Offset area)
 offset_sum (Within area low high) (Number least most) = within_at area (low + least) (high + most)
-offset_sum (Offset area) b = Offset area
-offset_sum (Fixed area offset) b = Offset area
-offset_sum (Within area low high) b = Offset area
-offset_sum a b = unbounded b
+offset_sum kind other = unbounded kind
 
 -- 64-bit operations on two registers, and on a register and a constant
 abbrev pub computed : AluOp → Kind → Kind → Option Kind
 computed Mov a b = copy_kind b
-computed Add a b = if (is_offset a && is_same b) || (is_same a && is_offset b) then Some (offset_sum a b) else None
+computed Add a b = if is_offset a && is_same b then Some (offset_sum a b) else if is_same a && is_offset b then Some (offset_sum b a) else None
 computed Sub a b = if are_alike a b then Some Both else None
 computed _ a b = None
 
@@ -254,6 +251,7 @@ abbrev pub are_same_place : Access → Access → Kind → Kind → Bool
 are_same_place old new (Address area of by) other = register_number of == register_number old.base && int_eq (by +ℤ new.offset) (old.offset -ℤ origin area)
 are_same_place old new kind (Fixed area offset) = by_base area offset kind old new
 are_same_place old new kind (Closing by offset) = by_base Given offset kind old new
+are_same_place old new kind Head = by_base Given (pos head_bytes) kind old new
 are_same_place old new kind other = false
 
 abbrev pub is_same_place : Kinds → Access → Access → Bool

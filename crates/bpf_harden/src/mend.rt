@@ -159,15 +159,14 @@ impl<'a> Mender<'a> {
             .is_none_or(|insn| insn.register_written() == Some(r))
     }
 
-    /// Whether a register may hold an offset before its region that a displacement leads back into it.
+    /// Whether a register may hold an offset before its region that a displacement leads back into it. Only bounds of 32 bits count: notes
+    /// know of no others.
     fn may_wrap(&self, slot: u32, base: Reg, off: i64) -> bool {
-        let Ok(more) = u64::try_from(off) else {
-            return false;
+        let is_below = match self.held(slot, base) {
+            RegState::Num(number) => number.unsigned().hi() <= u64::from(u32::MAX),
+            RegState::Any | RegState::Ptr(_) => false,
         };
-        match self.held(slot, base) {
-            RegState::Num(number) => number.unsigned().hi() > u64::MAX - more,
-            RegState::Any | RegState::Ptr(_) => more > 0,
-        }
+        off > 0 && !is_below
     }
 
     /// What is known of a register in front of what stands in the place of an old instruction.

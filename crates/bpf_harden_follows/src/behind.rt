@@ -60,7 +60,7 @@ fn combined(facts: &Facts, op: AluOp, dst: Reg, src: Reg) -> Kind {
     match (left, right) {
         (Some(area), None) if op == AluOp::Add => summed(area, facts.get(dst), facts.get(src)),
         (Some(area), None) => Kind::Offset { area },
-        (None, Some(area)) if op == AluOp::Add => Kind::Offset { area },
+        (None, Some(area)) if op == AluOp::Add => summed(area, facts.get(src), facts.get(dst)),
         _ => Kind::Same,
     }
 }

@@ -9,6 +9,7 @@ use crate::returns::Returns;
 use bpf_follows::{is_far, is_homed, is_stuck, may_fall, may_lead};
 use bpf_follows_law::{Bounds, Kind, PLACES, Place, Site};
 use bpf_harden_notes::{Change, Hardened};
+use bpf_infer_base::SlotSet;
 use bpf_insn::{AluOp, Insn, MAX_SLOTS, Operand, Program, Reg, Width, target};
 use std::alloc::{AllocError, Global};
 
@@ -40,10 +41,8 @@ struct Finder<'a> {
     entries: Vec<Option<u32>>,
     /// By old slots, what holds in front of what stands there.
     facts: Vec<Option<Facts>>,
-    /// By old slots, whether that was changed since it was looked at.
-    is_new: Vec<bool>,
-    /// No slot below this one is such.
-    next: u32,
+    /// The old slots where that was changed since they were looked at.
+    waiting: SlotSet,
     /// How many slots may still be looked at.
     looks: u32,
     /// The bytes of a context.
@@ -124,8 +123,7 @@ impl<'a> Finder<'a> {
             changes,
             entries,
             facts: vec![in alloc; None; old.slots() as usize]?,
-            is_new: vec![in alloc; false; old.slots() as usize]?,
-            next: 0,
+            waiting: SlotSet::none(),
             looks: old.slots().saturating_mul(LOOKS),
             length,
             frames,
@@ -253,14 +251,8 @@ impl<'a> Finder<'a> {
         if is_new {
             put(&mut self.times, slot, times.saturating_add(1));
             put(&mut self.facts, slot, Some(found));
-            self.renew(slot);
+            self.waiting.add(slot);
         }
-    }
-
-    /// A slot is to be looked at.
-    fn renew(&mut self, slot: u32) {
-        put(&mut self.is_new, slot, true);
-        self.next = self.next.min(slot);
     }
 
     /// A call, or the start, leads to a function's first slot.
@@ -289,7 +281,7 @@ impl<'a> Finder<'a> {
         for slot in 0..self.old.slots() {
             if let Some(insn) = self.old.at(slot) {
                 if matches!(*insn, Insn::CallLocal { .. }) && led(slot, insn) == Some(function) {
-                    self.renew(slot);
+                    self.waiting.add(slot);
                 }
             }
         }
@@ -328,7 +320,7 @@ impl<'a> Finder<'a> {
             if let (Insn::CallLocal { .. }, Some(to)) = (*insn, led(slot, insn)) {
                 if self.returns.given(to).is_none() {
                     self.returns.give(to, Kind::Same);
-                    self.renew(slot);
+                    self.waiting.add(slot);
                     is_found = true;
                 }
             }
@@ -382,27 +374,16 @@ impl<'a> Finder<'a> {
         }
     }
 
-    /// Goes on from an old slot, if something is new there.
-    fn look(&mut self, slot: u32) {
-        if let (Some(facts), Some(true)) = (
-            at(&self.facts, slot),
-            self.is_new.get(slot as usize).copied(),
-        ) {
-            put(&mut self.is_new, slot, false);
-            self.go_on(slot, &facts);
-        }
-    }
-
     /// Goes on from the lowest old slot where something is new, until nothing is, or no more slots may be looked at.
     fn settle(&mut self) {
         for _ in 0..self.looks {
-            let slot = self.next;
-            if slot >= self.old.slots() {
+            let Some(slot) = self.waiting.take_first() else {
                 return;
-            }
-            self.next = slot.saturating_add(1);
+            };
             self.looks = self.looks.saturating_sub(1);
-            self.look(slot);
+            if let Some(facts) = at(&self.facts, slot) {
+                self.go_on(slot, &facts);
+            }
         }
     }
 

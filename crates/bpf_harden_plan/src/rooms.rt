@@ -37,6 +37,8 @@ pub struct Room {
     pub scratch: Option<u8>,
     /// The register in which it is given the pointer to the context's start.
     pub handed: Option<Reg>,
+    /// The one in which it is given the end of a block's packet. None where it finds that out itself.
+    pub handed_end: Option<Reg>,
     /// What its trap answers its caller, who tests it.
     pub spare: Option<i32>,
     /// Whether it may come to a trap.
@@ -149,14 +151,14 @@ fn spare_of(ret: Num) -> Option<i32> {
     None
 }
 
-/// The register in which a function is given the base: the one that keeps it where that is an argument, else one that isn't
-/// read.
-fn handed_to(uses: Uses, base: Option<Place>) -> Option<Reg> {
+/// The register in which a function is given what it keeps in a place: that itself where it is an argument, else one that isn't read. In
+/// neither case the one in which it is given something else.
+fn handed_to(uses: Uses, place: Option<Place>, other: Option<Reg>) -> Option<Reg> {
     let arguments = [Reg::R5, Reg::R4, Reg::R3, Reg::R2, Reg::R1];
-    let is_unread = |r: &Reg| !uses.arguments.has(Place::Register(*r));
-    match base {
-        Some(Place::Register(r)) if arguments.contains(&r) => Some(r),
-        _ => arguments.into_iter().find(is_unread),
+    let is_open = |r: &Reg| Some(*r) != other && !uses.arguments.has(Place::Register(*r));
+    match place {
+        Some(Place::Register(r)) if arguments.contains(&r) && is_open(&r) => Some(r),
+        _ => arguments.into_iter().find(is_open),
     }
 }
 
@@ -204,12 +206,13 @@ impl Rooms {
         let mut room = Room::default();
         if plan.offsets && uses.needs_context {
             room.base = Some(taken(space.place(), uses)?);
-            if plan.options.padded {
-                room.end = Some(taken(space.place(), uses)?);
-            }
-            room.handed = handed_to(uses, room.base);
+            room.handed = handed_to(uses, room.base, None);
             if function > 0 && room.handed.is_none() {
                 return Err(HardenError::FiveArguments { slot: uses.first });
+            }
+            if plan.options.padded {
+                room.end = Some(taken(space.place(), uses)?);
+                room.handed_end = handed_to(uses, room.end, room.handed);
             }
         }
         room.sharing = sharing(plan, function, &space);
@@ -265,7 +268,9 @@ impl Rooms {
             let planned = plan.at(slot);
             planned.guard.is_some() || planned.counts || leads_out(old, plan, slot)
         };
-        let is_short = plan.options.padded && (function == 0 || uses.needs_context);
+        let room = self.room(function);
+        let reads_length = function == 0 || room.end.is_some() && room.handed_end.is_none();
+        let is_short = plan.options.padded && reads_length;
         self.set_traps(function, is_short || (uses.first..uses.end).any(may_trap));
     }
 

@@ -40,16 +40,9 @@ pub fn with_base(insn: &Insn, base: Reg, off: i16) -> Insn {
             off,
             src,
         },
-        Insn::Alu { .. }
-        | Insn::Neg { .. }
-        | Insn::MovSx { .. }
-        | Insn::End { .. }
-        | Insn::LoadImm64 { .. }
-        | Insn::Ja { .. }
-        | Insn::JaLong { .. }
-        | Insn::JumpIf { .. }
-        | Insn::CallLocal { .. }
-        | Insn::Exit => *insn,
+        Insn::Alu { .. } | Insn::Neg { .. } | Insn::MovSx { .. } | Insn::End { .. } => *insn,
+        Insn::LoadImm64 { .. } | Insn::Ja { .. } | Insn::JaLong { .. } => *insn,
+        Insn::JumpIf { .. } | Insn::CallLocal { .. } | Insn::Exit => *insn,
     }
 }
 
@@ -77,8 +70,8 @@ fn operand(src: Operand) -> Operand {
     }
 }
 
-/// The instruction with an offset in the place of the frame pointer where it is a value.
-pub fn with_offset(insn: &Insn) -> Insn {
+/// The operation or test with an offset in the place of the frame pointer as its second operand.
+fn with_operand(insn: &Insn) -> Insn {
     match *insn {
         Insn::Alu {
             op,
@@ -104,29 +97,30 @@ pub fn with_offset(insn: &Insn) -> Insn {
             src: operand(src),
             off,
         },
-        Insn::Store {
-            size: Size::DW,
-            dst,
-            off,
-            src: Reg::R10,
-        } => Insn::StoreImm {
+        Insn::Neg { .. } | Insn::MovSx { .. } | Insn::End { .. } | Insn::LoadImm64 { .. } => *insn,
+        Insn::Load { .. } | Insn::LoadSx { .. } | Insn::Store { .. } | Insn::StoreImm { .. } => {
+            *insn
+        }
+        Insn::Atomic { .. } | Insn::Ja { .. } | Insn::JaLong { .. } => *insn,
+        Insn::CallLocal { .. } | Insn::Exit => *insn,
+    }
+}
+
+/// The instruction with an offset in the place of the frame pointer where it is a value.
+pub fn with_offset(insn: &Insn) -> Insn {
+    if let Insn::Store {
+        size: Size::DW,
+        dst,
+        off,
+        src: Reg::R10,
+    } = *insn
+    {
+        return Insn::StoreImm {
             size: Size::DW,
             dst,
             off,
             imm: FRAME_END,
-        },
-        Insn::Neg { .. }
-        | Insn::MovSx { .. }
-        | Insn::End { .. }
-        | Insn::LoadImm64 { .. }
-        | Insn::Load { .. }
-        | Insn::LoadSx { .. }
-        | Insn::Store { .. }
-        | Insn::StoreImm { .. }
-        | Insn::Atomic { .. }
-        | Insn::Ja { .. }
-        | Insn::JaLong { .. }
-        | Insn::CallLocal { .. }
-        | Insn::Exit => *insn,
+        };
     }
+    with_operand(insn)
 }

@@ -43,13 +43,33 @@ impl<'a> Writer<'a> {
         self.add(uses.first, set(Reg::R1, start), Change::Base)
     }
 
-    /// Keeps the context's start that a function is handed.
+    /// Keeps the context's start that a function is handed, and the end of a block's packet, which it reads where it isn't handed that.
     fn enter_called(&mut self, function: usize, uses: Uses) -> Result<(), AllocError> {
         let room = self.rooms.room(function);
-        match room.handed {
-            // Nothing that a function is called with stands in r0.
-            Some(handed) => self.keep_context(uses.first, room, handed, Reg::R0),
-            None => Ok(()),
+        let Some(handed) = room.handed else {
+            return Ok(());
+        };
+        if let (Some(end), Some(handed_end)) = (room.end, room.handed_end) {
+            self.keep_handed(uses.first, room.base, handed, Change::Base)?;
+            return self.keep_handed(uses.first, Some(end), handed_end, Change::Length);
+        }
+        // Nothing that a function is called with stands in r0.
+        self.keep_context(uses.first, room, handed, Reg::R0)
+    }
+
+    /// Keeps what a register holds in a place, if that is another one.
+    fn keep_handed(
+        &mut self,
+        slot: u32,
+        place: Option<Place>,
+        handed: Reg,
+        change: Change,
+    ) -> Result<(), AllocError> {
+        match place {
+            Some(place) if place != Place::Register(handed) => {
+                self.add(slot, keep(place, handed), change)
+            }
+            _ => Ok(()),
         }
     }
 
@@ -61,12 +81,7 @@ impl<'a> Writer<'a> {
         context: Reg,
         length: Reg,
     ) -> Result<(), AllocError> {
-        match room.base {
-            Some(base) if base != Place::Register(context) => {
-                self.add(slot, keep(base, context), Change::Base)?;
-            }
-            _ => {}
-        }
+        self.keep_handed(slot, room.base, context, Change::Base)?;
         if self.plan.options.padded {
             self.read_length(slot, context, length)?;
             self.keep_end(slot, length, room)?;
@@ -141,13 +156,16 @@ impl<'a> Writer<'a> {
         self.add(uses.first, Insn::Exit, Change::Trap)
     }
 
-    /// Puts a call: hands on the context's start, and tests whether the function came back from its trap.
+    /// Puts a call: hands on the context's start and the end of a block's packet, and tests whether the function came back from its trap.
     pub fn call(&mut self, slot: u32, insn: Insn, callee: usize) -> Result<(), HardenError> {
         let caller = self.rooms.room(self.old.function(slot));
         let called = self.rooms.room(callee);
         let handed = called.handed.filter(|_handed| called.base.is_some());
         if let (Some(base), Some(handed)) = (caller.base, handed) {
             self.add(slot, fetch(handed, base), Change::Handed)?;
+        }
+        if let (Some(end), Some(handed)) = (caller.end, called.handed_end) {
+            self.add(slot, fetch(handed, end), Change::Handed)?;
         }
         self.put(slot, insn, Goal::Entry(callee), None)?;
         if let (true, Some(spare)) = (called.traps, called.spare) {

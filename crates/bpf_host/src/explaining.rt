@@ -1,10 +1,11 @@
 //! The calls that explain.
 
-ghost use Rattle.std.specs.Prelude.{◌≡◌, ◌⊎◌, ◌↔◌, ◌<◌, length, pos, negsuc};
+ghost use Rattle.std.specs.Prelude.{◌≡◌, ◌⊎◌, ◌↔◌, ◌<◌, length};
 ghost use Rattle.bpf_insn.specs.Limits.{max_context};
 ghost use Rattle.bpf_host_runs.specs.Told.{order_named};
 ghost use Rattle.bpf_host_runs.specs.Answers.{IsRefusedAsTold};
 ghost use Rattle.bpf_host_advice.specs.Explained.{IsSomeImage, IsRefusedImage, IsCertifiedBySome, IsFound, IsNotFound, GivesWords};
+ghost use Rattle.bpf_host_runs.specs.declared.answers.TheConstants.{YES, NO, NO_MEMORY, BAD_CALL, TOO_SMALL};
 
 use bpf_host_runs::BpfRefusal;
 use std::alloc::Global;
@@ -23,16 +24,16 @@ pub extern "C" fn bpf_host_explain(
     wanted: &mut usize,
     refusal: &mut BpfRefusal,
 ) -> i32
-    ensures yes { result ≡ pos 1 → IsCertifiedBySome (order_named order) image.now certificate.now }
-    ensures no { result ≡ pos 0 → IsRefusedAsTold (order_named order) image.now certificate.now refusal.new }
-    ensures given { (result ≡ pos 1) ⊎ (result ≡ pos 0) → GivesWords wanted.new text.old text.new }
-    ensures small { result ≡ negsuc 2 → length text.old < wanted.new }
-    ensures bad { (1 < order) ⊎ (2 < shown) → result ≡ negsuc 1 }
-    ensures call { result ≡ negsuc 1 → (1 < order) ⊎ ((2 < shown) ⊎ (0 < length lines.now)) }
-    ensures answers { (result ≡ pos 1) ⊎ (result ≡ pos 0) ⊎ (result ≡ negsuc 0) ⊎ (result ≡ negsuc 1) ⊎ (result ≡ negsuc 2) }
-    ensures text_kept { (result ≡ pos 1) ⊎ (result ≡ pos 0) ⊎ (text.new ≡ text.old) }
-    ensures wanted_kept { (result ≡ pos 1) ⊎ (result ≡ pos 0) ⊎ (result ≡ negsuc 2) ⊎ (wanted.new ≡ wanted.old) }
-    ensures refusal_kept { (result ≡ pos 0) ⊎ (refusal.new ≡ refusal.old) }
+    ensures yes { result ≡ YES → IsCertifiedBySome (order_named order) image.now certificate.now }
+    ensures no { result ≡ NO → IsRefusedAsTold (order_named order) image.now certificate.now refusal.new }
+    ensures given { (result ≡ YES) ⊎ (result ≡ NO) → GivesWords wanted.new text.old text.new }
+    ensures small { result ≡ TOO_SMALL → length text.old < wanted.new }
+    ensures bad { (1 < order) ⊎ (2 < shown) → result ≡ BAD_CALL }
+    ensures call { result ≡ BAD_CALL → (1 < order) ⊎ ((2 < shown) ⊎ (0 < length lines.now)) }
+    ensures answers { (result ≡ YES) ⊎ (result ≡ NO) ⊎ (result ≡ NO_MEMORY) ⊎ (result ≡ BAD_CALL) ⊎ (result ≡ TOO_SMALL) }
+    ensures text_kept { (result ≡ YES) ⊎ (result ≡ NO) ⊎ (text.new ≡ text.old) }
+    ensures wanted_kept { (result ≡ YES) ⊎ (result ≡ NO) ⊎ (result ≡ TOO_SMALL) ⊎ (wanted.new ≡ wanted.old) }
+    ensures refusal_kept { (result ≡ NO) ⊎ (refusal.new ≡ refusal.old) }
 {
     bpf_host_advice::explain(
         alloc,
@@ -64,16 +65,16 @@ pub extern "C" fn bpf_host_explain_search(
     wanted: &mut usize,
     refusal: &mut BpfRefusal,
 ) -> i32
-    ensures yes { result ≡ pos 1 → IsFound (order_named order) image.now least most }
-    ensures no { result ≡ pos 0 → IsNotFound (order_named order) image.now least most refusal.new }
-    ensures given { (result ≡ pos 1) ⊎ (result ≡ pos 0) → GivesWords wanted.new text.old text.new }
-    ensures small { result ≡ negsuc 2 → length text.old < wanted.new }
-    ensures bad { (1 < order) ⊎ ((most < least) ⊎ ((max_context < most) ⊎ ((1 < deep) ⊎ (2 < shown)))) → result ≡ negsuc 1 }
-    ensures call { result ≡ negsuc 1 → (1 < order) ⊎ ((most < least) ⊎ ((max_context < most) ⊎ ((1 < deep) ⊎ ((2 < shown) ⊎ (0 < length lines.now))))) }
-    ensures answers { (result ≡ pos 1) ⊎ (result ≡ pos 0) ⊎ (result ≡ negsuc 0) ⊎ (result ≡ negsuc 1) ⊎ (result ≡ negsuc 2) }
-    ensures text_kept { (result ≡ pos 1) ⊎ (result ≡ pos 0) ⊎ (text.new ≡ text.old) }
-    ensures wanted_kept { (result ≡ pos 1) ⊎ (result ≡ pos 0) ⊎ (result ≡ negsuc 2) ⊎ (wanted.new ≡ wanted.old) }
-    ensures refusal_kept { (result ≡ pos 0) ⊎ (refusal.new ≡ refusal.old) }
+    ensures yes { result ≡ YES → IsFound (order_named order) image.now least most }
+    ensures no { result ≡ NO → IsNotFound (order_named order) image.now least most refusal.new }
+    ensures given { (result ≡ YES) ⊎ (result ≡ NO) → GivesWords wanted.new text.old text.new }
+    ensures small { result ≡ TOO_SMALL → length text.old < wanted.new }
+    ensures bad { (1 < order) ⊎ ((most < least) ⊎ ((max_context < most) ⊎ ((1 < deep) ⊎ (2 < shown)))) → result ≡ BAD_CALL }
+    ensures call { result ≡ BAD_CALL → (1 < order) ⊎ ((most < least) ⊎ ((max_context < most) ⊎ ((1 < deep) ⊎ ((2 < shown) ⊎ (0 < length lines.now))))) }
+    ensures answers { (result ≡ YES) ⊎ (result ≡ NO) ⊎ (result ≡ NO_MEMORY) ⊎ (result ≡ BAD_CALL) ⊎ (result ≡ TOO_SMALL) }
+    ensures text_kept { (result ≡ YES) ⊎ (result ≡ NO) ⊎ (text.new ≡ text.old) }
+    ensures wanted_kept { (result ≡ YES) ⊎ (result ≡ NO) ⊎ (result ≡ TOO_SMALL) ⊎ (wanted.new ≡ wanted.old) }
+    ensures refusal_kept { (result ≡ NO) ⊎ (refusal.new ≡ refusal.old) }
 {
     bpf_host_advice::explain_search(
         alloc, image, order, least, most, deep, shown, slot, lines, text, wanted, refusal,
@@ -91,15 +92,15 @@ pub extern "C" fn bpf_host_explain_image(
     wanted: &mut usize,
     refusal: &mut BpfRefusal,
 ) -> i32
-    ensures yes { result ≡ pos 1 → IsSomeImage (order_named order) image.now }
-    ensures no { result ≡ pos 0 → IsRefusedImage (order_named order) image.now refusal.new }
-    ensures given { (result ≡ pos 1) ⊎ (result ≡ pos 0) → GivesWords wanted.new text.old text.new }
-    ensures small { result ≡ negsuc 2 → length text.old < wanted.new }
-    ensures call { (result ≡ negsuc 1) ↔ ((1 < order) ⊎ (1 < graph)) }
-    ensures answers { (result ≡ pos 1) ⊎ (result ≡ pos 0) ⊎ (result ≡ negsuc 0) ⊎ (result ≡ negsuc 1) ⊎ (result ≡ negsuc 2) }
-    ensures text_kept { (result ≡ pos 1) ⊎ (result ≡ pos 0) ⊎ (text.new ≡ text.old) }
-    ensures wanted_kept { (result ≡ pos 1) ⊎ (result ≡ pos 0) ⊎ (result ≡ negsuc 2) ⊎ (wanted.new ≡ wanted.old) }
-    ensures refusal_kept { (result ≡ pos 0) ⊎ (refusal.new ≡ refusal.old) }
+    ensures yes { result ≡ YES → IsSomeImage (order_named order) image.now }
+    ensures no { result ≡ NO → IsRefusedImage (order_named order) image.now refusal.new }
+    ensures given { (result ≡ YES) ⊎ (result ≡ NO) → GivesWords wanted.new text.old text.new }
+    ensures small { result ≡ TOO_SMALL → length text.old < wanted.new }
+    ensures call { (result ≡ BAD_CALL) ↔ ((1 < order) ⊎ (1 < graph)) }
+    ensures answers { (result ≡ YES) ⊎ (result ≡ NO) ⊎ (result ≡ NO_MEMORY) ⊎ (result ≡ BAD_CALL) ⊎ (result ≡ TOO_SMALL) }
+    ensures text_kept { (result ≡ YES) ⊎ (result ≡ NO) ⊎ (text.new ≡ text.old) }
+    ensures wanted_kept { (result ≡ YES) ⊎ (result ≡ NO) ⊎ (result ≡ TOO_SMALL) ⊎ (wanted.new ≡ wanted.old) }
+    ensures refusal_kept { (result ≡ NO) ⊎ (refusal.new ≡ refusal.old) }
 {
     bpf_host_advice::explain_image(alloc, image, order, graph, text, wanted, refusal)
 }

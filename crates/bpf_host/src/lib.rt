@@ -2,19 +2,20 @@
 //! over no pointer that is null. Each is one call of `bpf_host_runs` or `bpf_host_advice`, and promises what that one does.
 #![tactic(auto)]
 
-ghost use Rattle.std.specs.Prelude.{◌≡◌, ◌≢◌, ◌++◌, ◌⊎◌, ◌↔◌, ◌<◌, ◌≤◌, ◌+◌, ◌*◌, ◌%◌, List, length, take, drop, pos, negsuc};
+ghost use Rattle.std.specs.Prelude.{◌≡◌, ◌≢◌, ◌++◌, ◌⊎◌, ◌↔◌, ◌<◌, ◌≤◌, ◌+◌, ◌*◌, ◌%◌, List, length, take, drop};
 ghost use Rattle.bpf_insn.specs.Limits.{max_context, max_slots};
 ghost use Rattle.bpf_insn.specs.Laws.{IsImageOfProgram};
 ghost use Rattle.bpf_insn.specs.declared.instruction.Insn.{Insn as Instruction};
 ghost use Rattle.bpf_cert.specs.View.{CertificateView};
 ghost use Rattle.bpf_check.specs.Verdicts.{Verified, Promises, Certifies};
-ghost use Rattle.bpf_host_runs.specs.Told.{order_named};
-ghost use Rattle.bpf_host_runs.specs.Prepared.{IsPrepared, IsMarked, version};
-ghost use Rattle.bpf_host_runs.specs.Loaded.{IsLoaded, IsMarkedHandle, HoldsLoaded, EndsAsLoaded, loaded_least, loaded_most};
+ghost use Rattle.bpf_host_runs.specs.Told.{order_named, IsVerdictOf};
+ghost use Rattle.bpf_host_runs.specs.Prepared.{IsPrepared, IsMarked, prepared_head, version};
+ghost use Rattle.bpf_host_runs.specs.Loaded.{handle_head, IsLoaded, IsMarkedHandle, HoldsLoaded, EndsAsLoaded, loaded_least, loaded_most};
 ghost use Rattle.bpf_host_runs.specs.Answers.{IsRefusedAsTold, IsNoImage, RanImage, IsUnrun, MayRun, EndsAsPrepared};
 ghost use Rattle.bpf_host_advice.specs.Texts.{refusal_text, IsNumbered};
 ghost use Rattle.bpf_host_advice.specs.Proposals.{GivesProposal, WantsRoom, IsNotProposed};
 ghost use Rattle.bpf_host_advice.specs.Hardened.{GivesImage, WantsImageRoom, IsNotHardened};
+ghost use Rattle.bpf_host_runs.specs.declared.answers.TheConstants.{YES, NO, NO_MEMORY, BAD_CALL, TOO_SMALL, TOO_LONG};
 
 mod explaining;
 
@@ -40,15 +41,15 @@ pub extern "C" fn bpf_host_verify(
     verdict: &mut BpfVerdict,
     refusal: &mut BpfRefusal,
 ) -> i32
-    ensures yes { result ≡ pos 1 → Verified (order_named order) image.now verdict.new.least verdict.new.most verdict.new.bound }
-    ensures promised { result ≡ pos 1 → Promises (order_named order) image.now certificate.now verdict.new.least verdict.new.most verdict.new.bound }
-    ensures no { result ≡ pos 0 → IsRefusedAsTold (order_named order) image.now certificate.now refusal.new }
-    ensures accepts { (c : CertificateView) → order ≤ 1 → Certifies (order_named order) image.now certificate.now c → ((result ≡ pos 1) × (verdict.new.least ≡ c.least) × (verdict.new.most ≡ c.most) × (verdict.new.bound ≡ c.steps)) ⊎ (result ≡ negsuc 0) }
-    ensures memory { result ≡ negsuc 0 → (is : List Instruction) × IsImageOfProgram (order_named order) image.now is }
-    ensures call { (result ≡ negsuc 1) ↔ (1 < order) }
-    ensures answers { (result ≡ pos 1) ⊎ (result ≡ pos 0) ⊎ (result ≡ negsuc 0) ⊎ (result ≡ negsuc 1) }
-    ensures verdict_kept { (result ≡ pos 1) ⊎ (verdict.new ≡ verdict.old) }
-    ensures refusal_kept { (result ≡ pos 0) ⊎ (refusal.new ≡ refusal.old) }
+    ensures yes { result ≡ YES → Verified (order_named order) image.now verdict.new.least verdict.new.most verdict.new.bound }
+    ensures promised { result ≡ YES → Promises (order_named order) image.now certificate.now verdict.new.least verdict.new.most verdict.new.bound }
+    ensures no { result ≡ NO → IsRefusedAsTold (order_named order) image.now certificate.now refusal.new }
+    ensures accepts { (c : CertificateView) → order ≤ 1 → Certifies (order_named order) image.now certificate.now c → ((result ≡ YES) × IsVerdictOf c verdict.new) ⊎ (result ≡ NO_MEMORY) }
+    ensures memory { result ≡ NO_MEMORY → (is : List Instruction) × IsImageOfProgram (order_named order) image.now is }
+    ensures call { (result ≡ BAD_CALL) ↔ (1 < order) }
+    ensures answers { (result ≡ YES) ⊎ (result ≡ NO) ⊎ (result ≡ NO_MEMORY) ⊎ (result ≡ BAD_CALL) }
+    ensures verdict_kept { (result ≡ YES) ⊎ (verdict.new ≡ verdict.old) }
+    ensures refusal_kept { (result ≡ NO) ⊎ (refusal.new ≡ refusal.old) }
 {
     bpf_host_runs::verify(alloc, image, order, certificate, verdict, refusal)
 }
@@ -62,11 +63,11 @@ pub extern "C" fn bpf_host_run(
     fuel: u64,
     outcome: &mut BpfOutcome,
 ) -> i32
-    ensures ran { result ≡ pos 1 → RanImage (order_named order) image.now context.now fuel outcome.new }
-    ensures refused { result ≡ pos 0 → IsUnrun (order_named order) image.now outcome.new }
-    ensures call { (result ≡ negsuc 1) ↔ ((1 < order) ⊎ (max_context < length context.now)) }
-    ensures answers { (result ≡ pos 1) ⊎ (result ≡ pos 0) ⊎ (result ≡ negsuc 1) }
-    ensures kept { result ≡ negsuc 1 → outcome.new ≡ outcome.old }
+    ensures ran { result ≡ YES → RanImage (order_named order) image.now context.now fuel outcome.new }
+    ensures refused { result ≡ NO → IsUnrun (order_named order) image.now outcome.new }
+    ensures call { (result ≡ BAD_CALL) ↔ ((1 < order) ⊎ (max_context < length context.now)) }
+    ensures answers { (result ≡ YES) ⊎ (result ≡ NO) ⊎ (result ≡ BAD_CALL) }
+    ensures kept { result ≡ BAD_CALL → outcome.new ≡ outcome.old }
 {
     bpf_host_runs::run(image, order, context, fuel, outcome)
 }
@@ -74,7 +75,7 @@ pub extern "C" fn bpf_host_run(
 /// `prepared_size` of `bpf_host_runs`, for C.
 #[unsafe(no_mangle)]
 pub extern "C" fn bpf_host_prepared_size(image_len: usize) -> usize
-    ensures words { image_len ≤ 8 * max_slots → image_len % 8 ≡ 0 → 0 < image_len → 8 * result ≡ 16 + image_len }
+    ensures words { image_len ≤ 8 * max_slots → image_len % 8 ≡ 0 → 0 < image_len → 8 * result ≡ prepared_head + image_len }
     ensures none { (8 * max_slots < image_len) ⊎ ((image_len ≡ 0) ⊎ (0 < image_len % 8)) → result ≡ 0 }
 {
     bpf_host_runs::prepared_size(image_len)
@@ -83,14 +84,14 @@ pub extern "C" fn bpf_host_prepared_size(image_len: usize) -> usize
 /// `prepare` of `bpf_host_runs`, for C.
 #[unsafe(no_mangle)]
 pub extern "C" fn bpf_host_prepare(image: &[u8], order: u32, memory: &mut [u8]) -> i32
-    ensures prepared { result ≡ pos 1 → IsPrepared (order_named order) image.now memory.new }
-    ensures program { result ≡ pos 1 → (is : List Instruction) × IsImageOfProgram (order_named order) image.now is }
-    ensures refused { result ≡ pos 0 → IsNoImage (order_named order) image.now }
-    ensures call { (result ≡ negsuc 1) ↔ (1 < order) }
-    ensures small { result ≡ negsuc 2 → ((is : List Instruction) × IsImageOfProgram (order_named order) image.now is) × (length memory.old ≢ 16 + length image.now) }
-    ensures size { result ≡ pos 1 → length memory.old ≡ 16 + length image.now }
-    ensures answers { (result ≡ pos 1) ⊎ (result ≡ pos 0) ⊎ (result ≡ negsuc 1) ⊎ (result ≡ negsuc 2) }
-    ensures kept { (result ≡ pos 1) ⊎ (memory.new ≡ memory.old) }
+    ensures prepared { result ≡ YES → IsPrepared (order_named order) image.now memory.new }
+    ensures program { result ≡ YES → (is : List Instruction) × IsImageOfProgram (order_named order) image.now is }
+    ensures refused { result ≡ NO → IsNoImage (order_named order) image.now }
+    ensures call { (result ≡ BAD_CALL) ↔ (1 < order) }
+    ensures small { result ≡ TOO_SMALL → ((is : List Instruction) × IsImageOfProgram (order_named order) image.now is) × (length memory.old ≢ prepared_head + length image.now) }
+    ensures size { result ≡ YES → length memory.old ≡ prepared_head + length image.now }
+    ensures answers { (result ≡ YES) ⊎ (result ≡ NO) ⊎ (result ≡ BAD_CALL) ⊎ (result ≡ TOO_SMALL) }
+    ensures kept { (result ≡ YES) ⊎ (memory.new ≡ memory.old) }
 {
     bpf_host_runs::prepare(image, order, memory)
 }
@@ -98,12 +99,12 @@ pub extern "C" fn bpf_host_prepare(image: &[u8], order: u32, memory: &mut [u8]) 
 /// `run_checked` of `bpf_host_runs`, for C.
 #[unsafe(no_mangle)]
 pub extern "C" fn bpf_host_run_checked(memory: &[u8], context: &[u8], value: &mut u64) -> i32
-    requires head { 16 ≤ length memory.now }
+    requires head { prepared_head ≤ length memory.now }
     requires may { IsMarked memory.now → MayRun memory.now context.now }
-    ensures ends { result ≡ pos 1 → EndsAsPrepared memory.now context.now value.new }
-    ensures runs { (result ≡ pos 1) ↔ IsMarked memory.now }
-    ensures answers { (result ≡ pos 1) ⊎ (result ≡ negsuc 1) }
-    ensures kept { (result ≡ pos 1) ⊎ (value.new ≡ value.old) }
+    ensures ends { result ≡ YES → EndsAsPrepared memory.now context.now value.new }
+    ensures runs { (result ≡ YES) ↔ IsMarked memory.now }
+    ensures answers { (result ≡ YES) ⊎ (result ≡ BAD_CALL) }
+    ensures kept { (result ≡ YES) ⊎ (value.new ≡ value.old) }
 {
     bpf_host_runs::run_checked(memory, context, value)
 }
@@ -111,7 +112,7 @@ pub extern "C" fn bpf_host_run_checked(memory: &[u8], context: &[u8], value: &mu
 /// `loaded_size` of `bpf_host_runs`, for C.
 #[unsafe(no_mangle)]
 pub extern "C" fn bpf_host_loaded_size(image_len: usize) -> usize
-    ensures words { image_len ≤ 8 * max_slots → image_len % 8 ≡ 0 → 0 < image_len → 8 * result ≡ 40 + image_len }
+    ensures words { image_len ≤ 8 * max_slots → image_len % 8 ≡ 0 → 0 < image_len → 8 * result ≡ handle_head + image_len }
     ensures none { (8 * max_slots < image_len) ⊎ ((image_len ≡ 0) ⊎ (0 < image_len % 8)) → result ≡ 0 }
 {
     bpf_host_runs::loaded_size(image_len)
@@ -129,22 +130,22 @@ pub extern "C" fn bpf_host_load(
     verdict: &mut BpfVerdict,
     refusal: &mut BpfRefusal,
 ) -> i32
-    ensures loaded { result ≡ pos 1 → IsLoaded (order_named order) image.now verdict.new.least verdict.new.most verdict.new.bound memory.new }
-    ensures yes { (result ≡ pos 1) ⊎ (result ≡ negsuc 3) → Verified (order_named order) image.now verdict.new.least verdict.new.most verdict.new.bound }
-    ensures promised { (result ≡ pos 1) ⊎ (result ≡ negsuc 3) → Promises (order_named order) image.now certificate.now verdict.new.least verdict.new.most verdict.new.bound }
-    ensures paid { result ≡ pos 1 → verdict.new.bound ≤ limit }
-    ensures long { result ≡ negsuc 3 → limit < verdict.new.bound }
-    ensures no { result ≡ pos 0 → IsRefusedAsTold (order_named order) image.now certificate.now refusal.new }
-    ensures accepts { (c : CertificateView) → order ≤ 1 → length memory.old ≡ 40 + length image.now → Certifies (order_named order) image.now certificate.now c → c.steps ≤ limit → ((result ≡ pos 1) × (verdict.new.least ≡ c.least) × (verdict.new.most ≡ c.most) × (verdict.new.bound ≡ c.steps)) ⊎ (result ≡ negsuc 0) }
-    ensures unpaid { (c : CertificateView) → order ≤ 1 → length memory.old ≡ 40 + length image.now → Certifies (order_named order) image.now certificate.now c → limit < c.steps → ((result ≡ negsuc 3) × (verdict.new.least ≡ c.least) × (verdict.new.most ≡ c.most) × (verdict.new.bound ≡ c.steps)) ⊎ (result ≡ negsuc 0) }
-    ensures memory { result ≡ negsuc 0 → (is : List Instruction) × IsImageOfProgram (order_named order) image.now is }
-    ensures call { (result ≡ negsuc 1) ↔ (1 < order) }
-    ensures small { result ≡ negsuc 2 → length memory.old ≢ 40 + length image.now }
-    ensures size { result ≡ pos 1 → length memory.old ≡ 40 + length image.now }
-    ensures answers { (result ≡ pos 1) ⊎ (result ≡ pos 0) ⊎ (result ≡ negsuc 0) ⊎ (result ≡ negsuc 1) ⊎ (result ≡ negsuc 2) ⊎ (result ≡ negsuc 3) }
-    ensures memory_kept { (result ≡ pos 1) ⊎ (memory.new ≡ memory.old) }
-    ensures verdict_kept { (result ≡ pos 1) ⊎ (result ≡ negsuc 3) ⊎ (verdict.new ≡ verdict.old) }
-    ensures refusal_kept { (result ≡ pos 0) ⊎ (refusal.new ≡ refusal.old) }
+    ensures loaded { result ≡ YES → IsLoaded (order_named order) image.now verdict.new.least verdict.new.most verdict.new.bound memory.new }
+    ensures yes { (result ≡ YES) ⊎ (result ≡ TOO_LONG) → Verified (order_named order) image.now verdict.new.least verdict.new.most verdict.new.bound }
+    ensures promised { (result ≡ YES) ⊎ (result ≡ TOO_LONG) → Promises (order_named order) image.now certificate.now verdict.new.least verdict.new.most verdict.new.bound }
+    ensures paid { result ≡ YES → verdict.new.bound ≤ limit }
+    ensures long { result ≡ TOO_LONG → limit < verdict.new.bound }
+    ensures no { result ≡ NO → IsRefusedAsTold (order_named order) image.now certificate.now refusal.new }
+    ensures accepts { (c : CertificateView) → order ≤ 1 → length memory.old ≡ handle_head + length image.now → Certifies (order_named order) image.now certificate.now c → c.steps ≤ limit → ((result ≡ YES) × IsVerdictOf c verdict.new) ⊎ (result ≡ NO_MEMORY) }
+    ensures unpaid { (c : CertificateView) → order ≤ 1 → length memory.old ≡ handle_head + length image.now → Certifies (order_named order) image.now certificate.now c → limit < c.steps → ((result ≡ TOO_LONG) × IsVerdictOf c verdict.new) ⊎ (result ≡ NO_MEMORY) }
+    ensures memory { result ≡ NO_MEMORY → (is : List Instruction) × IsImageOfProgram (order_named order) image.now is }
+    ensures call { (result ≡ BAD_CALL) ↔ (1 < order) }
+    ensures small { result ≡ TOO_SMALL → length memory.old ≢ handle_head + length image.now }
+    ensures size { result ≡ YES → length memory.old ≡ handle_head + length image.now }
+    ensures answers { (result ≡ YES) ⊎ (result ≡ NO) ⊎ (result ≡ NO_MEMORY) ⊎ (result ≡ BAD_CALL) ⊎ (result ≡ TOO_SMALL) ⊎ (result ≡ TOO_LONG) }
+    ensures memory_kept { (result ≡ YES) ⊎ (memory.new ≡ memory.old) }
+    ensures verdict_kept { (result ≡ YES) ⊎ (result ≡ TOO_LONG) ⊎ (verdict.new ≡ verdict.old) }
+    ensures refusal_kept { (result ≡ NO) ⊎ (refusal.new ≡ refusal.old) }
 {
     bpf_host_runs::load(
         alloc,
@@ -161,12 +162,12 @@ pub extern "C" fn bpf_host_load(
 /// `run_loaded` of `bpf_host_runs`, for C.
 #[unsafe(no_mangle)]
 pub extern "C" fn bpf_host_run_loaded(memory: &[u8], context: &[u8], value: &mut u64) -> i32
-    requires head { 40 ≤ length memory.now }
+    requires head { handle_head ≤ length memory.now }
     requires holds { IsMarkedHandle memory.now → HoldsLoaded memory.now }
-    ensures ends { result ≡ pos 1 → EndsAsLoaded memory.now context.now value.new }
-    ensures runs { (result ≡ pos 1) ↔ (IsMarkedHandle memory.now × (loaded_least memory.now ≤ length context.now) × (length context.now ≤ loaded_most memory.now)) }
-    ensures answers { (result ≡ pos 1) ⊎ (result ≡ negsuc 1) }
-    ensures kept { (result ≡ pos 1) ⊎ (value.new ≡ value.old) }
+    ensures ends { result ≡ YES → EndsAsLoaded memory.now context.now value.new }
+    ensures runs { (result ≡ YES) ↔ (IsMarkedHandle memory.now × (loaded_least memory.now ≤ length context.now) × (length context.now ≤ loaded_most memory.now)) }
+    ensures answers { (result ≡ YES) ⊎ (result ≡ BAD_CALL) }
+    ensures kept { (result ≡ YES) ⊎ (value.new ≡ value.old) }
 {
     bpf_host_runs::run_loaded(memory, context, value)
 }
@@ -184,14 +185,14 @@ pub extern "C" fn bpf_host_infer(
     wanted: &mut usize,
     refusal: &mut BpfRefusal,
 ) -> i32
-    ensures given { result ≡ pos 1 → GivesProposal least most wanted.new text.old text.new }
-    ensures small { result ≡ negsuc 2 → WantsRoom least most wanted.new text.old }
-    ensures refused { result ≡ pos 0 → IsNotProposed (order_named order) image.now refusal.new }
-    ensures call { (result ≡ negsuc 1) ↔ ((1 < order) ⊎ ((most < least) ⊎ ((max_context < most) ⊎ (1 < deep)))) }
-    ensures answers { (result ≡ pos 1) ⊎ (result ≡ pos 0) ⊎ (result ≡ negsuc 0) ⊎ (result ≡ negsuc 1) ⊎ (result ≡ negsuc 2) }
-    ensures text_kept { (result ≡ pos 1) ⊎ (text.new ≡ text.old) }
-    ensures wanted_kept { (result ≡ pos 1) ⊎ (result ≡ negsuc 2) ⊎ (wanted.new ≡ wanted.old) }
-    ensures refusal_kept { (result ≡ pos 0) ⊎ (refusal.new ≡ refusal.old) }
+    ensures given { result ≡ YES → GivesProposal least most wanted.new text.old text.new }
+    ensures small { result ≡ TOO_SMALL → WantsRoom least most wanted.new text.old }
+    ensures refused { result ≡ NO → IsNotProposed (order_named order) image.now refusal.new }
+    ensures call { (result ≡ BAD_CALL) ↔ ((1 < order) ⊎ ((most < least) ⊎ ((max_context < most) ⊎ (1 < deep)))) }
+    ensures answers { (result ≡ YES) ⊎ (result ≡ NO) ⊎ (result ≡ NO_MEMORY) ⊎ (result ≡ BAD_CALL) ⊎ (result ≡ TOO_SMALL) }
+    ensures text_kept { (result ≡ YES) ⊎ (text.new ≡ text.old) }
+    ensures wanted_kept { (result ≡ YES) ⊎ (result ≡ TOO_SMALL) ⊎ (wanted.new ≡ wanted.old) }
+    ensures refusal_kept { (result ≡ NO) ⊎ (refusal.new ≡ refusal.old) }
 {
     bpf_host_advice::infer(
         alloc, image, order, least, most, deep, text, wanted, refusal,
@@ -212,14 +213,14 @@ pub extern "C" fn bpf_host_harden(
     wanted: &mut usize,
     refusal: &mut BpfRefusal,
 ) -> i32
-    ensures given { result ≡ pos 1 → GivesImage wanted.new text.old text.new }
-    ensures small { result ≡ negsuc 2 → WantsImageRoom wanted.new text.old }
-    ensures refused { result ≡ pos 0 → IsNotHardened (order_named order) image.now refusal.new }
-    ensures call { (result ≡ negsuc 1) ↔ ((1 < order) ⊎ ((max_context < size) ⊎ (1 < padded))) }
-    ensures answers { (result ≡ pos 1) ⊎ (result ≡ pos 0) ⊎ (result ≡ negsuc 0) ⊎ (result ≡ negsuc 1) ⊎ (result ≡ negsuc 2) }
-    ensures text_kept { (result ≡ pos 1) ⊎ (text.new ≡ text.old) }
-    ensures wanted_kept { (result ≡ pos 1) ⊎ (result ≡ negsuc 2) ⊎ (wanted.new ≡ wanted.old) }
-    ensures refusal_kept { (result ≡ pos 0) ⊎ (refusal.new ≡ refusal.old) }
+    ensures given { result ≡ YES → GivesImage wanted.new text.old text.new }
+    ensures small { result ≡ TOO_SMALL → WantsImageRoom wanted.new text.old }
+    ensures refused { result ≡ NO → IsNotHardened (order_named order) image.now refusal.new }
+    ensures call { (result ≡ BAD_CALL) ↔ ((1 < order) ⊎ ((max_context < size) ⊎ (1 < padded))) }
+    ensures answers { (result ≡ YES) ⊎ (result ≡ NO) ⊎ (result ≡ NO_MEMORY) ⊎ (result ≡ BAD_CALL) ⊎ (result ≡ TOO_SMALL) }
+    ensures text_kept { (result ≡ YES) ⊎ (text.new ≡ text.old) }
+    ensures wanted_kept { (result ≡ YES) ⊎ (result ≡ TOO_SMALL) ⊎ (wanted.new ≡ wanted.old) }
+    ensures refusal_kept { (result ≡ NO) ⊎ (refusal.new ≡ refusal.old) }
 {
     bpf_host_advice::harden(
         alloc, image, order, size, turns, otherwise, padded, text, wanted, refusal,

@@ -1,16 +1,17 @@
 //! The calls that explain.
 
-ghost use Rattle.std.specs.Prelude.{◌≡◌, ◌⊎◌, ◌↔◌, ◌<◌, ◌≤◌, Some, length, pos, negsuc};
+ghost use Rattle.std.specs.Prelude.{◌≡◌, ◌⊎◌, ◌↔◌, ◌<◌, ◌≤◌, Some, length};
 ghost use Rattle.bpf_insn.specs.Limits.{max_context};
 ghost use Rattle.bpf_host_runs.specs.Told.{order_named};
 ghost use Rattle.bpf_host_runs.specs.Answers.{IsRefusedAsTold};
 ghost use Rattle.bpf_host_advice.specs.Explained.{IsSomeImage, IsRefusedImage, IsCertifiedBySome, IsFound, IsNotFound, GivesWords};
 ghost use Rattle.bpf_host_advice.specs.declared.explanation.Judged.TheVariants.{Accepted, Refused};
+ghost use Rattle.bpf_host_runs.specs.declared.answers.TheConstants.{YES, NO, NO_MEMORY, BAD_CALL, TOO_SMALL};
 
 use crate::explanation::{Given, Judged, checked, read_alone, searched, shown_of};
 use crate::proposal::give;
 use bpf_explain::Search;
-use bpf_host_runs::{BAD_CALL, BpfRefusal, DONE, NO_MEMORY, REFUSED, order_of};
+use bpf_host_runs::{BAD_CALL, BpfRefusal, NO, NO_MEMORY, YES, order_of};
 use bpf_infer::Wanted;
 use bpf_insn::MAX_CONTEXT;
 use std::alloc::Global;
@@ -23,27 +24,27 @@ fn answer(
     wanted: &mut usize,
     refusal: &mut BpfRefusal,
 ) -> i32
-    ensures yes { result ≡ pos 1 → judged ≡ Some Accepted }
-    ensures no { result ≡ pos 0 → judged ≡ Some (Refused refusal.new) }
-    ensures given { (result ≡ pos 1) ⊎ (result ≡ pos 0) → GivesWords wanted.new text.old text.new }
-    ensures small { result ≡ negsuc 2 → length text.old < wanted.new }
-    ensures answers { (result ≡ pos 1) ⊎ (result ≡ pos 0) ⊎ (result ≡ negsuc 0) ⊎ (result ≡ negsuc 2) }
-    ensures text_kept { (result ≡ pos 1) ⊎ (result ≡ pos 0) ⊎ (text.new ≡ text.old) }
-    ensures wanted_kept { (result ≡ pos 1) ⊎ (result ≡ pos 0) ⊎ (result ≡ negsuc 2) ⊎ (wanted.new ≡ wanted.old) }
-    ensures refusal_kept { (result ≡ pos 0) ⊎ (refusal.new ≡ refusal.old) }
+    ensures yes { result ≡ YES → judged ≡ Some Accepted }
+    ensures no { result ≡ NO → judged ≡ Some (Refused refusal.new) }
+    ensures given { (result ≡ YES) ⊎ (result ≡ NO) → GivesWords wanted.new text.old text.new }
+    ensures small { result ≡ TOO_SMALL → length text.old < wanted.new }
+    ensures answers { (result ≡ YES) ⊎ (result ≡ NO) ⊎ (result ≡ NO_MEMORY) ⊎ (result ≡ TOO_SMALL) }
+    ensures text_kept { (result ≡ YES) ⊎ (result ≡ NO) ⊎ (text.new ≡ text.old) }
+    ensures wanted_kept { (result ≡ YES) ⊎ (result ≡ NO) ⊎ (result ≡ TOO_SMALL) ⊎ (wanted.new ≡ wanted.old) }
+    ensures refusal_kept { (result ≡ NO) ⊎ (refusal.new ≡ refusal.old) }
 {
     let Some(judged) = judged else {
         return NO_MEMORY;
     };
     let given = give(words, text, wanted);
-    if given != DONE {
+    if given != YES {
         return given;
     }
     match judged {
-        Judged::Accepted => DONE,
+        Judged::Accepted => YES,
         Judged::Refused(told) => {
             *refusal = told;
-            REFUSED
+            NO
         }
     }
 }
@@ -65,16 +66,16 @@ pub fn explain(
     wanted: &mut usize,
     refusal: &mut BpfRefusal,
 ) -> i32
-    ensures yes { result ≡ pos 1 → IsCertifiedBySome (order_named order) image.now certificate.now }
-    ensures no { result ≡ pos 0 → IsRefusedAsTold (order_named order) image.now certificate.now refusal.new }
-    ensures given { (result ≡ pos 1) ⊎ (result ≡ pos 0) → GivesWords wanted.new text.old text.new }
-    ensures small { result ≡ negsuc 2 → length text.old < wanted.new }
-    ensures bad { (1 < order) ⊎ (2 < shown) → result ≡ negsuc 1 }
-    ensures call { result ≡ negsuc 1 → (1 < order) ⊎ ((2 < shown) ⊎ (0 < length lines.now)) }
-    ensures answers { (result ≡ pos 1) ⊎ (result ≡ pos 0) ⊎ (result ≡ negsuc 0) ⊎ (result ≡ negsuc 1) ⊎ (result ≡ negsuc 2) }
-    ensures text_kept { (result ≡ pos 1) ⊎ (result ≡ pos 0) ⊎ (text.new ≡ text.old) }
-    ensures wanted_kept { (result ≡ pos 1) ⊎ (result ≡ pos 0) ⊎ (result ≡ negsuc 2) ⊎ (wanted.new ≡ wanted.old) }
-    ensures refusal_kept { (result ≡ pos 0) ⊎ (refusal.new ≡ refusal.old) }
+    ensures yes { result ≡ YES → IsCertifiedBySome (order_named order) image.now certificate.now }
+    ensures no { result ≡ NO → IsRefusedAsTold (order_named order) image.now certificate.now refusal.new }
+    ensures given { (result ≡ YES) ⊎ (result ≡ NO) → GivesWords wanted.new text.old text.new }
+    ensures small { result ≡ TOO_SMALL → length text.old < wanted.new }
+    ensures bad { (1 < order) ⊎ (2 < shown) → result ≡ BAD_CALL }
+    ensures call { result ≡ BAD_CALL → (1 < order) ⊎ ((2 < shown) ⊎ (0 < length lines.now)) }
+    ensures answers { (result ≡ YES) ⊎ (result ≡ NO) ⊎ (result ≡ NO_MEMORY) ⊎ (result ≡ BAD_CALL) ⊎ (result ≡ TOO_SMALL) }
+    ensures text_kept { (result ≡ YES) ⊎ (result ≡ NO) ⊎ (text.new ≡ text.old) }
+    ensures wanted_kept { (result ≡ YES) ⊎ (result ≡ NO) ⊎ (result ≡ TOO_SMALL) ⊎ (wanted.new ≡ wanted.old) }
+    ensures refusal_kept { (result ≡ NO) ⊎ (refusal.new ≡ refusal.old) }
 {
     let Some(order) = order_of(u64::from(order)) else {
         return BAD_CALL;
@@ -111,16 +112,16 @@ pub fn explain_search(
     wanted: &mut usize,
     refusal: &mut BpfRefusal,
 ) -> i32
-    ensures yes { result ≡ pos 1 → IsFound (order_named order) image.now least most }
-    ensures no { result ≡ pos 0 → IsNotFound (order_named order) image.now least most refusal.new }
-    ensures given { (result ≡ pos 1) ⊎ (result ≡ pos 0) → GivesWords wanted.new text.old text.new }
-    ensures small { result ≡ negsuc 2 → length text.old < wanted.new }
-    ensures bad { (1 < order) ⊎ ((most < least) ⊎ ((max_context < most) ⊎ ((1 < deep) ⊎ (2 < shown)))) → result ≡ negsuc 1 }
-    ensures call { result ≡ negsuc 1 → (1 < order) ⊎ ((most < least) ⊎ ((max_context < most) ⊎ ((1 < deep) ⊎ ((2 < shown) ⊎ (0 < length lines.now))))) }
-    ensures answers { (result ≡ pos 1) ⊎ (result ≡ pos 0) ⊎ (result ≡ negsuc 0) ⊎ (result ≡ negsuc 1) ⊎ (result ≡ negsuc 2) }
-    ensures text_kept { (result ≡ pos 1) ⊎ (result ≡ pos 0) ⊎ (text.new ≡ text.old) }
-    ensures wanted_kept { (result ≡ pos 1) ⊎ (result ≡ pos 0) ⊎ (result ≡ negsuc 2) ⊎ (wanted.new ≡ wanted.old) }
-    ensures refusal_kept { (result ≡ pos 0) ⊎ (refusal.new ≡ refusal.old) }
+    ensures yes { result ≡ YES → IsFound (order_named order) image.now least most }
+    ensures no { result ≡ NO → IsNotFound (order_named order) image.now least most refusal.new }
+    ensures given { (result ≡ YES) ⊎ (result ≡ NO) → GivesWords wanted.new text.old text.new }
+    ensures small { result ≡ TOO_SMALL → length text.old < wanted.new }
+    ensures bad { (1 < order) ⊎ ((most < least) ⊎ ((max_context < most) ⊎ ((1 < deep) ⊎ (2 < shown)))) → result ≡ BAD_CALL }
+    ensures call { result ≡ BAD_CALL → (1 < order) ⊎ ((most < least) ⊎ ((max_context < most) ⊎ ((1 < deep) ⊎ ((2 < shown) ⊎ (0 < length lines.now))))) }
+    ensures answers { (result ≡ YES) ⊎ (result ≡ NO) ⊎ (result ≡ NO_MEMORY) ⊎ (result ≡ BAD_CALL) ⊎ (result ≡ TOO_SMALL) }
+    ensures text_kept { (result ≡ YES) ⊎ (result ≡ NO) ⊎ (text.new ≡ text.old) }
+    ensures wanted_kept { (result ≡ YES) ⊎ (result ≡ NO) ⊎ (result ≡ TOO_SMALL) ⊎ (wanted.new ≡ wanted.old) }
+    ensures refusal_kept { (result ≡ NO) ⊎ (refusal.new ≡ refusal.old) }
 {
     let Some(order) = order_of(u64::from(order)) else {
         return BAD_CALL;
@@ -156,15 +157,15 @@ pub fn explain_image(
     wanted: &mut usize,
     refusal: &mut BpfRefusal,
 ) -> i32
-    ensures yes { result ≡ pos 1 → IsSomeImage (order_named order) image.now }
-    ensures no { result ≡ pos 0 → IsRefusedImage (order_named order) image.now refusal.new }
-    ensures given { (result ≡ pos 1) ⊎ (result ≡ pos 0) → GivesWords wanted.new text.old text.new }
-    ensures small { result ≡ negsuc 2 → length text.old < wanted.new }
-    ensures call { (result ≡ negsuc 1) ↔ ((1 < order) ⊎ (1 < graph)) }
-    ensures answers { (result ≡ pos 1) ⊎ (result ≡ pos 0) ⊎ (result ≡ negsuc 0) ⊎ (result ≡ negsuc 1) ⊎ (result ≡ negsuc 2) }
-    ensures text_kept { (result ≡ pos 1) ⊎ (result ≡ pos 0) ⊎ (text.new ≡ text.old) }
-    ensures wanted_kept { (result ≡ pos 1) ⊎ (result ≡ pos 0) ⊎ (result ≡ negsuc 2) ⊎ (wanted.new ≡ wanted.old) }
-    ensures refusal_kept { (result ≡ pos 0) ⊎ (refusal.new ≡ refusal.old) }
+    ensures yes { result ≡ YES → IsSomeImage (order_named order) image.now }
+    ensures no { result ≡ NO → IsRefusedImage (order_named order) image.now refusal.new }
+    ensures given { (result ≡ YES) ⊎ (result ≡ NO) → GivesWords wanted.new text.old text.new }
+    ensures small { result ≡ TOO_SMALL → length text.old < wanted.new }
+    ensures call { (result ≡ BAD_CALL) ↔ ((1 < order) ⊎ (1 < graph)) }
+    ensures answers { (result ≡ YES) ⊎ (result ≡ NO) ⊎ (result ≡ NO_MEMORY) ⊎ (result ≡ BAD_CALL) ⊎ (result ≡ TOO_SMALL) }
+    ensures text_kept { (result ≡ YES) ⊎ (result ≡ NO) ⊎ (text.new ≡ text.old) }
+    ensures wanted_kept { (result ≡ YES) ⊎ (result ≡ NO) ⊎ (result ≡ TOO_SMALL) ⊎ (wanted.new ≡ wanted.old) }
+    ensures refusal_kept { (result ≡ NO) ⊎ (refusal.new ≡ refusal.old) }
 {
     let Some(order) = order_of(u64::from(order)) else {
         return BAD_CALL;

@@ -2,12 +2,13 @@
 //! refusals in words. `bpf_host` exports them under C's names.
 #![tactic(auto)]
 
-ghost use Rattle.std.specs.Prelude.{◌≡◌, ◌++◌, ◌⊎◌, ◌↔◌, ◌<◌, length, take, drop, pos, negsuc};
+ghost use Rattle.std.specs.Prelude.{◌≡◌, ◌++◌, ◌⊎◌, ◌↔◌, ◌<◌, length, take, drop};
 ghost use Rattle.bpf_insn.specs.Limits.{max_context};
 ghost use Rattle.bpf_host_runs.specs.Told.{order_named};
 ghost use Rattle.bpf_host_advice.specs.Texts.{refusal_text, IsNumbered};
 ghost use Rattle.bpf_host_advice.specs.Proposals.{GivesProposal, WantsRoom, IsNotProposed};
 ghost use Rattle.bpf_host_advice.specs.Hardened.{GivesImage, WantsImageRoom, IsNotHardened};
+ghost use Rattle.bpf_host_runs.specs.declared.answers.TheConstants.{YES, NO, NO_MEMORY, BAD_CALL, TOO_SMALL};
 
 mod explaining;
 mod explanation;
@@ -17,7 +18,7 @@ mod refusals;
 mod texts;
 
 use bpf_harden::Options;
-use bpf_host_runs::{BAD_CALL, BpfRefusal, NO_MEMORY, REFUSED, order_of};
+use bpf_host_runs::{BAD_CALL, BpfRefusal, NO, NO_MEMORY, order_of};
 use bpf_infer::Wanted;
 use bpf_insn::MAX_CONTEXT;
 pub use explaining::{explain, explain_image, explain_search};
@@ -42,14 +43,14 @@ pub fn infer(
     wanted: &mut usize,
     refusal: &mut BpfRefusal,
 ) -> i32
-    ensures given { result ≡ pos 1 → GivesProposal least most wanted.new text.old text.new }
-    ensures small { result ≡ negsuc 2 → WantsRoom least most wanted.new text.old }
-    ensures refused { result ≡ pos 0 → IsNotProposed (order_named order) image.now refusal.new }
-    ensures call { (result ≡ negsuc 1) ↔ ((1 < order) ⊎ ((most < least) ⊎ ((max_context < most) ⊎ (1 < deep)))) }
-    ensures answers { (result ≡ pos 1) ⊎ (result ≡ pos 0) ⊎ (result ≡ negsuc 0) ⊎ (result ≡ negsuc 1) ⊎ (result ≡ negsuc 2) }
-    ensures text_kept { (result ≡ pos 1) ⊎ (text.new ≡ text.old) }
-    ensures wanted_kept { (result ≡ pos 1) ⊎ (result ≡ negsuc 2) ⊎ (wanted.new ≡ wanted.old) }
-    ensures refusal_kept { (result ≡ pos 0) ⊎ (refusal.new ≡ refusal.old) }
+    ensures given { result ≡ YES → GivesProposal least most wanted.new text.old text.new }
+    ensures small { result ≡ TOO_SMALL → WantsRoom least most wanted.new text.old }
+    ensures refused { result ≡ NO → IsNotProposed (order_named order) image.now refusal.new }
+    ensures call { (result ≡ BAD_CALL) ↔ ((1 < order) ⊎ ((most < least) ⊎ ((max_context < most) ⊎ (1 < deep)))) }
+    ensures answers { (result ≡ YES) ⊎ (result ≡ NO) ⊎ (result ≡ NO_MEMORY) ⊎ (result ≡ BAD_CALL) ⊎ (result ≡ TOO_SMALL) }
+    ensures text_kept { (result ≡ YES) ⊎ (text.new ≡ text.old) }
+    ensures wanted_kept { (result ≡ YES) ⊎ (result ≡ TOO_SMALL) ⊎ (wanted.new ≡ wanted.old) }
+    ensures refusal_kept { (result ≡ NO) ⊎ (refusal.new ≡ refusal.old) }
 {
     let Some(order) = order_of(u64::from(order)) else {
         return BAD_CALL;
@@ -67,7 +68,7 @@ pub fn infer(
         Err(Unmade::Memory) => NO_MEMORY,
         Err(Unmade::Refused(told)) => {
             *refusal = told;
-            REFUSED
+            NO
         }
     }
 }
@@ -90,14 +91,14 @@ pub fn harden(
     wanted: &mut usize,
     refusal: &mut BpfRefusal,
 ) -> i32
-    ensures given { result ≡ pos 1 → GivesImage wanted.new text.old text.new }
-    ensures small { result ≡ negsuc 2 → WantsImageRoom wanted.new text.old }
-    ensures refused { result ≡ pos 0 → IsNotHardened (order_named order) image.now refusal.new }
-    ensures call { (result ≡ negsuc 1) ↔ ((1 < order) ⊎ ((max_context < size) ⊎ (1 < padded))) }
-    ensures answers { (result ≡ pos 1) ⊎ (result ≡ pos 0) ⊎ (result ≡ negsuc 0) ⊎ (result ≡ negsuc 1) ⊎ (result ≡ negsuc 2) }
-    ensures text_kept { (result ≡ pos 1) ⊎ (text.new ≡ text.old) }
-    ensures wanted_kept { (result ≡ pos 1) ⊎ (result ≡ negsuc 2) ⊎ (wanted.new ≡ wanted.old) }
-    ensures refusal_kept { (result ≡ pos 0) ⊎ (refusal.new ≡ refusal.old) }
+    ensures given { result ≡ YES → GivesImage wanted.new text.old text.new }
+    ensures small { result ≡ TOO_SMALL → WantsImageRoom wanted.new text.old }
+    ensures refused { result ≡ NO → IsNotHardened (order_named order) image.now refusal.new }
+    ensures call { (result ≡ BAD_CALL) ↔ ((1 < order) ⊎ ((max_context < size) ⊎ (1 < padded))) }
+    ensures answers { (result ≡ YES) ⊎ (result ≡ NO) ⊎ (result ≡ NO_MEMORY) ⊎ (result ≡ BAD_CALL) ⊎ (result ≡ TOO_SMALL) }
+    ensures text_kept { (result ≡ YES) ⊎ (text.new ≡ text.old) }
+    ensures wanted_kept { (result ≡ YES) ⊎ (result ≡ TOO_SMALL) ⊎ (wanted.new ≡ wanted.old) }
+    ensures refusal_kept { (result ≡ NO) ⊎ (refusal.new ≡ refusal.old) }
 {
     let Some(order) = order_of(u64::from(order)) else {
         return BAD_CALL;
@@ -116,7 +117,7 @@ pub fn harden(
         Err(Unmade::Memory) => NO_MEMORY,
         Err(Unmade::Refused(told)) => {
             *refusal = told;
-            REFUSED
+            NO
         }
     }
 }

@@ -1,14 +1,15 @@
 //! Certificates proposed for images.
 
-ghost use Rattle.std.specs.Prelude.{◌≡◌, ◌≤◌, ◌<◌, ◌++◌, ◌⊎◌, IfOk, IfErr, IfSome, length, drop, pos, negsuc};
+ghost use Rattle.std.specs.Prelude.{◌≡◌, ◌≤◌, ◌<◌, ◌++◌, ◌⊎◌, IfOk, IfErr, IfSome, length, drop};
 ghost use Rattle.bpf_insn.specs.Limits.{max_context};
 ghost use Rattle.bpf_cert.specs.Spelling.{certificate_text};
 ghost use Rattle.bpf_host_advice.specs.Proposals.{IsProposal, IsNotProposed};
 ghost use Rattle.bpf_host_advice.specs.Told.{IsTold};
+ghost use Rattle.bpf_host_runs.specs.declared.answers.TheConstants.{YES, TOO_SMALL};
 
 use crate::refusals::{Unmade, of_inference};
 use bpf_cert::{Certificate, write};
-use bpf_host_runs::{DONE, TOO_SMALL, of_image};
+use bpf_host_runs::{TOO_SMALL, YES, of_image};
 use bpf_infer::{InferError, Unwatched, Wanted, propose};
 use bpf_insn::{DecodeError, Order, decode};
 use std::alloc::Global;
@@ -54,15 +55,15 @@ pub(crate) fn proposal(
 
 /// Gives a text where there is room for it, and says how many bytes it has.
 pub(crate) fn give(words: &[u8], text: &mut [u8], wanted: &mut usize) -> i32
-    ensures given { result ≡ pos 1 → text.new ≡ words.now ++ drop (length words.now) text.old }
-    ensures small { result ≡ negsuc 2 → (length text.old < length words.now) × (text.new ≡ text.old) }
+    ensures given { result ≡ YES → text.new ≡ words.now ++ drop (length words.now) text.old }
+    ensures small { result ≡ TOO_SMALL → (length text.old < length words.now) × (text.new ≡ text.old) }
     ensures wanted { wanted.new ≡ length words.now }
-    ensures answers { (result ≡ pos 1) ⊎ (result ≡ negsuc 2) }
+    ensures answers { (result ≡ YES) ⊎ (result ≡ TOO_SMALL) }
 {
     *wanted = words.len();
     if text.len() < words.len() {
         return TOO_SMALL;
     }
     text[..words.len()].copy_from_slice(words);
-    DONE
+    YES
 }

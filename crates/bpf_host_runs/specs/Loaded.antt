@@ -22,9 +22,13 @@ pub record HasRange (least most bound : ℕ) (memory : List ℕ) : Type 0 where
   pub most_is : loaded_most memory ≡ most
   pub bound_is : loaded_bound memory ≡ bound
 
+-- how many bytes stand in front of the image: those numbers, and what stands in front of one that is prepared
+abbrev pub handle_head : ℕ
+handle_head = 40
+
 -- the numbers of a verdict, and then an image, prepared
 pub record IsLoaded (order : Order) (image : List ℕ) (least most bound : ℕ) (memory : List ℕ) : Type 0 where
-  pub fits : 40 + length image ≤ length memory
+  pub fits : handle_head + length image ≤ length memory
   pub numbers : HasRange least most bound memory
   pub is_prepared : IsPrepared order image (drop 24 memory)
 

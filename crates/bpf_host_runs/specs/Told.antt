@@ -6,6 +6,7 @@ use Rattle.bpf_insn.specs.declared.order.Order.TheVariants.{Little, Big}
 use Rattle.bpf_insn.specs.declared.refusal.DecodeError.{DecodeError}
 use Rattle.bpf_semantics.specs.ReasonNumbers.{reason_number}
 use Rattle.bpf_cert.specs.RefusalNumbers.{refusal_number as cert_number, refusal_line}
+use Rattle.bpf_cert.specs.View.{CertificateView}
 use Rattle.bpf_cert.specs.declared.error.CertError.{CertError}
 use Rattle.bpf_check.specs.RefusalNumbers.{refusal_number as check_number, refusal_slot}
 use Rattle.bpf_check.specs.declared.refusal.Refusal.{Refusal}
@@ -13,6 +14,7 @@ use Rattle.bpf_check.specs.declared.verifier.VerifyError.{VerifyError}
 use Rattle.bpf_check.specs.declared.verifier.VerifyError.TheVariants.{Image as InImage, Cert as InCert, Check as InCheck}
 use Rattle.bpf_machine.specs.declared.outcome.Outcome.{Outcome}
 use Rattle.bpf_machine.specs.declared.outcome.Outcome.TheVariants.{Done, Fault, OutOfFuel}
+use Rattle.bpf_host_runs.specs.declared.answers.BpfVerdict.{BpfVerdict}
 use Rattle.bpf_host_runs.specs.declared.answers.BpfRefusal.{BpfRefusal}
 use Rattle.bpf_host_runs.specs.declared.answers.BpfOutcome.{BpfOutcome}
 
@@ -20,6 +22,10 @@ use Rattle.bpf_host_runs.specs.declared.answers.BpfOutcome.{BpfOutcome}
 abbrev pub order_named : ℕ → Order
 order_named zero = Little
 order_named (suc n) = Big
+
+-- a verdict says what a certificate claims
+abbrev pub IsVerdictOf : CertificateView → BpfVerdict → Type 0
+IsVerdictOf c verdict = (verdict.least ≡ c.least) × (verdict.most ≡ c.most) × (verdict.bound ≡ c.steps)
 
 -- a refusal of an image: E (69), its number and its slot
 abbrev pub TellsImage : DecodeError → BpfRefusal → Type 0

@@ -10,9 +10,9 @@ use bpf_insn::{DecodeError, Order};
 use bpf_machine::Outcome;
 
 /// The call did what it is for.
-pub const DONE: i32 = 1;
+pub const YES: i32 = 1;
 /// What was handed over is refused.
-pub const REFUSED: i32 = 0;
+pub const NO: i32 = 0;
 /// Memory ran out.
 pub const NO_MEMORY: i32 = -1;
 /// An argument is none that the call takes.
@@ -20,7 +20,7 @@ pub const BAD_CALL: i32 = -2;
 /// The memory for the answer is too small.
 pub const TOO_SMALL: i32 = -3;
 /// A run may take more instructions than are paid for.
-pub(crate) const TOO_LONG: i32 = -4;
+pub const TOO_LONG: i32 = -4;
 
 /// What is promised of an image: on every context of `least` to `most` bytes it ends within `bound` instructions.
 #[repr(C)]

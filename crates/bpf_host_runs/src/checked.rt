@@ -2,7 +2,7 @@
 
 ghost use Rattle.std.specs.Prelude.{◌≤◌, ◌↔◌, IsSome, IfSome, length};
 ghost use Rattle.bpf_host_runs.specs.Answers.{IsVerifiedFor, MayRun, EndsAsVerified, EndsAsPrepared};
-ghost use Rattle.bpf_host_runs.specs.Prepared.{IsMarked};
+ghost use Rattle.bpf_host_runs.specs.Prepared.{IsMarked, prepared_head};
 ghost use Rattle.bpf_host_runs.specs.Told.{order_named};
 
 use crate::ordered::Ordered;
@@ -36,7 +36,7 @@ fn end_of_image(image: &[u8], order: Order, context: &[u8]) -> u64
 
 /// The number with which a prepared program ends on a context; None where another version prepared it.
 pub(crate) fn end_of(memory: &[u8], context: &[u8]) -> Option<u64>
-    requires head { 16 ≤ length memory.now }
+    requires head { prepared_head ≤ length memory.now }
     requires may { IsMarked memory.now → MayRun memory.now context.now }
     ensures ends { IfSome result (EndsAsPrepared memory.now context.now) }
     ensures known { IsSome result ↔ IsMarked memory.now }

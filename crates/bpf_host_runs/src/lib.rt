@@ -2,16 +2,17 @@
 //! them under C's names.
 #![tactic(auto)]
 
-ghost use Rattle.std.specs.Prelude.{◌≡◌, ◌≢◌, ◌⊎◌, ◌↔◌, ◌<◌, ◌≤◌, ◌+◌, ◌*◌, ◌%◌, List, length, pos, negsuc};
+ghost use Rattle.std.specs.Prelude.{◌≡◌, ◌≢◌, ◌⊎◌, ◌↔◌, ◌<◌, ◌≤◌, ◌+◌, ◌*◌, ◌%◌, List, length};
 ghost use Rattle.bpf_insn.specs.Limits.{max_context, max_slots};
 ghost use Rattle.bpf_insn.specs.Laws.{IsImageOfProgram};
 ghost use Rattle.bpf_insn.specs.declared.instruction.Insn.{Insn as Instruction};
 ghost use Rattle.bpf_cert.specs.View.{CertificateView};
 ghost use Rattle.bpf_check.specs.Verdicts.{Verified, Promises, Certifies};
-ghost use Rattle.bpf_host_runs.specs.Told.{order_named};
-ghost use Rattle.bpf_host_runs.specs.Prepared.{IsPrepared, IsMarked, version};
-ghost use Rattle.bpf_host_runs.specs.Loaded.{IsLoaded, IsMarkedHandle, HoldsLoaded, EndsAsLoaded, loaded_least, loaded_most};
+ghost use Rattle.bpf_host_runs.specs.Told.{order_named, IsVerdictOf};
+ghost use Rattle.bpf_host_runs.specs.Prepared.{IsPrepared, IsMarked, prepared_head, version};
+ghost use Rattle.bpf_host_runs.specs.Loaded.{handle_head, IsLoaded, IsMarkedHandle, HoldsLoaded, EndsAsLoaded, loaded_least, loaded_most};
 ghost use Rattle.bpf_host_runs.specs.Answers.{IsRefusedAsTold, IsNoImage, RanImage, IsUnrun, MayRun, EndsAsPrepared};
+ghost use Rattle.bpf_host_runs.specs.declared.answers.TheConstants.{YES, NO, NO_MEMORY, BAD_CALL, TOO_SMALL, TOO_LONG};
 
 mod answers;
 mod checked;
@@ -21,10 +22,10 @@ mod prepared;
 mod runs;
 
 pub use answers::{
-    BAD_CALL, BpfOutcome, BpfRefusal, BpfVerdict, DONE, NO_MEMORY, REFUSED, TOO_SMALL, letter,
+    BAD_CALL, BpfOutcome, BpfRefusal, BpfVerdict, NO, NO_MEMORY, TOO_LONG, TOO_SMALL, YES, letter,
     of_check, of_image, of_verify, order_of,
 };
-use answers::{TOO_LONG, of_outcome, unrun};
+use answers::{of_outcome, unrun};
 use bpf_insn::{MAX_CONTEXT, MAX_IMAGE, ProgramView};
 use checked::end_of;
 use loaded::{end_of_loaded, handle_size, has_handle_room, put_loaded, takes};
@@ -53,15 +54,15 @@ pub fn verify(
     verdict: &mut BpfVerdict,
     refusal: &mut BpfRefusal,
 ) -> i32
-    ensures yes { result ≡ pos 1 → Verified (order_named order) image.now verdict.new.least verdict.new.most verdict.new.bound }
-    ensures promised { result ≡ pos 1 → Promises (order_named order) image.now certificate.now verdict.new.least verdict.new.most verdict.new.bound }
-    ensures no { result ≡ pos 0 → IsRefusedAsTold (order_named order) image.now certificate.now refusal.new }
-    ensures accepts { (c : CertificateView) → order ≤ 1 → Certifies (order_named order) image.now certificate.now c → ((result ≡ pos 1) × (verdict.new.least ≡ c.least) × (verdict.new.most ≡ c.most) × (verdict.new.bound ≡ c.steps)) ⊎ (result ≡ negsuc 0) }
-    ensures memory { result ≡ negsuc 0 → (is : List Instruction) × IsImageOfProgram (order_named order) image.now is }
-    ensures call { (result ≡ negsuc 1) ↔ (1 < order) }
-    ensures answers { (result ≡ pos 1) ⊎ (result ≡ pos 0) ⊎ (result ≡ negsuc 0) ⊎ (result ≡ negsuc 1) }
-    ensures verdict_kept { (result ≡ pos 1) ⊎ (verdict.new ≡ verdict.old) }
-    ensures refusal_kept { (result ≡ pos 0) ⊎ (refusal.new ≡ refusal.old) }
+    ensures yes { result ≡ YES → Verified (order_named order) image.now verdict.new.least verdict.new.most verdict.new.bound }
+    ensures promised { result ≡ YES → Promises (order_named order) image.now certificate.now verdict.new.least verdict.new.most verdict.new.bound }
+    ensures no { result ≡ NO → IsRefusedAsTold (order_named order) image.now certificate.now refusal.new }
+    ensures accepts { (c : CertificateView) → order ≤ 1 → Certifies (order_named order) image.now certificate.now c → ((result ≡ YES) × IsVerdictOf c verdict.new) ⊎ (result ≡ NO_MEMORY) }
+    ensures memory { result ≡ NO_MEMORY → (is : List Instruction) × IsImageOfProgram (order_named order) image.now is }
+    ensures call { (result ≡ BAD_CALL) ↔ (1 < order) }
+    ensures answers { (result ≡ YES) ⊎ (result ≡ NO) ⊎ (result ≡ NO_MEMORY) ⊎ (result ≡ BAD_CALL) }
+    ensures verdict_kept { (result ≡ YES) ⊎ (verdict.new ≡ verdict.old) }
+    ensures refusal_kept { (result ≡ NO) ⊎ (refusal.new ≡ refusal.old) }
 {
     let Some(order) = order_of(u64::from(order)) else {
         return BAD_CALL;
@@ -73,12 +74,12 @@ pub fn verify(
                 most: yes.most,
                 bound: yes.bound,
             };
-            DONE
+            YES
         }
         Err(error) => match of_verify(error) {
             Some(told) => {
                 *refusal = told;
-                REFUSED
+                NO
             }
             None => NO_MEMORY,
         },
@@ -89,11 +90,11 @@ pub fn verify(
 /// machine. 1: it ran, and `outcome` says how it ended. 0: the image is refused, and `outcome` says why. -2: the order is
 /// neither 0 nor 1, or the context is too long, and `outcome` stays as it was. It takes no memory.
 pub fn run(image: &[u8], order: u32, context: &[u8], fuel: u64, outcome: &mut BpfOutcome) -> i32
-    ensures ran { result ≡ pos 1 → RanImage (order_named order) image.now context.now fuel outcome.new }
-    ensures refused { result ≡ pos 0 → IsUnrun (order_named order) image.now outcome.new }
-    ensures call { (result ≡ negsuc 1) ↔ ((1 < order) ⊎ (max_context < length context.now)) }
-    ensures answers { (result ≡ pos 1) ⊎ (result ≡ pos 0) ⊎ (result ≡ negsuc 1) }
-    ensures kept { result ≡ negsuc 1 → outcome.new ≡ outcome.old }
+    ensures ran { result ≡ YES → RanImage (order_named order) image.now context.now fuel outcome.new }
+    ensures refused { result ≡ NO → IsUnrun (order_named order) image.now outcome.new }
+    ensures call { (result ≡ BAD_CALL) ↔ ((1 < order) ⊎ (max_context < length context.now)) }
+    ensures answers { (result ≡ YES) ⊎ (result ≡ NO) ⊎ (result ≡ BAD_CALL) }
+    ensures kept { result ≡ BAD_CALL → outcome.new ≡ outcome.old }
 {
     let Some(order) = order_of(u64::from(order)) else {
         return BAD_CALL;
@@ -104,18 +105,18 @@ pub fn run(image: &[u8], order: u32, context: &[u8], fuel: u64, outcome: &mut Bp
     match ProgramView::of(image, order) {
         Ok(_program) => {
             *outcome = of_outcome(outcome_of(image, order, context, fuel));
-            DONE
+            YES
         }
         Err(error) => {
             *outcome = unrun(error);
-            REFUSED
+            NO
         }
     }
 }
 
 /// How many words of eight bytes the prepared program of an image of `image_len` bytes takes; 0 where no image is as long.
 pub fn prepared_size(image_len: usize) -> usize
-    ensures words { image_len ≤ 8 * max_slots → image_len % 8 ≡ 0 → 0 < image_len → 8 * result ≡ 16 + image_len }
+    ensures words { image_len ≤ 8 * max_slots → image_len % 8 ≡ 0 → 0 < image_len → 8 * result ≡ prepared_head + image_len }
     ensures none { (8 * max_slots < image_len) ⊎ ((image_len ≡ 0) ⊎ (0 < image_len % 8)) → result ≡ 0 }
 {
     if image_len == 0 || image_len > MAX_IMAGE || image_len % 8 != 0 {
@@ -128,48 +129,48 @@ pub fn prepared_size(image_len: usize) -> usize
 /// 1: it is prepared. 0: the image is refused. -2: the order is neither 0 nor 1. -3: the memory has another size. But for
 /// 1 the memory stays as it was. It takes no other memory.
 pub fn prepare(image: &[u8], order: u32, memory: &mut [u8]) -> i32
-    ensures prepared { result ≡ pos 1 → IsPrepared (order_named order) image.now memory.new }
-    ensures program { result ≡ pos 1 → (is : List Instruction) × IsImageOfProgram (order_named order) image.now is }
-    ensures refused { result ≡ pos 0 → IsNoImage (order_named order) image.now }
-    ensures call { (result ≡ negsuc 1) ↔ (1 < order) }
-    ensures small { result ≡ negsuc 2 → ((is : List Instruction) × IsImageOfProgram (order_named order) image.now is) × (length memory.old ≢ 16 + length image.now) }
-    ensures size { result ≡ pos 1 → length memory.old ≡ 16 + length image.now }
-    ensures answers { (result ≡ pos 1) ⊎ (result ≡ pos 0) ⊎ (result ≡ negsuc 1) ⊎ (result ≡ negsuc 2) }
-    ensures kept { (result ≡ pos 1) ⊎ (memory.new ≡ memory.old) }
+    ensures prepared { result ≡ YES → IsPrepared (order_named order) image.now memory.new }
+    ensures program { result ≡ YES → (is : List Instruction) × IsImageOfProgram (order_named order) image.now is }
+    ensures refused { result ≡ NO → IsNoImage (order_named order) image.now }
+    ensures call { (result ≡ BAD_CALL) ↔ (1 < order) }
+    ensures small { result ≡ TOO_SMALL → ((is : List Instruction) × IsImageOfProgram (order_named order) image.now is) × (length memory.old ≢ prepared_head + length image.now) }
+    ensures size { result ≡ YES → length memory.old ≡ prepared_head + length image.now }
+    ensures answers { (result ≡ YES) ⊎ (result ≡ NO) ⊎ (result ≡ BAD_CALL) ⊎ (result ≡ TOO_SMALL) }
+    ensures kept { (result ≡ YES) ⊎ (memory.new ≡ memory.old) }
 {
     let Some(order) = order_of(u64::from(order)) else {
         return BAD_CALL;
     };
     let Ok(_program) = ProgramView::of(image, order) else {
-        return REFUSED;
+        return NO;
     };
     if !has_room(memory, image.len()) {
         return TOO_SMALL;
     }
     put(image, order, memory);
-    DONE
+    YES
 }
 
 /// Runs a prepared program whose image `verify` says yes to, on a context of a length within that verdict. 1: it ended
 /// with `value`, within the bound. -2: another version prepared it, and `value` stays as it was. It takes no memory.
 pub fn run_checked(memory: &[u8], context: &[u8], value: &mut u64) -> i32
-    requires head { 16 ≤ length memory.now }
+    requires head { prepared_head ≤ length memory.now }
     requires may { IsMarked memory.now → MayRun memory.now context.now }
-    ensures ends { result ≡ pos 1 → EndsAsPrepared memory.now context.now value.new }
-    ensures runs { (result ≡ pos 1) ↔ IsMarked memory.now }
-    ensures answers { (result ≡ pos 1) ⊎ (result ≡ negsuc 1) }
-    ensures kept { (result ≡ pos 1) ⊎ (value.new ≡ value.old) }
+    ensures ends { result ≡ YES → EndsAsPrepared memory.now context.now value.new }
+    ensures runs { (result ≡ YES) ↔ IsMarked memory.now }
+    ensures answers { (result ≡ YES) ⊎ (result ≡ BAD_CALL) }
+    ensures kept { (result ≡ YES) ⊎ (value.new ≡ value.old) }
 {
     let Some(end) = end_of(memory, context) else {
         return BAD_CALL;
     };
     *value = end;
-    DONE
+    YES
 }
 
 /// How many words of eight bytes the handle of an image of `image_len` bytes takes; 0 where no image is as long.
 pub fn loaded_size(image_len: usize) -> usize
-    ensures words { image_len ≤ 8 * max_slots → image_len % 8 ≡ 0 → 0 < image_len → 8 * result ≡ 40 + image_len }
+    ensures words { image_len ≤ 8 * max_slots → image_len % 8 ≡ 0 → 0 < image_len → 8 * result ≡ handle_head + image_len }
     ensures none { (8 * max_slots < image_len) ⊎ ((image_len ≡ 0) ⊎ (0 < image_len % 8)) → result ≡ 0 }
 {
     if image_len == 0 || image_len > MAX_IMAGE || image_len % 8 != 0 {
@@ -193,22 +194,22 @@ pub fn load(
     verdict: &mut BpfVerdict,
     refusal: &mut BpfRefusal,
 ) -> i32
-    ensures loaded { result ≡ pos 1 → IsLoaded (order_named order) image.now verdict.new.least verdict.new.most verdict.new.bound memory.new }
-    ensures yes { (result ≡ pos 1) ⊎ (result ≡ negsuc 3) → Verified (order_named order) image.now verdict.new.least verdict.new.most verdict.new.bound }
-    ensures promised { (result ≡ pos 1) ⊎ (result ≡ negsuc 3) → Promises (order_named order) image.now certificate.now verdict.new.least verdict.new.most verdict.new.bound }
-    ensures paid { result ≡ pos 1 → verdict.new.bound ≤ limit }
-    ensures long { result ≡ negsuc 3 → limit < verdict.new.bound }
-    ensures no { result ≡ pos 0 → IsRefusedAsTold (order_named order) image.now certificate.now refusal.new }
-    ensures accepts { (c : CertificateView) → order ≤ 1 → length memory.old ≡ 40 + length image.now → Certifies (order_named order) image.now certificate.now c → c.steps ≤ limit → ((result ≡ pos 1) × (verdict.new.least ≡ c.least) × (verdict.new.most ≡ c.most) × (verdict.new.bound ≡ c.steps)) ⊎ (result ≡ negsuc 0) }
-    ensures unpaid { (c : CertificateView) → order ≤ 1 → length memory.old ≡ 40 + length image.now → Certifies (order_named order) image.now certificate.now c → limit < c.steps → ((result ≡ negsuc 3) × (verdict.new.least ≡ c.least) × (verdict.new.most ≡ c.most) × (verdict.new.bound ≡ c.steps)) ⊎ (result ≡ negsuc 0) }
-    ensures memory { result ≡ negsuc 0 → (is : List Instruction) × IsImageOfProgram (order_named order) image.now is }
-    ensures call { (result ≡ negsuc 1) ↔ (1 < order) }
-    ensures small { result ≡ negsuc 2 → length memory.old ≢ 40 + length image.now }
-    ensures size { result ≡ pos 1 → length memory.old ≡ 40 + length image.now }
-    ensures answers { (result ≡ pos 1) ⊎ (result ≡ pos 0) ⊎ (result ≡ negsuc 0) ⊎ (result ≡ negsuc 1) ⊎ (result ≡ negsuc 2) ⊎ (result ≡ negsuc 3) }
-    ensures memory_kept { (result ≡ pos 1) ⊎ (memory.new ≡ memory.old) }
-    ensures verdict_kept { (result ≡ pos 1) ⊎ (result ≡ negsuc 3) ⊎ (verdict.new ≡ verdict.old) }
-    ensures refusal_kept { (result ≡ pos 0) ⊎ (refusal.new ≡ refusal.old) }
+    ensures loaded { result ≡ YES → IsLoaded (order_named order) image.now verdict.new.least verdict.new.most verdict.new.bound memory.new }
+    ensures yes { (result ≡ YES) ⊎ (result ≡ TOO_LONG) → Verified (order_named order) image.now verdict.new.least verdict.new.most verdict.new.bound }
+    ensures promised { (result ≡ YES) ⊎ (result ≡ TOO_LONG) → Promises (order_named order) image.now certificate.now verdict.new.least verdict.new.most verdict.new.bound }
+    ensures paid { result ≡ YES → verdict.new.bound ≤ limit }
+    ensures long { result ≡ TOO_LONG → limit < verdict.new.bound }
+    ensures no { result ≡ NO → IsRefusedAsTold (order_named order) image.now certificate.now refusal.new }
+    ensures accepts { (c : CertificateView) → order ≤ 1 → length memory.old ≡ handle_head + length image.now → Certifies (order_named order) image.now certificate.now c → c.steps ≤ limit → ((result ≡ YES) × IsVerdictOf c verdict.new) ⊎ (result ≡ NO_MEMORY) }
+    ensures unpaid { (c : CertificateView) → order ≤ 1 → length memory.old ≡ handle_head + length image.now → Certifies (order_named order) image.now certificate.now c → limit < c.steps → ((result ≡ TOO_LONG) × IsVerdictOf c verdict.new) ⊎ (result ≡ NO_MEMORY) }
+    ensures memory { result ≡ NO_MEMORY → (is : List Instruction) × IsImageOfProgram (order_named order) image.now is }
+    ensures call { (result ≡ BAD_CALL) ↔ (1 < order) }
+    ensures small { result ≡ TOO_SMALL → length memory.old ≢ handle_head + length image.now }
+    ensures size { result ≡ YES → length memory.old ≡ handle_head + length image.now }
+    ensures answers { (result ≡ YES) ⊎ (result ≡ NO) ⊎ (result ≡ NO_MEMORY) ⊎ (result ≡ BAD_CALL) ⊎ (result ≡ TOO_SMALL) ⊎ (result ≡ TOO_LONG) }
+    ensures memory_kept { (result ≡ YES) ⊎ (memory.new ≡ memory.old) }
+    ensures verdict_kept { (result ≡ YES) ⊎ (result ≡ TOO_LONG) ⊎ (verdict.new ≡ verdict.old) }
+    ensures refusal_kept { (result ≡ NO) ⊎ (refusal.new ≡ refusal.old) }
 {
     let Some(byte_order) = order_of(u64::from(order)) else {
         return BAD_CALL;
@@ -219,7 +220,7 @@ pub fn load(
         bound: 0,
     };
     let answer = verify(alloc, image, order, certificate, &mut promised, refusal);
-    if answer != DONE {
+    if answer != YES {
         return answer;
     }
     if !has_handle_room(memory, image.len()) {
@@ -230,18 +231,18 @@ pub fn load(
         return TOO_LONG;
     }
     put_loaded(image, byte_order, promised, memory);
-    DONE
+    YES
 }
 
 /// Runs the program of a handle that `load` wrote. 1: it ended with `value`, within the handle's bound. -2: another
 /// version wrote it, or the context's length is out of the handle's range; `value` stays as it was. It takes no memory.
 pub fn run_loaded(memory: &[u8], context: &[u8], value: &mut u64) -> i32
-    requires head { 40 ≤ length memory.now }
+    requires head { handle_head ≤ length memory.now }
     requires holds { IsMarkedHandle memory.now → HoldsLoaded memory.now }
-    ensures ends { result ≡ pos 1 → EndsAsLoaded memory.now context.now value.new }
-    ensures runs { (result ≡ pos 1) ↔ (IsMarkedHandle memory.now × (loaded_least memory.now ≤ length context.now) × (length context.now ≤ loaded_most memory.now)) }
-    ensures answers { (result ≡ pos 1) ⊎ (result ≡ negsuc 1) }
-    ensures kept { (result ≡ pos 1) ⊎ (value.new ≡ value.old) }
+    ensures ends { result ≡ YES → EndsAsLoaded memory.now context.now value.new }
+    ensures runs { (result ≡ YES) ↔ (IsMarkedHandle memory.now × (loaded_least memory.now ≤ length context.now) × (length context.now ≤ loaded_most memory.now)) }
+    ensures answers { (result ≡ YES) ⊎ (result ≡ BAD_CALL) }
+    ensures kept { (result ≡ YES) ⊎ (value.new ≡ value.old) }
 {
     if !takes(memory, context.len()) {
         return BAD_CALL;
@@ -250,5 +251,5 @@ pub fn run_loaded(memory: &[u8], context: &[u8], value: &mut u64) -> i32
         return BAD_CALL;
     };
     *value = number;
-    DONE
+    YES
 }

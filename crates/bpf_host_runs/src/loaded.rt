@@ -3,7 +3,8 @@
 ghost use Rattle.std.specs.Prelude.{◌≡◌, ◌≤◌, ◌+◌, ◌*◌, ◌↔◌, IsTrue, IsSome, IfSome, length, drop};
 ghost use Rattle.bpf_insn.specs.Limits.{max_slots};
 ghost use Rattle.bpf_host_runs.specs.Answers.{MayRun, EndsAsPrepared};
-ghost use Rattle.bpf_host_runs.specs.Loaded.{IsLoaded, IsMarkedHandle, HasRange, loaded_least, loaded_most};
+ghost use Rattle.bpf_host_runs.specs.Prepared.{prepared_head};
+ghost use Rattle.bpf_host_runs.specs.Loaded.{handle_head, IsLoaded, IsMarkedHandle, HasRange, loaded_least, loaded_most};
 
 use crate::answers::BpfVerdict;
 use crate::checked::end_of;
@@ -20,14 +21,14 @@ const HEAD: usize = RANGE + 16;
 /// How many bytes the handle of an image takes.
 pub(crate) fn handle_size(len: usize) -> usize
     requires { len ≤ 8 * max_slots }
-    ensures { result ≡ 40 + len }
+    ensures { result ≡ handle_head + len }
 {
     HEAD + len
 }
 
 /// Whether memory is as large as the handle of an image of `len` bytes.
 pub(crate) fn has_handle_room(memory: &[u8], len: usize) -> bool
-    ensures { IsTrue result ↔ (length memory.now ≡ 40 + len) }
+    ensures { IsTrue result ↔ (length memory.now ≡ handle_head + len) }
 {
     memory.len() >= HEAD && memory.len() - HEAD == len
 }
@@ -45,7 +46,7 @@ fn put_range(verdict: BpfVerdict, memory: &mut [u8])
 
 /// Writes the handle of an image.
 pub(crate) fn put_loaded(image: &[u8], order: Order, verdict: BpfVerdict, memory: &mut [u8])
-    requires { length memory.old ≡ 40 + length image.now }
+    requires { length memory.old ≡ handle_head + length image.now }
     ensures { IsLoaded order image.now verdict.least verdict.most verdict.bound memory.new }
 {
     put_range(verdict, memory);
@@ -54,7 +55,7 @@ pub(crate) fn put_loaded(image: &[u8], order: Order, verdict: BpfVerdict, memory
 
 /// Whether a context's length is in the range of a handle.
 pub(crate) fn takes(memory: &[u8], len: usize) -> bool
-    requires { 16 ≤ length memory.now }
+    requires { prepared_head ≤ length memory.now }
     ensures { IsTrue result ↔ ((loaded_least memory.now ≤ len) × (len ≤ loaded_most memory.now)) }
 {
     let len = len as u64;
@@ -63,7 +64,7 @@ pub(crate) fn takes(memory: &[u8], len: usize) -> bool
 
 /// The number with which the program of a handle ends on a context; None where another version wrote the handle.
 pub(crate) fn end_of_loaded(memory: &[u8], context: &[u8]) -> Option<u64>
-    requires head { 40 ≤ length memory.now }
+    requires head { handle_head ≤ length memory.now }
     requires may { IsMarkedHandle memory.now → MayRun (drop 24 memory.now) context.now }
     ensures ends { IfSome result (EndsAsPrepared (drop 24 memory.now) context.now) }
     ensures known { IsSome result ↔ IsMarkedHandle memory.now }

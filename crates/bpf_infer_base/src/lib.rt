@@ -22,6 +22,7 @@ mod places;
 mod proposal;
 mod quest;
 mod sketch;
+mod slot_set;
 mod task;
 mod tolerant;
 mod watch;
@@ -47,6 +48,7 @@ pub use places::{
 pub use proposal::Proposal;
 pub use quest::Quest;
 pub use sketch::{Limit, Loss, Move, Obstacle, Sketch, Stop, Tangle, Trial};
+pub use slot_set::SlotSet;
 pub use task::{Callee, Edge, Task, Visitor, compared};
 pub use watch::{Unwatched, Watch};
 pub use widen::Stops;

@@ -1,59 +1,42 @@
-//! What is known after an instruction that may be at fault.
+//! What is known after an instruction that is at fault.
 
 ghost use Rattle.bpf_state.specs.State.{IsRegister};
 
 use crate::places::slots_touched;
-use bpf_insn::{Access, AluOp, Insn, Size, Width};
+use bpf_insn::{Access, Insn, Size};
 use bpf_num::Num;
-use bpf_state::{FARTHEST, Pointer, RegState, SlotState, State, any_number, any_signed};
+use bpf_state::{
+    FARTHEST, Moved, Pointer, RegState, SlotState, State, any_number, any_signed, far_pointer,
+};
 
-/// A pointer whose offset moved by a distance between two bounds, cut to the farthest offsets.
-fn moved(pointer: RegState, least: i64, greatest: i64) -> RegState
-    requires { IsRegister pointer }
-    ensures { IsRegister result }
-{
-    match pointer {
-        RegState::Ptr(p) => {
-            let lo = p.lo.saturating_add(least).max(-FARTHEST).min(FARTHEST);
-            let hi = p.hi.saturating_add(greatest).min(FARTHEST).max(lo);
-            RegState::Ptr(Pointer {
-                area: p.area,
-                lo,
-                hi,
-            })
-        }
-        RegState::Any | RegState::Num(_) => RegState::Num(Num::top()),
+/// The nearest offset that a pointer may have.
+fn near(offset: i128) -> i64 {
+    match i64::try_from(offset) {
+        Ok(offset) => offset.max(-FARTHEST).min(FARTHEST),
+        Err(_) => if offset < 0 { -FARTHEST } else { FARTHEST },
     }
 }
 
-/// A pointer with a number added.
-fn plus(pointer: RegState, by: Num) -> RegState
-    requires { IsRegister pointer }
+/// A pointer that was moved too far, cut to the farthest offsets.
+fn cut(made: Moved) -> RegState
     ensures { IsRegister result }
 {
-    moved(pointer, by.signed().lo(), by.signed().hi())
+    let lo = near(made.lo);
+    let hi = near(made.hi).max(lo);
+    RegState::Ptr(Pointer {
+        area: made.area,
+        lo,
+        hi,
+    })
 }
 
 /// Any number, or a pointer where one was moved too far.
-fn result_of(op: AluOp, width: Width, a: RegState, b: RegState) -> RegState
-    requires left { IsRegister a }
-    requires right { IsRegister b }
+fn result_of(insn: &Insn, state: &State) -> RegState
     ensures { IsRegister result }
 {
-    match (op, width) {
-        (AluOp::Add, Width::W64) => match (a, b) {
-            (_, RegState::Num(by)) => plus(a, by),
-            (RegState::Num(by), _) => plus(b, by),
-            _ => RegState::Num(Num::top()),
-        },
-        (AluOp::Sub, Width::W64) => match b {
-            RegState::Num(by) => {
-                let (lo, hi) = (by.signed().lo(), by.signed().hi());
-                moved(a, 0i64.saturating_sub(hi), 0i64.saturating_sub(lo))
-            }
-            RegState::Any | RegState::Ptr(_) => RegState::Num(Num::top()),
-        },
-        _ => RegState::Num(Num::top()),
+    match far_pointer(insn, state) {
+        Some(made) => cut(made),
+        None => RegState::Num(Num::top()),
     }
 }
 
@@ -62,12 +45,7 @@ fn value_after(insn: &Insn, state: &State) -> RegState
     ensures { IsRegister result }
 {
     match *insn {
-        Insn::Alu {
-            op,
-            width,
-            dst,
-            src,
-        } => result_of(op, width, state.reg(dst), state.operand(src)),
+        Insn::Alu { .. } => result_of(insn, state),
         Insn::Load {
             size,
             off: _off,
@@ -114,7 +92,7 @@ fn spoil_slot(state: &mut State, k: u8) {
     }
 }
 
-/// Makes the state at an instruction that may be at fault one after it, as if it did no wrong.
+/// Makes the state at an instruction that is at fault one after it, as if it did no wrong.
 pub fn go_on(insn: &Insn, state: &mut State) {
     let value = value_after(insn, state);
     if let Some(access) = insn.access() {

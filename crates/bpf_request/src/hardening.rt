@@ -11,7 +11,7 @@ pub struct Hardening<'a> {
     pub length: u32,
     /// Where the hardened image goes.
     pub output: &'a str,
-    /// How often a loop that gets a counter may turn, at least once.
+    /// How often a loop that gets a counter may turn in one call of its function, at least once.
     pub turns: u32,
     /// The number with which a trap ends the program.
     pub otherwise: u64,

@@ -15,7 +15,7 @@ use bpf_words::command;
 use clap::{ArgMatches, Error};
 use std::alloc::Global;
 
-/// How often a loop that gets a counter may turn, where nothing is said.
+/// How often a loop that gets a counter may turn in one call of its function, where nothing is said.
 const USUAL_TURNS: u32 = 65_536;
 
 /// What a command line asks for. Images are of the byte order.

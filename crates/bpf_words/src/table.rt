@@ -123,7 +123,7 @@ pub const SECOND: [Entry; 4] = [
                 "N",
                 1,
                 u32::MAX as i64,
-                "how often a loop that gets a counter may turn, else 65536",
+                "how often a loop that gets a counter may turn in one call of its function, else 65536",
             ),
             Otherwise("the number with which a trap ends the program, else 0"),
             Flag(

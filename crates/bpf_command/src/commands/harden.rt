@@ -13,7 +13,7 @@ ghost use Rattle.bpf_command.specs.Hardened.{BothStand, HardenFails, HardenSays,
 ghost use Rattle.bpf_places.specs.Made.{making};
 ghost use Rattle.bpf_answers.specs.Told.{OutputFails};
 
-use crate::advice::{after_mismatch, after_proof, after_unshown};
+use crate::advice::{after_hardening, after_image, after_mismatch, after_proof, after_unshown};
 use crate::aside::Aside;
 use crate::commands::changes::changes_text;
 use bpf_answers::{Content, DONE, Failure, program_at, put, refuse_at, refuse_image};
@@ -31,10 +31,12 @@ use std::io::Write;
 /// The number of the refusal of a hardened program that isn't shown to keep the meaning, behind those of hardening itself.
 const NOT_SHOWN: u8 = 13;
 
-/// Prints why a program isn't hardened.
-fn refuse_hardening<'a, W: Write>(
+/// Prints why a program isn't hardened, and tells people how to see the instruction.
+fn refuse_hardening<'a, W: Write, H: Aside>(
     alloc: Global,
     out: &mut W,
+    aside: &H,
+    asked: Hardening<'_>,
     error: HardenError,
 ) -> Result<u8, Failure<'a>>
     ensures ok { IfOk result (λ status. Says (NotHardened error) status (W.contents out.old) (W.contents out.new)) }
@@ -42,7 +44,9 @@ fn refuse_hardening<'a, W: Write>(
     ensures begun { IfErr result (λ _. AppendsBeginning (W.contents out.old) (W.contents out.new) (answer_text (NotHardened error))) }
 {
     let slot = u64::from(error.slot());
-    refuse_at(alloc, out, "H", error.number(), " at slot ", slot)
+    let answer = refuse_at(alloc, out, "H", error.number(), " at slot ", slot);
+    after_hardening(aside, asked, error);
+    answer
 }
 
 /// Prints that a hardened program isn't shown to keep the meaning, and tells people what of its notes fails.
@@ -50,6 +54,7 @@ fn refuse_unshown<'a, W: Write, H: Aside>(
     alloc: Global,
     out: &mut W,
     aside: &H,
+    asked: Hardening<'_>,
     mismatch: Mismatch,
 ) -> Result<u8, Failure<'a>>
     ensures ok { IfOk result (λ status. Says (NotShown mismatch) status (W.contents out.old) (W.contents out.new)) }
@@ -58,7 +63,7 @@ fn refuse_unshown<'a, W: Write, H: Aside>(
 {
     let slot = u64::from(mismatch.slot());
     let answer = refuse_at(alloc, out, "H", NOT_SHOWN, " at slot ", slot);
-    after_unshown(aside, mismatch);
+    after_unshown(aside, asked, mismatch);
     answer
 }
 
@@ -129,7 +134,7 @@ fn shown<H: Aside>(
     } = evidence_of(alloc, program, hardened, runs)?;
     match mismatch {
         None => {
-            after_proof(aside, untouched);
+            after_proof(aside, asked.turns, untouched);
             Ok(notes)
         }
         Some(mismatch) if asked.unproved => {
@@ -246,16 +251,24 @@ pub fn hardened<'a, P: Places, W: Write, H: Aside>(
     matching_keeps_meaning();
     let program = match program_at(alloc, places, asked.input, asked.order)? {
         Ok(program) => program,
-        Err(error) => return refuse_image(alloc, out, error),
+        Err(error) => {
+            let answer = refuse_image(alloc, out, error);
+            after_image(aside, asked.input, asked.order);
+            return answer;
+        }
     };
     let hardened = match answer_of(alloc, &program, asked) {
         Ok(hardened) => hardened,
-        Err(error) => return refuse_hardening(alloc, out, error),
+        Err(error) => return refuse_hardening(alloc, out, aside, asked, error),
     };
     let beside = match beside_of(alloc, aside, &program, &hardened, asked) {
         Ok(beside) => beside,
-        Err(Unshown::Memory) => return refuse_hardening(alloc, out, HardenError::Memory),
-        Err(Unshown::Differs(mismatch)) => return refuse_unshown(alloc, out, aside, mismatch),
+        Err(Unshown::Memory) => {
+            return refuse_hardening(alloc, out, aside, asked, HardenError::Memory);
+        }
+        Err(Unshown::Differs(mismatch)) => return refuse_unshown(
+            alloc, out, aside, asked, mismatch,
+        ),
     };
     put(places, asked.output, &hardened.program)?;
     put_beside(places, asked, &beside)

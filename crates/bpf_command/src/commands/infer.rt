@@ -9,7 +9,7 @@ ghost use Rattle.bpf_places.specs.Made.{making};
 ghost use Rattle.bpf_command.specs.Inferred.{InferSays, InferFails, NotInferred};
 ghost use Rattle.bpf_answers.specs.Told.{OutputFails};
 
-use crate::advice::{Sought, after_search};
+use crate::advice::{Sought, after_image, after_search};
 use crate::aside::Aside;
 use bpf_answers::{Failure, REFUSED, program_at, put, refuse_image, say};
 use bpf_infer::{InferError, Wanted, propose};
@@ -74,7 +74,11 @@ pub fn inferred<'a, P: Places, W: Write, H: Aside>(
 {
     let program = match program_at(alloc, places, input, order)? {
         Ok(program) => program,
-        Err(error) => return refuse_image(alloc, out, error),
+        Err(error) => {
+            let answer = refuse_image(alloc, out, error);
+            after_image(&*aside, input, order);
+            return answer;
+        }
     };
     // `respond` has seen that the lengths are in order, and the words' parser that they are at most the greatest.
     let most = most.min(MAX_CONTEXT as u32);

@@ -2,31 +2,31 @@
 
 use crate::pass::{Observer, pass_over};
 use crate::sight::Sight;
-use crate::slots::Slots;
 use bpf_check::Index;
+use bpf_infer_base::SlotSet;
 use bpf_insn::Code;
 
 /// Which instructions and edges runs may take.
 #[derive(Drop)]
 pub struct Flow {
     /// The instructions that a state reaches.
-    pub reached: Slots,
+    pub reached: SlotSet,
     /// Those whose jump is live.
-    pub jumps: Slots,
+    pub jumps: SlotSet,
     /// Those from which a state goes on to the next.
-    pub nexts: Slots,
+    pub nexts: SlotSet,
     /// Those behind which nothing is known: no state reaches them, or they are refused.
-    unknown: Slots,
+    unknown: SlotSet,
 }
 
 impl Flow {
     /// All four sets are of such words.
     fn filled(word: u64) -> Self {
         Flow {
-            reached: Slots::filled(word),
-            jumps: Slots::filled(word),
-            nexts: Slots::filled(word),
-            unknown: Slots::filled(word),
+            reached: SlotSet::filled(word),
+            jumps: SlotSet::filled(word),
+            nexts: SlotSet::filled(word),
+            unknown: SlotSet::filled(word),
         }
     }
 

@@ -3,16 +3,16 @@
 ghost use Rattle.std.specs.Prelude.{◌≤◌};
 ghost use Rattle.bpf_insn.specs.Limits.{greatest_slot};
 
-use crate::slots::Slots;
 use bpf_cert::Function;
 use bpf_check::{Index, jump_target};
+use bpf_infer_base::SlotSet;
 use bpf_insn::{Code, Insn, MAX_SLOTS, target};
 
 /// Where blocks and functions begin.
 #[derive(Drop)]
 pub struct Plan {
-    pub blocks: Slots,
-    pub functions: Slots,
+    pub blocks: SlotSet,
+    pub functions: SlotSet,
 }
 
 /// Where a call leads.
@@ -31,8 +31,8 @@ impl Plan {
     /// labels, too.
     pub fn of<C: Code>(program: &C, certificate: Option<&Index>) -> Plan {
         let mut plan = Plan {
-            blocks: Slots::none(),
-            functions: Slots::none(),
+            blocks: SlotSet::none(),
+            functions: SlotSet::none(),
         };
         plan.blocks.add(0);
         plan.functions.add(0);
@@ -73,7 +73,7 @@ impl Plan {
 
     /// Functions begin where a certificate says so.
     fn note_functions(&mut self, certificate: &Index) {
-        self.functions = Slots::none();
+        self.functions = SlotSet::none();
         for function in certificate.functions() {
             self.functions.add(function.first);
             self.note_blocks(function);

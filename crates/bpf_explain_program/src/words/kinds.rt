@@ -5,7 +5,7 @@ use crate::sight::Sight;
 use crate::words::origins::tell_lost;
 use crate::words::register;
 use bpf_explain_page::Tell;
-use bpf_insn::{Code, Insn, Reg, Width};
+use bpf_insn::{AluOp, Code, Insn, Operand, Reg, Width};
 use bpf_state::{Mistake, Place, State, mistake_of_kinds, unset_register};
 
 /// C3: a register that is read may be uninitialised.
@@ -49,6 +49,13 @@ fn tell_number_wanted<C: Code, W: Tell>(out: &mut W, sight: &Sight<'_, C>, reg: 
     } = *insn
     {
         "an operation at 32 bits takes numbers alone"
+    } else if let Insn::Alu {
+        op: AluOp::Or,
+        src: Operand::Reg(_),
+        ..
+    } = *insn
+    {
+        "this operation takes numbers alone, also where a compiler adds an index by it"
     } else {
         "this operation takes numbers alone"
     };

@@ -12,14 +12,14 @@ returns-clause-promised c = λ which.
     let is : c.verify-answer.result ≡ pos 1 = search rules in
     c.verify-answer.ensures.promised is
 
-pub returns-then-answer-ne-DONE-clause-accepts : goal.returns-then-answer-ne-DONE-clause-accepts
-returns-then-answer-ne-DONE-clause-accepts c = λ d few long certifies paid.
+pub returns-then-answer-ne-YES-clause-accepts : goal.returns-then-answer-ne-YES-clause-accepts
+returns-then-answer-ne-YES-clause-accepts c = λ d few long certifies paid.
     let other : c.verify-answer.result ≢ pos 1 = search rules in
     let none = unread_of_no c.verify-answer.result c.verify-answer.new.verdict d (c.verify-answer.ensures.accepts d few certifies) other in
     inr (search (rules, none))
 
-pub returns-then-answer-ne-DONE-clause-unpaid : goal.returns-then-answer-ne-DONE-clause-unpaid
-returns-then-answer-ne-DONE-clause-unpaid c = λ d few long certifies paid.
+pub returns-then-answer-ne-YES-clause-unpaid : goal.returns-then-answer-ne-YES-clause-unpaid
+returns-then-answer-ne-YES-clause-unpaid c = λ d few long certifies paid.
     let other : c.verify-answer.result ≢ pos 1 = search rules in
     let none = unread_of_no c.verify-answer.result c.verify-answer.new.verdict d (c.verify-answer.ensures.accepts d few certifies) other in
     inr (search (rules, none))
@@ -36,13 +36,13 @@ pub returns-then-promised-limit-clause-unpaid : goal.returns-then-promised-limit
 returns-then-promised-limit-clause-unpaid c = λ d few long certifies paid.
     let is : c.verify-answer.result ≡ pos 1 = search rules in
     let told = told_of_yes c.verify-answer.result c.verify-answer.new.verdict d (c.verify-answer.ensures.accepts d few certifies) is in
-    inl (refl, told.0, told.1, told.2)
+    inl (refl, told)
 
 pub returns-clause-accepts : goal.returns-clause-accepts
 returns-clause-accepts c = λ d few long certifies paid.
     let is : c.verify-answer.result ≡ pos 1 = search rules in
     let told = told_of_yes c.verify-answer.result c.verify-answer.new.verdict d (c.verify-answer.ensures.accepts d few certifies) is in
-    inl (refl, told.0, told.1, told.2)
+    inl (refl, told)
 
 pub returns-clause-unpaid : goal.returns-clause-unpaid
 returns-clause-unpaid c = λ d few long certifies paid.

@@ -49,7 +49,7 @@ returns-clause-err g c =
     texts_fail c.put_beside.result at puts c.args.places.now asked c.program_at.new.places c.put.new.places c.put_beside.new.places made shown.0 hardens whole c.put_beside.ensures.err
 
 pub returns-in-Err-clause-begun : goal.returns-in-Err-clause-begun
-returns-in-Err-clause-begun g c = not_all_printed c.refuse_image.result _ _ (NoImage c.in-Err.error) _ c.refuse_image.ensures.begun (search rules)
+returns-in-Err-clause-begun g c = not_all_printed c.refuse_image-answer.result _ _ (NoImage c.in-Err.error) _ c.refuse_image-answer.ensures.begun (search rules)
 
 pub returns-in-Err-answer_of-clause-begun : goal.returns-in-Err-answer_of-clause-begun
 returns-in-Err-answer_of-clause-begun g c = not_all_printed c.refuse_hardening.result _ _ (NotHardened c.in-Err-answer_of.error) _ c.refuse_hardening.ensures.begun (search rules)

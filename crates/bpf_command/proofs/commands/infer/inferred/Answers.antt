@@ -18,7 +18,7 @@ returns-in-Ok-propose-clause-ok g c =
     (λ made. (c.program_at.new.places, c.in-Ok.program, c.in-Ok-propose.certificate, image, proposal, made))
 
 pub returns-in-Err-clause-begun : goal.returns-in-Err-clause-begun
-returns-in-Err-clause-begun g c = not_all_printed c.refuse_image.result _ _ (NoImage c.in-Err.error) _ c.refuse_image.ensures.begun (search rules)
+returns-in-Err-clause-begun g c = not_all_printed c.refuse_image-answer.result _ _ (NoImage c.in-Err.error) _ c.refuse_image-answer.ensures.begun (search rules)
 
 pub returns-in_err-status-in-Err-propose-clause-begun : goal.returns-in_err-status-in-Err-propose-clause-begun
 returns-in_err-status-in-Err-propose-clause-begun g c =

@@ -2,19 +2,19 @@
 
 /// A set of slots, each a bit.
 #[derive(Drop)]
-pub struct Slots {
+pub struct SlotSet {
     held: [u64; 1024],
 }
 
-impl Slots {
+impl SlotSet {
     /// No slot is in it.
     pub fn none() -> Self {
-        Slots::filled(0)
+        SlotSet::filled(0)
     }
 
     /// Each word of 64 slots is this one.
     pub fn filled(word: u64) -> Self {
-        Slots { held: [word; 1024] }
+        SlotSet { held: [word; 1024] }
     }
 
     /// Puts a slot in, if it is at most 65,535.
