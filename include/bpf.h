@@ -74,7 +74,9 @@ struct bpf_outcome {
     uint64_t steps;  /* the instructions done, of BPF_DONE and BPF_FAULTED; else 0 */
 };
 
-/* ---- the library's functions; call those below them */
+/* ---- the library's functions. In C and C++ call those below them, which look at what they are handed; from other languages these: no
+ * pointer is null, also where its length is 0 (then any that is aligned does), `memory` is aligned to 8 bytes and its length counts bytes,
+ * and no bytes that are read are those that are written. */
 
 uint32_t bpf_host_version(void);
 int32_t bpf_host_verify(const uint8_t *image, size_t image_len, uint32_t order, const uint8_t *certificate,
@@ -287,9 +289,10 @@ static inline int32_t bpf_infer(const void *image, size_t image_len, uint32_t or
 
 /* What is asked of a hardening, as the options of `bpf harden`. */
 struct bpf_hardening {
-    uint32_t turns;     /* how often a loop that nothing counts may turn */
+    uint32_t turns;     /* how often a loop that nothing counts may turn; 0: 65,536 times */
     uint32_t padded;    /* 1: the context is a block of a packet's length in eight bytes, the packet and padding; else 0 */
-    uint64_t otherwise; /* r0 where a trap ends the program */
+    uint64_t otherwise; /* r0 where a trap ends the program; a local function that may return any number returns it from a trap, and its
+                           caller goes on */
 };
 
 /* Hardens an image for contexts of exactly `size` bytes, so that bpf_infer with `deep` may find a certificate for it; `asked` may be
@@ -308,7 +311,7 @@ static inline int32_t bpf_harden(const void *image, size_t image_len, uint32_t o
     if (!bpf_are_bytes(image, image_len) || !bpf_are_bytes(hardened, hardened_len)) return BPF_BAD_CALL;
     if (!bpf_may_tell(hardened, hardened_len, wanted, refusal, image, image_len)) return BPF_BAD_CALL;
     if (!asked) asked = &usual;
-    answer = bpf_host_harden(bpf_bytes(image), image_len, order, size, asked->turns, asked->otherwise, asked->padded,
+    answer = bpf_host_harden(bpf_bytes(image), image_len, order, size, asked->turns ? asked->turns : usual.turns, asked->otherwise, asked->padded,
                              hardened ? (uint8_t *)hardened : &none, hardened_len, &count, &why);
     if ((answer == BPF_YES || answer == BPF_TOO_SMALL) && wanted) *wanted = count;
     if (answer == BPF_NO && refusal) *refusal = why;

@@ -4,7 +4,8 @@
 - COUNT random programs (600 if not said) with walking pointers, indexes that nothing tests, loops that nothing counts, arrays in the
   frame and local functions, in both orders, and their packets in blocks;
 - the images of examples/c, and random programs, with one byte changed;
-- programs of many loops and accesses, each of which has to be shown to keep the meaning.
+- programs of many loops and accesses, each of which has to be shown to keep the meaning;
+- the longest programs, whose notes have to be read.
 
 Each that is hardened gets a certificate by `infer --deep`. On random contexts it ends with the number that the old program ends with;
 where the old one leaves the context or its frame (F3) it goes to the trap. Refusals are counted, and have a number. What `follows` says of
@@ -340,6 +341,22 @@ def try_long(bpf):
     return found
 
 
+def try_longest(bpf):
+    """Notes of the longest programs are read: those that `harden` makes, and such that say where the slot behind the last one is."""
+    with tempfile.TemporaryDirectory() as folder:
+        run = Runner(bpf, folder)
+        run.put('p.asm', b'r0 = 0\n' * 65535 + b'exit\n')
+        run.put('q.asm', b'r0 = 0\n' * 65536)
+        run.put('q-notes', b'bpfnotes 1\n' + b''.join(b'%d: first %d entry %d body %d\n' % (n, n, n, n) for n in range(65537)))
+        run.call('asm', 'p.asm', 'p.img')
+        run.call('asm', 'q.asm', 'q.img')
+        run.call('harden', 'p.img', '0', 'new.img', '--notes', 'p-notes')
+        for words in (('p.img', 'new.img', 'p-notes'), ('q.img', 'q.img', 'q-notes')):
+            said = run.call('follows', *words, '0')[1]
+            if said != 'yes length 0 turns 65536\n':
+                raise Wrong(f'of the longest program follows says {said!r}')
+
+
 def counted(found, letter):
     """The numbers of a letter, and how many there are of each."""
     return ', '.join(f'{number} {found[number]}' for number in sorted(found, key=lambda n: (len(n), n)) if number[0] == letter) or 'none'
@@ -350,6 +367,7 @@ def main():
     count = int(sys.argv[2]) if len(sys.argv) > 2 else 600
     first = int(sys.argv[3]) if len(sys.argv) > 3 else 1
     try:
+        try_longest(bpf)
         found = try_long(bpf)
         with ThreadPoolExecutor(os.cpu_count()) as pool:
             for each in pool.map(lambda seed: try_seed(bpf, seed), range(first, first + count)):

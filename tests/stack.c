@@ -1,11 +1,13 @@
 /* stack.c IMAGE CERTIFICATE..: each call in a thread with the stack that docs/HOSTS.md says is enough: 16 KB for preparing and running, 64 KB for
  * judging, 128 KB for inferring, 256 KB for hardening and for searching deeply, 512 KB for explaining. Beside the images that are named one of the
- * greatest length is tried. */
+ * greatest length is tried, and one whose run comes to eight frames. */
 #include <bpf.h>
 #include <pthread.h>
 #include <stdio.h>
 #include <stdlib.h>
 #include <string.h>
+#include <sys/mman.h>
+#include <unistd.h>
 
 enum { LITTLE_STACK = 16 << 10, JUDGING_STACK = 64 << 10, INFERRING_STACK = 128 << 10, HARDENING_STACK = 256 << 10, EXPLAINING_STACK = 512 << 10 };
 enum { SLOTS = 65536 };
@@ -90,11 +92,15 @@ static void *run(void *at) {
     return NULL;
 }
 
+/* A stack of one's own, with a page in front of it that can't be written: the C library may hand out a greater one that a thread left. */
 static void in_thread(void *(*call)(void *), struct job *job, size_t stack) {
     pthread_attr_t attributes;
     pthread_t thread;
-    if (pthread_attr_init(&attributes) || pthread_attr_setstacksize(&attributes, stack) || pthread_create(&thread, &attributes, call, job)) abort();
-    if (pthread_join(thread, NULL) || pthread_attr_destroy(&attributes)) abort();
+    size_t page = (size_t)sysconf(_SC_PAGESIZE);
+    uint8_t *all = mmap(NULL, page + stack, PROT_READ | PROT_WRITE, MAP_PRIVATE | MAP_ANONYMOUS, -1, 0);
+    if (all == MAP_FAILED || mprotect(all, page, PROT_NONE)) abort();
+    if (pthread_attr_init(&attributes) || pthread_attr_setstack(&attributes, all + page, stack) || pthread_create(&thread, &attributes, call, job)) abort();
+    if (pthread_join(thread, NULL) || pthread_attr_destroy(&attributes) || munmap(all, page + stack)) abort();
 }
 
 static void try_all(struct job *job, const char *name) {
@@ -132,6 +138,22 @@ static void try_longest(void) {
     try_all(&job, "the longest image");
 }
 
+/* Eight functions, of which seven call the next one: a run comes to the deepest frame. */
+static void try_deepest(void) {
+    static uint8_t image[16 * 8];
+    static char certificate[512];
+    struct job job = {image, (uint8_t *)certificate, sizeof image, 0, NULL, NULL, {0, 0, 0}, 0};
+    size_t len = (size_t)sprintf(certificate, "bpfcert 1 0 16\n");
+    for (unsigned function = 0; function < 8; function++) {
+        static const uint8_t call[8] = {0x85, 0x10, 0, 0, 1, 0, 0, 0}, zero[8] = {0xb7};
+        memcpy(image + 16 * function, function < 7 ? call : zero, 8);
+        image[16 * function + 8] = 0x95;
+        len += (size_t)sprintf(certificate + len, "fn %u %u *\nat %u %u\n", 2 * function, 8 - function, 2 * function, 16 - 2 * function);
+    }
+    job.certificate_len = len + (size_t)sprintf(certificate + len, "end\n");
+    try_all(&job, "the deepest calls");
+}
+
 int main(int argc, char **argv) {
     for (int i = 1; i + 1 < argc; i += 2) {
         struct job job = {0};
@@ -141,5 +163,6 @@ int main(int argc, char **argv) {
         free(job.image), free(job.certificate);
     }
     try_longest();
+    try_deepest();
     return 0;
 }

@@ -28,6 +28,11 @@ static bool refuses(const std::vector<std::uint8_t> &image, const std::vector<st
 
 int main(int, char **argv) {
     const std::vector<std::uint8_t> image = read_file(argv[1]), certificate = read_file(argv[2]);
+    try {
+        bpf::Filter filter(image, certificate, static_cast<bpf_order>(2), 1000);
+        want(false, "an order that is none is taken");
+    } catch (const std::invalid_argument &) {
+    }
     const bpf::Filter filter(image, certificate, BPF_LITTLE, 1000);
     std::vector<std::uint8_t> block(128);
     block[0] = 60, block[8 + 12] = 8, block[8 + 14] = 0x45, block[8 + 23] = 6, block[8 + 36] = 1, block[8 + 37] = 187;

@@ -22,11 +22,13 @@ public:
 class Filter {
 public:
     /* Judges an image by a certificate, and prepares its program. Throws Refused, also where a run may take more than `greatest` instructions,
-     * and std::bad_alloc.
+     * std::invalid_argument for an order that is none, std::logic_error where the library is of another version than its header, and
+     * std::bad_alloc.
      */
     Filter(const std::vector<std::uint8_t> &image, const std::vector<std::uint8_t> &certificate, bpf_order order, std::uint32_t greatest) {
         bpf_refusal why;
         std::size_t size = bpf_loaded_size(image.size());
+        if (bpf_version() != BPF_HOST_VERSION) throw std::logic_error("libbpf_host.a is of another version than bpf.h");
         words_.resize(size + 1); /* some, also where no image has that length */
         switch (bpf_load(image.data(), image.size(), order, certificate.data(), certificate.size(), greatest, words_.data(), size, &verdict_, &why)) {
         case BPF_YES: break;
@@ -34,6 +36,7 @@ public:
         case BPF_TOO_LONG:
             throw Refused("a run may take " + std::to_string(verdict_.bound) + " instructions, and this host pays for " +
                           std::to_string(greatest) + " at most");
+        case BPF_BAD_CALL: throw std::invalid_argument("no byte order");
         default: throw std::bad_alloc();
         }
     }

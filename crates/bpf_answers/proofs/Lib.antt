@@ -1,7 +1,6 @@
 pub mod ToldLemmas
 pub mod LoadedLemmas
 pub mod TextLemmas
-pub mod NotesLemmas
 pub mod MadeLemmas
 pub mod LinesLemmas
 pub mod OpenedLemmas

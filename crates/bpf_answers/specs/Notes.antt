@@ -1,7 +1,8 @@
 -- Notes at a name.
-use Rattle.std.specs.Prelude.{◌≡◌, ◌⊎◌, ◌<◌, ℕ, List, length, Option}
+use Rattle.std.specs.Prelude.{◌≡◌, ◌⊎◌, ◌<◌, ℕ, ◌+◌, ◌*◌, List, length, Option}
+use Rattle.std.specs.List.{AllByRecursion}
 use Rattle.bpf_follows_law.specs.declared.notes.Place.{Place}
-use Rattle.bpf_follows_notes.specs.NotesText.{notes_text}
+use Rattle.bpf_follows_notes.specs.NotesText.{max_lines, SaysAll, notes_text}
 use Rattle.bpf_follows_notes.specs.Refused.{IsRefused}
 use Rattle.bpf_follows_notes.specs.declared.error.NotesError.{NotesError}
 use Rattle.bpf_places.specs.Opened.{Opening, Unreadable}
@@ -10,13 +11,13 @@ use Rattle.bpf_answers.specs.Told.{OutputFails}
 use Rattle.bpf_answers.specs.declared.failure.Failure.{Failure}
 use Rattle.bpf_answers.specs.declared.failure.Failure.TheVariants.{CannotRead}
 
--- the greatest length of a text of notes that is read, in bytes; those of a program are shorter
+-- the greatest length of a text of notes that is read, in bytes: no line is longer than 3072
 abbrev pub max_notes : ℕ
-max_notes = 33554432
+max_notes = 3072 * (max_lines + 1)
 
--- the text at the name is that of the notes
+-- the text at the name is that of the notes, each of which says something of all places: there is one such list
 abbrev pub LoadsNotes : {S : Type 0} → Opening S → S → List ℕ → S → List (Option Place) → Type 0
-LoadsNotes opening old name new notes = TextAt opening old name new (λ text. text ≡ notes_text notes)
+LoadsNotes opening old name new notes = TextAt opening old name new (λ text. AllByRecursion SaysAll notes × (text ≡ notes_text notes))
 
 abbrev pub NotesRefused : {S : Type 0} → Opening S → S → List ℕ → S → NotesError → Type 0
 NotesRefused opening old name new e = TextAt opening old name new (λ text. IsRefused text e)

@@ -65,6 +65,11 @@ abbrev pub IsTold : Failure → ℕ → Option (List ℕ) → Option (List ℕ) 
 IsTold failure status old new =
     ((status ≡ status_of_failure failure) × Appends old new (failure_line failure)) ⊎ ((status ≡ 3) × AppendsBeginning old new (failure_line failure))
 
+-- what writes nothing says of no writing that it failed
+abbrev pub IsQuiet : Failure → Type 0
+IsQuiet (CannotWrite name) = ⊥
+IsQuiet failure = ⊤
+
 -- what a line on standard output can fail of
 abbrev pub OutputFails : Failure → Type 0
 OutputFails (CannotWrite name) = name.now ≡ codes "standard output"

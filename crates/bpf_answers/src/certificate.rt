@@ -5,7 +5,7 @@ ghost use Rattle.bpf_insn.specs.Written.{AppendsBeginning};
 ghost use Rattle.bpf_answers.specs.Answer.{Says, text_of};
 ghost use Rattle.bpf_answers.specs.Answer.Answer.{NoCertificate, NotCertified};
 ghost use Rattle.bpf_answers.specs.Loaded.{CertificateAt, CertificateRefused, CertificateFails, Tried};
-ghost use Rattle.bpf_answers.specs.Told.{OutputFails};
+ghost use Rattle.bpf_answers.specs.Told.{IsQuiet, OutputFails};
 
 use crate::failure::Failure;
 use crate::refusal::refuse_at;
@@ -24,6 +24,7 @@ pub fn certificate_at<'a, P: Places>(
     ensures ok { IfOk result (λ read. MatchResult read (CertificateAt P.opens places.old name.entry.now places.new)
         (CertificateRefused P.opens places.old name.entry.now places.new)) }
     ensures err { IfErr result (CertificateFails P.opens places.old name.entry.now places.new) }
+    ensures quiet { IfErr result IsQuiet }
     ensures names { Tried P.opens places.old name.entry.now places.new }
 {
     let reader = match places.open(name) {

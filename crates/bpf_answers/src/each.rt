@@ -15,6 +15,9 @@ use bpf_places::{PlaceError, Places};
 use std::alloc::Global;
 use std::io::{Read, Write};
 
+/// The greatest length of a line, which spells the longest context.
+const MAX_LINE: usize = 2 * MAX_CONTEXT;
+
 /// What answers contexts.
 pub trait Runner {
     ghost use Rattle.std.specs.Prelude.{◌≤◌, ℕ, List, IfOk, IfErr, length};
@@ -70,7 +73,7 @@ fn put_context(line: &[u8], buffer: &mut [u8]) -> Turn
 /// Takes the next line, and puts its context at the front of the buffer.
 fn next_context<R: Read + Drop>(
     lines: &mut LineReader<R>,
-    line: &mut ArrayVec<u8, 8192>,
+    line: &mut ArrayVec<u8, MAX_LINE>,
     buffer: &mut [u8],
 ) -> Turn
     requires { length buffer.old ≡ max_context }
@@ -99,7 +102,7 @@ fn answer_lines<'a, R: Read + Drop, Q: Runner, W: Write>(
     ensures err { IfErr result (LinesFail (Q.says runner.now) lines.old (W.contents out.old) (W.contents out.new) name.entry.now) }
     ensures begun { IfErr result (λ _. LinesLeft (Q.says runner.now) lines.old (W.contents out.old) (W.contents out.new)) }
 {
-    let mut line: ArrayVec<u8, 8192> = ArrayVec::new();
+    let mut line: ArrayVec<u8, MAX_LINE> = ArrayVec::new();
     let mut buffer = [0; MAX_CONTEXT];
     let mut status = DONE;
     'answers: for before in 0..u64::MAX {

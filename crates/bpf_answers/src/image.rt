@@ -6,7 +6,7 @@ ghost use Rattle.bpf_answers.specs.Loaded.{NoSpaceFor, ImageRefused, LoadsImage,
 ghost use Rattle.bpf_insn.specs.Written.{AppendsBeginning};
 ghost use Rattle.bpf_answers.specs.Answer.{Says, text_of};
 ghost use Rattle.bpf_answers.specs.Answer.Answer.{NoImage, NoNew, NoOld};
-ghost use Rattle.bpf_answers.specs.Told.{OutputFails};
+ghost use Rattle.bpf_answers.specs.Told.{IsQuiet, OutputFails};
 
 use crate::failure::Failure;
 use crate::refusal::refuse_at;
@@ -25,6 +25,7 @@ pub fn image_at<'a, P: Places>(
     ensures ok { IfOk result (λ read. MatchResult read (λ v. ReadsAt P.opens places.old name.entry.now v.items places.new)
         (NoSpaceFor P.opens places.old name.entry.now places.new)) }
     ensures err { IfErr result (ImageFails P.opens places.old name.entry.now places.new) }
+    ensures quiet { IfErr result IsQuiet }
     ensures names { Tried P.opens places.old name.entry.now places.new }
 {
     let mut reader = match places.open(name) {
@@ -49,6 +50,7 @@ pub fn program_at<'a, P: Places>(
     ensures ok { IfOk result (λ read. MatchResult read (LoadsImage P.opens order places.old name.entry.now places.new)
         (ImageRefused P.opens order places.old name.entry.now places.new)) }
     ensures err { IfErr result (ImageFails P.opens places.old name.entry.now places.new) }
+    ensures quiet { IfErr result IsQuiet }
     ensures names { Tried P.opens places.old name.entry.now places.new }
 {
     match image_at(alloc, places, name)? {

@@ -7,7 +7,7 @@ ghost use Rattle.bpf_answers.specs.Answer.{Says, follows_end, text_of};
 ghost use Rattle.bpf_answers.specs.Answer.Answer.{Follows, NoNotes, NotFollowed};
 ghost use Rattle.bpf_answers.specs.Loaded.{Tried};
 ghost use Rattle.bpf_answers.specs.Notes.{LoadsNotes, NotesFail, NotesRefused};
-ghost use Rattle.bpf_answers.specs.Told.{OutputFails};
+ghost use Rattle.bpf_answers.specs.Told.{IsQuiet, OutputFails};
 
 use crate::bytes::{BytesError, bytes_at};
 use crate::failure::{DONE, Failure, say};
@@ -15,12 +15,14 @@ use crate::refusal::refuse_at;
 use bpf_follows::Mismatch;
 use bpf_follows_law::{Bounds, Place};
 use bpf_follows_notes::{NotesError, read};
+use bpf_insn::MAX_SLOTS;
 use bpf_places::Places;
 use std::alloc::{AllocError, Global};
 use std::io::Write;
 
-/// The greatest length of a text of notes that is read, in bytes. Those of a program are shorter.
-const MAX_NOTES: usize = 33_554_432;
+/// The greatest length of a text of notes that is read, in bytes: a line for each slot of a program, one for behind its last and the first
+/// line. None is longer than 3,072 bytes: a slot, three numbers, and 75 places of at most 40 bytes.
+const MAX_NOTES: usize = 3_072 * (MAX_SLOTS + 2);
 
 /// The notes at a name, or why they are refused. They can't be read where the text is longer than that of any notes of a program.
 pub fn notes_at<'a, P: Places>(
@@ -31,6 +33,7 @@ pub fn notes_at<'a, P: Places>(
     ensures ok { IfOk result (λ read. MatchResult read (λ v. LoadsNotes P.opens places.old name.entry.now places.new v.items)
         (NotesRefused P.opens places.old name.entry.now places.new)) }
     ensures err { IfErr result (NotesFail P.opens places.old name.entry.now places.new) }
+    ensures quiet { IfErr result IsQuiet }
     ensures names { Tried P.opens places.old name.entry.now places.new }
 {
     match bytes_at(alloc, places, name, MAX_NOTES) {

@@ -6,7 +6,7 @@ ghost use Rattle.bpf_insn.specs.Written.{AppendsBeginning};
 ghost use Rattle.bpf_answers.specs.Answer.{Says, text_of};
 ghost use Rattle.bpf_answers.specs.Answer.Answer.{NoText};
 ghost use Rattle.bpf_answers.specs.Loaded.{ShortTextAt, TextFails, Tried};
-ghost use Rattle.bpf_answers.specs.Told.{OutputFails};
+ghost use Rattle.bpf_answers.specs.Told.{IsQuiet, OutputFails};
 
 use crate::bytes::{BytesError, bytes_at};
 use crate::failure::{Failure, REFUSED, say};
@@ -26,6 +26,7 @@ pub fn text_at<'a, P: Places>(
 ) -> Result<String, Failure<'a>>
     ensures ok { IfOk result (λ text. ShortTextAt P.opens places.old name.entry.now places.new (λ bytes. string_bytes text ≡ bytes)) }
     ensures err { IfErr result (TextFails P.opens places.old name.entry.now places.new) }
+    ensures quiet { IfErr result IsQuiet }
     ensures names { Tried P.opens places.old name.entry.now places.new }
 {
     let bytes = match bytes_at(alloc, places, name, MAX_TEXT) {

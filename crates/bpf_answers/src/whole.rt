@@ -2,6 +2,7 @@
 
 ghost use Rattle.std.specs.Prelude.{IfOk, IfErr};
 ghost use Rattle.bpf_answers.specs.Loaded.{ContextAt, ContextFails, Tried};
+ghost use Rattle.bpf_answers.specs.Told.{IsQuiet};
 
 use crate::bytes::{BytesError, bytes_at};
 use crate::context::ContextError;
@@ -18,6 +19,7 @@ pub fn context_at<'a, P: Places>(
 ) -> Result<Vec<u8>, Failure<'a>>
     ensures ok { IfOk result (λ v. ContextAt P.opens places.old name.entry.now places.new v.items) }
     ensures err { IfErr result (ContextFails P.opens places.old name.entry.now places.new) }
+    ensures quiet { IfErr result IsQuiet }
     ensures names { Tried P.opens places.old name.entry.now places.new }
 {
     match bytes_at(alloc, places, name, MAX_CONTEXT) {

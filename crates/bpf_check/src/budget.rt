@@ -5,7 +5,7 @@ ghost use Rattle.std.specs.List.{list_all};
 ghost use Rattle.bpf_num.specs.Interval.{Interval, IsInterval};
 ghost use Rattle.bpf_state.specs.State.{IsPlace, tag};
 ghost use Rattle.bpf_cert.specs.View.{label_view};
-ghost use Rattle.bpf_cert.specs.Limits.{is_limited_label, is_limited_term, max_weight};
+ghost use Rattle.bpf_cert.specs.Limits.{max_terms, is_limited_label, is_limited_term, max_weight};
 ghost use Rattle.bpf_safety.specs.Budget.{budget, place_of, unsigned_bounds, measured, term_value, least_at_ends, greatest_at_ends, each_term, sum_if, bounds, shares, share_of, free_part, greatest_budget, least_budget};
 ghost use Rattle.bpf_safety.specs.Flow.{label_state};
 ghost use Rattle.bpf_check.specs.code.Slack.{at_label, kept_of, free_of, IsWithin};
@@ -167,7 +167,7 @@ fn share_of(j: usize, x: u64, tag: Option<Tag>, term: &Term) -> i128
 /// What the terms of a new label take of the place of the old term j, whose value is x.
 fn shares(j: usize, x: u64, edge: &State, terms: &[Term]) -> i128
     requires limited { IsTrue (list_all is_limited_term terms.now) }
-    requires few { length terms.now ≤ 4 }
+    requires few { length terms.now ≤ max_terms }
     ensures value { result ≡ shares j (pos x) edge.now terms.now }
     ensures small { IsWithin (2 ^ 89) result }
 {
@@ -182,7 +182,7 @@ fn shares(j: usize, x: u64, edge: &State, terms: &[Term]) -> i128
 fn left_of(j: usize, term: &Term, x: u64, edge: &State, terms: &[Term]) -> i128
     requires limited { IsTrue (is_limited_term term.now) }
     requires all_limited { IsTrue (list_all is_limited_term terms.now) }
-    requires few { length terms.now ≤ 4 }
+    requires few { length terms.now ≤ max_terms }
     ensures value { result ≡ term_value term.now (pos x) -ℤ shares j (pos x) edge.now terms.now }
     ensures small { IsWithin (2 ^ 90) result }
 {
@@ -193,7 +193,7 @@ fn left_of(j: usize, term: &Term, x: u64, edge: &State, terms: &[Term]) -> i128
 fn least_left(j: usize, term: &Term, range: Unsigned, edge: &State, terms: &[Term]) -> i128
     requires limited { IsTrue (is_limited_term term.now) }
     requires all_limited { IsTrue (list_all is_limited_term terms.now) }
-    requires few { length terms.now ≤ 4 }
+    requires few { length terms.now ≤ max_terms }
     ensures value { result ≡ least_at_ends (λ x. term_value term.now x -ℤ shares j x edge.now terms.now) range }
     ensures small { IsWithin (2 ^ 90) result }
 {

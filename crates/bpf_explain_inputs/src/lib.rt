@@ -1,5 +1,5 @@
-//! Why images, texts and certificates are refused, in words. It makes no claim but to be safe and to end; what is refused, and why, is
-//! told to it.
+//! Why images, texts and certificates are refused, in words; and how many slots a text's program has. It makes no claim but to be safe
+//! and to end; what is refused, and why, is told to it.
 #![tactic(auto)]
 
 mod certificate;

@@ -95,11 +95,11 @@ fn base_name(area: Area) -> &'static str {
     }
 }
 
-/// A pointer that goes too far, as `ctx1..2147483649`.
+/// A pointer with its bounds, as `ctx1..8`.
 #[derive(Clone, Copy)]
-pub struct Far(pub Moved);
+pub struct Pointed(pub Moved);
 
-impl fmt::Display for Far {
+impl fmt::Display for Pointed {
     fn fmt<W: fmt::Write>(&self, f: &mut fmt::Formatter<W>) -> fmt::Result {
         let Moved { area, lo, hi } = self.0;
         let base = base_name(area);
@@ -118,8 +118,8 @@ impl fmt::Display for Known {
             SlotState::Bytes(mask) => write!(f, "b{mask}"),
             SlotState::Word(number) => fmt::Display::fmt(&Number(number), f),
             SlotState::Spilled(Pointer { area, lo, hi }) => {
-                let base = base_name(area);
-                write!(f, "{base}{lo}..{hi}")
+                let (lo, hi) = (i128::from(lo), i128::from(hi));
+                fmt::Display::fmt(&Pointed(Moved { area, lo, hi }), f)
             }
         }
     }

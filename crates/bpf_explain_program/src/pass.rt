@@ -10,7 +10,7 @@ use bpf_cert::LAST_SLOT;
 use bpf_check::{
     Index, Site, Spot, Walk, arrive, calls_no_deeper, judge_reached, lacks_label, way_out,
 };
-use bpf_insn::Code;
+use bpf_insn::{Code, MAX_SLOTS};
 use bpf_state::Condition;
 
 /// What is found without a state.
@@ -70,7 +70,7 @@ pub fn pass_over<C: Code, O: Observer<C>>(
     let mut sight = Sight::new(program, &*certificate, has_budgets);
     let mut walk = Walk::new();
     let mut here = Spot::of(&*certificate, 0);
-    'visits: for _ in 0..65_536u32 {
+    'visits: for _ in 0..MAX_SLOTS as u32 {
         let Some(insn) = program.insn(here.slot) else {
             break;
         };

@@ -53,7 +53,7 @@ pub fn reached_from_start<C: Code>(program: &C, flow: &Flow) -> SlotSet {
         reached: SlotSet::none(),
     };
     search.lead_to(0);
-    for _ in 0..65_536u32 {
+    for _ in 0..MAX_SLOTS as u32 {
         let Some(slot) = search.waiting.take_first() else {
             break;
         };

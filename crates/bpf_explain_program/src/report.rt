@@ -9,13 +9,17 @@ use crate::source::SourceLines;
 use crate::standing::{label_flaws, last_slot, standing_flaws, start_flaws};
 use crate::whole::write_whole;
 use crate::words::{
-    Handings, Silence, tell, tell_function, tell_handed, tell_label, tell_silence, tell_start,
+    Handings, Silence, tell, tell_function, tell_handed, tell_label, tell_mixed, tell_silence,
+    tell_start,
 };
 use bpf_cert::MAX_FUNCTIONS;
 use bpf_check::{Index, Refusal, Standing, see_start, standing_at};
 use bpf_explain_page::Tell;
 use bpf_insn::{Code, Insn};
 use bpf_state::{Condition, State, StateFault, Work, unset_register};
+
+/// Of how many registers it is told why nothing is known.
+const CAUSES: u32 = 16;
 
 /// What is written of a program.
 #[derive(Clone, Copy)]
@@ -78,6 +82,8 @@ pub struct Report<'a, 'o, C: Code, W: Tell> {
     quiet: Option<Quiet>,
     /// The calls that hand frame pointers over, once they are looked for.
     handings: Option<Handings>,
+    /// Of how many registers it may still be told why nothing is known.
+    causes: u32,
     /// Where the instructions came from.
     lines: SourceLines<'a>,
 }
@@ -101,6 +107,7 @@ impl<'a, 'o, C: Code, W: Tell> Report<'a, 'o, C, W> {
             silence: Silence::Start,
             quiet: None,
             handings: None,
+            causes: CAUSES,
             lines: SourceLines::of(lines),
         }
     }
@@ -135,11 +142,17 @@ impl<'a, 'o, C: Code, W: Tell> Report<'a, 'o, C, W> {
         write!(self.out, "\n");
     }
 
-    /// Tells why nothing is known of a register that a function reads, if it was handed a frame pointer in it.
+    /// Tells why nothing is known of a register that is read, if the function was handed a frame pointer in it, or ways meet that
+    /// have a pointer and a number in it; of so many registers in all, since each may take passes over the program.
     fn tell_cause(&mut self, sight: &Sight<'_, C>) {
         let Some(reg) = unset_register(&sight.site.insn, &sight.before) else {
             return;
         };
+        if self.causes == 0 {
+            return;
+        }
+        self.causes -= 1;
+        tell_mixed(self.out, sight, reg, self.certificate);
         let handings = match self.handings.take() {
             Some(handings) => handings,
             None => Handings::of(self.program, self.certificate),

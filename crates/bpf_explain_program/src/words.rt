@@ -6,6 +6,7 @@ mod edges;
 mod kinds;
 mod labels;
 mod memory;
+mod mixed;
 mod origins;
 mod shape;
 
@@ -15,6 +16,7 @@ use bpf_explain_page::Tell;
 use bpf_insn::{Code, Reg};
 use bpf_state::{Condition, Place, StateFault};
 pub use labels::{tell_function, tell_label, tell_start};
+pub use mixed::tell_mixed;
 pub use origins::{Handings, tell_handed};
 pub use shape::{Silence, tell_silence};
 

@@ -8,6 +8,12 @@ use bpf_infer::{Limit, Loss, Move, Obstacle, Tangle, Trial};
 /// The most instructions that a certificate promises.
 const MAX_STEPS: u32 = u32::MAX;
 
+/// What loops of a program that takes too many instructions are to do.
+const TURN_LESS: &str = "turn less often, or test their bounds against constants";
+
+/// How a C compiler leaves a number that counts in its loop.
+const COMPILE_SO: &str = "where the C source does, compile it with `-mllvm -disable-lsr`";
+
 /// Why a place isn't followed through a loop.
 fn write_loss<W: Tell>(out: &mut W, name: Name, loss: Loss) {
     match loss {
@@ -53,7 +59,7 @@ fn write_trial<W: Tell>(out: &mut W, trial: &Trial) {
         Move::Lost(loss) => write_loss(out, name, loss),
         Move::Pointer => write!(
             out,
-            "  {name} is a pointer, and only numbers count: count the rounds in a register; where the C source does, compile it with `-mllvm -disable-lsr`\n"
+            "  {name} is a pointer, and only numbers count: count the rounds in a register; {COMPILE_SO}\n"
         ),
     }
 }
@@ -95,15 +101,15 @@ fn write_limit<W: Tell>(out: &mut W, slot: u32, limit: Limit) {
     match limit {
         Limit::Weight { wanted } => write!(
             out,
-            "a round of the loop at slot {slot} costs up to {wanted} instructions, and at most {MAX_WEIGHT} can be counted for one: let the loops in it turn less often, or test their bounds against constants\n"
+            "a round of the loop at slot {slot} costs up to {wanted} instructions, and at most {MAX_WEIGHT} can be counted for one: let the loops in it {TURN_LESS}\n"
         ),
         Limit::Base { wanted } => write!(
             out,
-            "from slot {slot} on up to {wanted} instructions are done, and at most {MAX_BASE} can be counted: let the loops turn less often, or test their bounds against constants\n"
+            "from slot {slot} on up to {wanted} instructions are done, and at most {MAX_BASE} can be counted: let the loops {TURN_LESS}\n"
         ),
         Limit::Steps { wanted } => write!(
             out,
-            "a run takes up to {wanted} instructions, and at most {MAX_STEPS} can be promised: let the loops turn less often, or test their bounds against constants\n"
+            "a run takes up to {wanted} instructions, and at most {MAX_STEPS} can be promised: let the loops {TURN_LESS}\n"
         ),
         Limit::Terms => write!(
             out,
@@ -146,7 +152,7 @@ pub fn write_obstacle<W: Tell>(out: &mut W, slot: u32, obstacle: &Obstacle) {
             let name = register(*reg);
             write!(
                 out,
-                "{name} is a pointer that the loop at slot {head} moves, and only numbers count and have bounds: count the rounds in a register, and add it to a pointer that stays; where the C source does, compile it with `-mllvm -disable-lsr`\n"
+                "{name} is a pointer that the loop at slot {head} moves, and only numbers count and have bounds: count the rounds in a register, and add it to a pointer that stays; {COMPILE_SO}\n"
             );
         }
     }

@@ -1,6 +1,7 @@
 //! The frames of a run: their bytes, and what each call keeps for its return.
 
-ghost use Rattle.std.specs.Prelude.{◌≡◌, ◌<◌, ◌^◌, ◌++◌, [], ◌∷◌, IfSome, IfNone, length, take, drop, replicate};
+ghost use Rattle.std.specs.Prelude.{◌≡◌, ◌+◌, ◌*◌, ◌<◌, ◌^◌, ◌++◌, [], ◌∷◌, IfSome, IfNone, length, take, drop, replicate};
+ghost use Rattle.bpf_insn.specs.Limits.{frame_bytes, max_frames};
 ghost use Rattle.bpf_insn.specs.Order.{number_of, bytes_of};
 ghost use Rattle.bpf_insn.specs.Instruction.{byte_count};
 ghost use Rattle.bpf_flat.specs.code.Frames.{return_of};
@@ -59,33 +60,32 @@ impl<const BYTES: usize, const CALLS: usize> Model for Frames<BYTES, CALLS> {
     ghost invariant = { λ f. HasFrames BYTES CALLS f.bytes f.callers };
 }
 
-impl Frames<FRAME_BYTES, 0> {
-    /// The outermost frame at the start of a run.
+impl Frames<FRAMES, MAX_CALLS> {
+    /// Puts into the outermost frame what one alone holds. Nothing was put into any.
     #[inline(always)]
-    pub(crate) fn new() -> Self
-        ensures { result ≡ record { bytes = replicate frames_size 0; returns = [] } }
+    pub(crate) fn take_over(&mut self, outermost: &Frames<FRAME_BYTES, 0>)
+        requires zeros { self.old.bytes ≡ replicate frames_size 0 }
+        requires outermost { self.old.returns ≡ [] }
+        ensures { self.new ≡ outermost.now }
     {
-        Frames {
-            bytes: [0; FRAME_BYTES],
-            callers: ArrayVec::new(),
-        }
-    }
-
-    /// All frames, with what the outermost one holds.
-    #[inline(always)]
-    pub(crate) fn all(&self) -> Frames<FRAMES, MAX_CALLS>
-        ensures { result ≡ self.now }
-    {
-        let mut bytes = [0; FRAMES];
-        bytes[..FRAME_BYTES].copy_from_slice(&self.bytes);
-        Frames {
-            bytes,
-            callers: ArrayVec::new(),
-        }
+        self.bytes[..FRAME_BYTES].copy_from_slice(&outermost.bytes);
     }
 }
 
 impl<const BYTES: usize, const CALLS: usize> Frames<BYTES, CALLS> {
+    /// The frames at the start of a run, the outermost and one for each call that there is room for.
+    #[inline(always)]
+    pub(crate) fn new() -> Self
+        requires few { CALLS < max_frames }
+        requires size { BYTES ≡ frame_bytes * (CALLS + 1) }
+        ensures { result ≡ record { bytes = replicate frames_size 0; returns = [] } }
+    {
+        Frames {
+            bytes: [0; BYTES],
+            callers: ArrayVec::new(),
+        }
+    }
+
     /// The number in the bytes from an address on.
     #[inline(always)]
     pub(crate) fn number(&self, order: Order, size: Size, first: usize) -> u64

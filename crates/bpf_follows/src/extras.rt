@@ -2,6 +2,7 @@
 //! and make addresses in front of an instruction.
 
 ghost use Rattle.std.specs.Prelude.{◌≡◌, ◌<◌, IfSome};
+ghost use Rattle.bpf_follows_law.specs.Relation.{places};
 ghost use Rattle.bpf_follows_law.specs.Extras.{is_same, constant_kind, offset_in, copied, is_taken, moved_end, added, is_base, base_of, address_at, address, unmade, put_kind, put_by, made};
 ghost use Rattle.bpf_follows_law.specs.Sequence.{written, extra, extra_at, extras};
 
@@ -224,7 +225,7 @@ fn made(front: Option<Front>, kinds: &Kinds, insn: &Insn) -> Option<(Reg, Kind)>
 /// What an extra instruction writes, and what it holds then.
 fn written(front: Option<Front>, kinds: &Kinds, insn: &Insn) -> Option<(u8, Kind)>
     ensures exact { result ≡ written front kinds.now insn.now }
-    ensures inside { IfSome result (λ w. w.0 < 75) }
+    ensures inside { IfSome result (λ w. w.0 < places) }
 {
     if let Some(found) = moved_by(kinds, insn) {
         return Some(found);

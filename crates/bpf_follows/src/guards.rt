@@ -332,6 +332,10 @@ fn at_most(n: u64, kind: Kind) -> Kind
     ensures { result ≡ at_most n kind }
 {
     match kind {
+        Kind::Both | Kind::Natural { .. } if n < 1 << 32 => Kind::Number {
+            least: 0,
+            most: n as u32,
+        },
         Kind::Number { least, most } => Kind::Number {
             least,
             most: u64::from(most).min(n) as u32,

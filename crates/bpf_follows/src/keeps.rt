@@ -1,6 +1,7 @@
 //! Extra instructions that put what the new program keeps into its frame, and take it out again.
 
 ghost use Rattle.std.specs.Prelude.{◌≡◌, ◌<◌, IfSome};
+ghost use Rattle.bpf_follows_law.specs.Relation.{places};
 ghost use Rattle.bpf_follows_law.specs.Extras.{frame_slot, own_kind, kept_kind, free_slot, stored, given_in, closing, start_at, starting, restored, taken, packet_length, constant_put, moved_by};
 
 use crate::extras::{copied, is_base, is_same};
@@ -62,7 +63,7 @@ fn free_slot(kinds: &Kinds, r: Reg, off: i16) -> Option<u8>
 /// What a slot holds behind a store of a register.
 fn stored(kinds: &Kinds, dst: Reg, off: i16, src: Reg) -> Option<(u8, Kind)>
     ensures exact { result ≡ stored kinds.now dst off src }
-    ensures inside { IfSome result (λ w. w.0 < 75) }
+    ensures inside { IfSome result (λ w. w.0 < places) }
 {
     let slot = free_slot(kinds, dst, off)?;
     let kind = kept_kind(src, kind_in(kinds, src))?;
@@ -133,7 +134,7 @@ pub fn restored(r: Reg, have: Kind, kind: Kind) -> Kind
 /// What a register holds behind a load of a slot.
 fn taken(kinds: &Kinds, dst: Reg, src: Reg, off: i16) -> Option<(u8, Kind)>
     ensures exact { result ≡ taken kinds.now dst src off }
-    ensures inside { IfSome result (λ w. w.0 < 75) }
+    ensures inside { IfSome result (λ w. w.0 < places) }
 {
     if is_r10(dst) {
         return None;
@@ -146,7 +147,7 @@ fn taken(kinds: &Kinds, dst: Reg, src: Reg, off: i16) -> Option<(u8, Kind)>
 /// What a register holds behind a load of a packet's length, with which its block begins.
 fn packet_length(kinds: &Kinds, dst: Reg, src: Reg, off: i16) -> Option<(u8, Kind)>
     ensures exact { result ≡ packet_length kinds.now dst src off }
-    ensures inside { IfSome result (λ w. w.0 < 75) }
+    ensures inside { IfSome result (λ w. w.0 < places) }
 {
     if is_r10(dst) || !is_base(kind_in(kinds, src)) || off != 0 {
         return None;
@@ -160,7 +161,7 @@ fn packet_length(kinds: &Kinds, dst: Reg, src: Reg, off: i16) -> Option<(u8, Kin
 /// The slot to which an instruction stores a constant, and what it holds then.
 fn constant_put(kinds: &Kinds, insn: &Insn) -> Option<(u8, Kind)>
     ensures exact { result ≡ constant_put kinds.now insn.now }
-    ensures inside { IfSome result (λ w. w.0 < 75) }
+    ensures inside { IfSome result (λ w. w.0 < places) }
 {
     let Insn::StoreImm {
         size: Size::DW,
@@ -178,7 +179,7 @@ fn constant_put(kinds: &Kinds, insn: &Insn) -> Option<(u8, Kind)>
 /// What an extra instruction puts into a slot, or takes out of one, or loads of a block: the place, and what it holds then.
 pub fn moved_by(kinds: &Kinds, insn: &Insn) -> Option<(u8, Kind)>
     ensures exact { result ≡ moved_by kinds.now insn.now }
-    ensures inside { IfSome result (λ w. w.0 < 75) }
+    ensures inside { IfSome result (λ w. w.0 < places) }
 {
     if let Insn::Store {
         size: Size::DW,

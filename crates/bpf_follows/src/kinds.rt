@@ -2,7 +2,7 @@
 
 ghost use Rattle.std.specs.Prelude.{◌≡◌, ◌<◌, ◌==◌, ◌↔◌, IsTrue, option_copied};
 ghost use Rattle.bpf_insn.specs.Instruction.{register_number};
-ghost use Rattle.bpf_follows_law.specs.Relation.{kind_in, place_at, is_lone, is_alone, is_free, is_of_other, offset_weaker, within_weaker, weaker, Gives, known};
+ghost use Rattle.bpf_follows_law.specs.Relation.{places, kind_in, place_at, is_lone, is_alone, is_free, is_of_other, offset_weaker, within_weaker, weaker, Gives, known};
 ghost use Rattle.bpf_follows_law.specs.Returned.{is_call};
 ghost use Rattle.bpf_follows_law.specs.Matching.{is_changed, is_lost, is_gone, held, kinds_behind, is_spared, is_blurred, kinds_beyond, handed, kinds_called, listed, given_kinds, start_kinds};
 
@@ -48,7 +48,7 @@ fn is_lone(kind: Kind) -> bool
 
 /// What is said of a place.
 pub fn kind_of(kinds: &Kinds, r: u8) -> Kind
-    requires { r < 75 }
+    requires { r < places }
     ensures { result ≡ kind_in kinds.now r }
 {
     kinds[usize::from(r)]
@@ -223,7 +223,7 @@ pub fn held(insn: &Insn, kind: Kind) -> Kind
 
 /// What a place holds in front of the instruction itself.
 pub fn known(site: &Site, r: u8) -> Kind
-    requires { r < 75 }
+    requires { r < places }
     ensures { result ≡ known site.now.slot site.now.kinds r }
 {
     match kind_of(&site.kinds, r) {
@@ -241,7 +241,7 @@ pub fn known_in(site: &Site, r: Reg) -> Kind
 
 /// What a place holds behind the instruction, where it leads away (`taken`) or goes on.
 fn kind_behind(site: &Site, taken: bool, r: u8) -> Kind
-    requires { r < 75 }
+    requires { r < places }
     ensures { result ≡ kinds_behind taken site.now.insn site.now.moved (known site.now.slot site.now.kinds) r }
 {
     if is_changed(&site.insn, r) {
@@ -260,7 +260,7 @@ fn is_spared(site: &Site, r: u8) -> bool
 
 /// Whether it is one that may go to this slot, or leave it as it was, and that wasn't the same.
 pub fn is_blurred(site: &Site, r: u8) -> bool
-    requires { r < 75 }
+    requires { r < places }
     ensures { result ≡ is_blurred (known site.now.slot site.now.kinds) site.now.insn r }
 {
     is_far_put(&site.insn) && r >= REGISTERS && !is_plain(known(site, r))
@@ -268,7 +268,7 @@ pub fn is_blurred(site: &Site, r: u8) -> bool
 
 /// The same, where each function leaves the frames of others alone, if it does.
 pub fn kind_beyond(alone: bool, site: &Site, taken: bool, r: u8) -> Kind
-    requires { r < 75 }
+    requires { r < places }
     ensures { result ≡ kinds_beyond alone taken site.now.insn site.now.moved (known site.now.slot site.now.kinds) r }
 {
     if is_spared(site, r) || is_call(&site.insn) && alone && r >= REGISTERS {

@@ -2,7 +2,7 @@
 
 ghost use Rattle.std.specs.Prelude.{◌≡◌, ◌<◌};
 ghost use Rattle.bpf_insn.specs.Instruction.{register_number};
-ghost use Rattle.bpf_follows_law.specs.Relation.{natural_top, known};
+ghost use Rattle.bpf_follows_law.specs.Relation.{places, natural_top, known};
 ghost use Rattle.bpf_follows_law.specs.Numbers.{bounded, number_of, bounds_of, is_bounded, is_numeric, read_number, operand_number, left_number, alu_number, is_number_test, loaded_number, alu_kind, number_kind, told_by, may_answer, is_operand, told};
 
 use crate::inner::inner_made;
@@ -237,7 +237,7 @@ fn is_operand(src: Operand, r: u8) -> bool
 
 /// What a place holds where the instruction leads away (`taken`) or goes on.
 pub fn told(site: &Site, taken: bool, r: u8) -> Kind
-    requires { r < 75 }
+    requires { r < places }
     ensures { result ≡ told taken site.now.insn (known site.now.slot site.now.kinds) r }
 {
     let kind = known(site, r);

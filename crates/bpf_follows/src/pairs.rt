@@ -1,8 +1,9 @@
 //! An instruction of the old program and the one that stands for it.
 
-ghost use Rattle.std.specs.Prelude.{◌≡◌, ◌<◌, ◌↔◌, IsTrue, IsOk, Some};
+ghost use Rattle.std.specs.Prelude.{◌≡◌, ◌<◌, ◌↔◌, IsTrue, IsOk, IfErr, Some};
 ghost use Rattle.std.specs.List.{filter_map};
 ghost use Rattle.bpf_follows_law.specs.Relation.{known};
+ghost use Rattle.bpf_follows.specs.Mismatches.{IsUnpaired};
 ghost use Rattle.bpf_follows_law.specs.Matching.{undirected, IsSame, AreSame, copy_kind, within_at, within_ints, offset_sum, computed, moved_kind, of_operand, is_equality, are_offsets, by_offsets, by_kinds, result_kind, is_framed, written_kind, Reads, is_sum, is_moved, is_natural, is_wide, widened, Pairs};
 
 use crate::areas::{are_alike, is_offset, origin, unbounded};
@@ -376,7 +377,8 @@ fn is_widened(site: &Site) -> bool
 
 /// Whether the new instruction does what the old one does. What fails is told.
 pub fn pairs(site: &Site) -> Result<(), Fault>
-    ensures { IsOk result ↔ Pairs (known site.now.slot site.now.kinds) site.now.insn site.now.moved }
+    ensures exact { IsOk result ↔ Pairs (known site.now.slot site.now.kinds) site.now.insn site.now.moved }
+    ensures why { IfErr result (IsUnpaired site.now) }
 {
     let is_alike = same(undirected(site.moved), undirected(site.insn));
     let is_paired = is_framed(site.insn, site.moved) || by_address(site) || is_widened(site);

@@ -4,7 +4,7 @@
 ghost use Rattle.std.specs.Prelude.{◌≡◌, ◌↔◌, ℕ, IsOk, IfErr, IsTrue};
 ghost use Rattle.bpf_follows_law.specs.Meaning.{KeepsMeaning};
 ghost use Rattle.bpf_follows_law.specs.Matching.{StandsAt, Matches};
-ghost use Rattle.bpf_follows.specs.Mismatches.{IsMismatch};
+ghost use Rattle.bpf_follows.specs.Mismatches.{IsMismatch, IsAt, IsLowest};
 
 use crate::edges::starts;
 use crate::mismatch::Mismatch;
@@ -20,7 +20,7 @@ fn all_stand<O: Code, N: Code>(
     bounds: Bounds,
 ) -> Result<(), Mismatch>
     ensures exact { IsOk result ↔ ((slot : ℕ) → StandsAt (O.program old.now) (N.program new.now) notes.now bounds slot) }
-    ensures err { IfErr result (IsMismatch (O.program old.now) (N.program new.now) notes.now bounds) }
+    ensures err { IfErr result (IsAt (IsLowest (O.program old.now) (N.program new.now) notes.now bounds)) }
 {
     for slot in 0..old.slots() {
         match stands_at(old, new, notes, bounds, slot) {

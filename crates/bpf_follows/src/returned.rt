@@ -5,7 +5,7 @@ ghost use Rattle.std.specs.Prelude.{◌≡◌, ◌≢◌, ◌<◌, ◌+◌, ◌�
 ghost use Rattle.bpf_insn.specs.Instruction.{goes_on, slot_count};
 ghost use Rattle.bpf_insn.specs.declared.instruction.Insn.TheVariants.{Exit};
 ghost use Rattle.bpf_follows_law.specs.declared.notes.Kind.TheVariants.{Same};
-ghost use Rattle.bpf_follows_law.specs.Relation.{Gives, known, is_alone};
+ghost use Rattle.bpf_follows_law.specs.Relation.{places, Gives, known, is_alone};
 ghost use Rattle.bpf_follows_law.specs.Returned.{is_call, led, given_back, back_of, back_at, called_back, KeepsBack, GivesBack};
 ghost use Rattle.bpf_follows_law.specs.Matching.{kinds_back, kinds_along};
 
@@ -65,7 +65,7 @@ fn called_back(notes: &[Option<Place>], slot: u32, insn: &Insn) -> Kind
 
 /// What a place holds behind an instruction: behind a call r0 is what the function gives back.
 fn kind_back(notes: &[Option<Place>], site: &Site, taken: bool, r: u8) -> Kind
-    requires place { r < 75 }
+    requires place { r < places }
     requires below { site.now.slot < max_slots }
     ensures { result ≡ kinds_back notes.now site.now.slot taken site.now.insn site.now.moved (known site.now.slot site.now.kinds) r }
 {
@@ -78,7 +78,7 @@ fn kind_back(notes: &[Option<Place>], site: &Site, taken: bool, r: u8) -> Kind
 
 /// The same, where stores by other registers than r10 leave so many of the lowest bytes of each frame alone.
 pub fn kind_along(notes: &[Option<Place>], untouched: u32, site: &Site, taken: bool, r: u8) -> Kind
-    requires place { r < 75 }
+    requires place { r < places }
     requires below { site.now.slot < max_slots }
     ensures { result ≡ kinds_along notes.now untouched site.now.slot taken site.now.insn site.now.moved (known site.now.slot site.now.kinds) r }
 {

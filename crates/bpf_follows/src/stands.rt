@@ -6,6 +6,7 @@ ghost use Rattle.bpf_insn.specs.Instruction.{insn_at};
 ghost use Rattle.bpf_insn.specs.declared.instruction.Insn.{Insn};
 ghost use Rattle.bpf_follows_law.specs.declared.site.Site.{Site};
 ghost use Rattle.bpf_follows_law.specs.Matching.{front_at, Falls, Leads, IsSite, StandsAt};
+ghost use Rattle.bpf_follows.specs.Mismatches.{IsNoSite, FailsAt};
 
 use crate::ahead::{span_behind, spans_ahead};
 use crate::edges::{Edge, arrives, enters};
@@ -32,6 +33,7 @@ fn is_inside<C: Code>(code: &C, slot: u32) -> bool
 fn site_of<N: Code>(new: &N, place: &Place, front: Front) -> Result<Site, Fault>
     ensures ok { IfOk result (λ site. IsSite (N.program new.now) place.now front site × (site.new_slot < max_slots)) }
     ensures err { IfErr result (λ fault. (site : Site) → IsSite (N.program new.now) place.now front site → ⊥) }
+    ensures why { IfErr result (IsNoSite (N.program new.now) place.now front) }
 {
     let Some(kinds) = extras(new, Some(front), place.first, place.body, place.kinds) else {
         return Err(Fault::Front);
@@ -125,7 +127,8 @@ pub fn stands_at<O: Code, N: Code>(
     slot: u32,
 ) -> Result<(), Fault>
     requires { slot < max_slots }
-    ensures { IsOk result ↔ StandsAt (O.program old.now) (N.program new.now) notes.now bounds slot }
+    ensures exact { IsOk result ↔ StandsAt (O.program old.now) (N.program new.now) notes.now bounds slot }
+    ensures why { IfErr result (FailsAt (O.program old.now) (N.program new.now) notes.now bounds slot) }
 {
     let Some(place) = place_at(notes, slot) else {
         return Ok(());

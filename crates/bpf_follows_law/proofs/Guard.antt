@@ -397,6 +397,16 @@ module _ (ends : Order) (notes : List (Option Place)) (turns : ℕ) (passed : Pa
           subst (λ kind. FitsKind turns passed (register_in s.top) r kind (register_in t.top r)) (sym kept) (b.top.registers r lt)
 
   pub most_fits : (kind : Kind) (n x : ℕ) (old : ℕ → Option Value) (r : ℕ) (new : Option Value) → new ≡ Some (Number x) → x ≤ n → FitsKind turns passed old r kind new → FitsKind turns passed old r (at_most n kind) new
+  most_fits Both n x old r new is below f = by_cases (nat_lt n (2 ^ 32))
+    where
+      by_cases : (b : Bool) → FitsKind turns passed old r (if b then NumberKind 0 n else Both) new
+      by_cases true = record { number = x; low = omega arith; high = below; old_is = f.old_is ∙ (sym f.new_is ∙ is); new_is = is }
+      by_cases false = f
+  most_fits (Natural half) n x old r new is below f = by_cases (nat_lt n (2 ^ 32))
+    where
+      by_cases : (b : Bool) → FitsKind turns passed old r (if b then NumberKind 0 n else Natural half) new
+      by_cases true = record { number = x; low = omega arith; high = below; old_is = f.old_is ∙ (sym f.new_is ∙ is); new_is = is }
+      by_cases false = f
   most_fits (NumberKind least most) n x old r new is below f =
       let same : f.number ≡ x = number_same (same_Some _ _ (sym f.new_is ∙ is)) in
       let high = f.high in

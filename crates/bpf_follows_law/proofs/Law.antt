@@ -467,7 +467,7 @@ module _ (computed : StepsAreComputed) (keeps : StepKeepsContext) (states : Step
     where
       h : Caught (past first 0) first (start context)
       h = entered_by (past first 0) (start_kinds bounds) first (start context) (begins.owns, begins.state.each_frame.0.values) (λ n e. subst (λ context. HoldsLength old.order context n) (sym begins.context_is) (begins.holds n e)) begins.between
-          (subst (λ slot. Enters notes new bounds.turns slot 0 (start_kinds bounds)) (sym begins.at_slot) matches.start)
+          (subst (λ slot. Enters notes new bounds.turns slot 0 (start_kinds bounds)) (sym begins.at_slot) matches.start.1)
   follows_run context first (suc k) more s begins long (mid, run, step) (stay, here) ends few =
       let before = follows_run context first k (suc more) mid begins long run stay (s, step, here, ends) (λ slot. no_more _ _ bounds.turns (few slot)) in
       let next : (slot : ℕ) → visits old first (suc k) slot ≡ (counted (past first k) mid.top.slot).visits slot = λ slot. visits_next computed old k slot first mid run in

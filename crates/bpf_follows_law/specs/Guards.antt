@@ -138,8 +138,10 @@ passes (Some front) kinds (JumpIf Gt W64 dst (FromReg src) off) = ends_behind fr
 passes None kinds (JumpIf Gt W64 dst (Imm imm) off) = is_long imm (kind_of kinds dst)
 passes front kinds i = false
 
--- what a guard tells of a number or an offset that it lets pass
+-- what a guard tells of a number or an offset that it lets pass: of a pointer it isn't passed
 abbrev pub at_most : ℕ → Kind → Kind
+at_most n Both = if nat_lt n (2 ^ 32) then Number 0 n else Both
+at_most n (Natural half) = if nat_lt n (2 ^ 32) then Number 0 n else Natural half
 at_most n (Number least most) = Number least (min most n)
 at_most n (Offset area) = if nat_lt n (2 ^ 32) then Within area 0 n else Offset area
 at_most n (Within area least most) = Within area least (min most n)

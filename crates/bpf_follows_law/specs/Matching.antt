@@ -1,5 +1,5 @@
 -- What has to hold of the notes at each slot. Nothing here speaks of runs.
-use Rattle.std.specs.Prelude.{◌≡◌, ◌≢◌, ℕ, ◌+◌, ◌-◌, ◌*◌, ◌/◌, ◌^◌, ◌<◌, nat_le, ◌==◌, nat_lt, ℤ, pos, negsuc, ◌+ℤ◌, ◌-ℤ◌, FitsSigned, ◌⊎◌, true, false, Bool, not, ◌&&◌, ◌||◌, List, [], ◌∷◌, ◌++◌, replicate, Option, Some, None, IsSome, option_and_then, option_map, if◌then◌else◌}
+use Rattle.std.specs.Prelude.{◌≡◌, ◌≢◌, ℕ, ◌+◌, ◌-◌, ◌*◌, ◌/◌, ◌^◌, ◌<◌, ◌≤◌, nat_le, ◌==◌, nat_lt, ℤ, pos, negsuc, ◌+ℤ◌, ◌-ℤ◌, FitsSigned, ◌⊎◌, true, false, Bool, not, ◌&&◌, ◌||◌, List, [], ◌∷◌, ◌++◌, replicate, Option, Some, None, IsSome, option_and_then, option_map, if◌then◌else◌}
 use Rattle.std.specs.Int.{w16}
 use Rattle.std.specs.List.{AllByRecursion}
 use Rattle.std.specs.Option.{option_map_or, option_or}
@@ -475,8 +475,12 @@ given_kinds true length = (Head, Sized (length - head_bytes))
 abbrev pub start_kinds : Bounds → List Kind
 start_kinds bounds = in_new_frame (Same ∷ (given_kinds bounds.padded bounds.length).0 ∷ (given_kinds bounds.padded bounds.length).1 ∷ Same ∷ Same ∷ Same ∷ Same ∷ Same ∷ Same ∷ Same ∷ Same ∷ [])
 
+-- a block has room for its packet's length, and the new program begins with what stands for the old one's start
+abbrev pub Starts : List (Option Place) → Instructions → Bounds → Type 0
+Starts notes new bounds = (bounds.padded ≡ true → head_bytes ≤ bounds.length) × Enters notes new bounds.turns 0 0 (start_kinds bounds)
+
 pub record Matches (old new : Instructions) (notes : List (Option Place)) (bounds : Bounds) : Type 0 where
   pub short : bounds.length < 2 ^ 32
   pub order_is : new.order ≡ old.order
-  pub start : Enters notes new bounds.turns 0 0 (start_kinds bounds)
+  pub start : Starts notes new bounds
   pub each : (slot : ℕ) → StandsAt old new notes bounds slot

@@ -6,7 +6,6 @@ use Rattle.std.specs.List.{AllByRecursion}
 use Rattle.std.proofs.Math.Seq.{set-append_seam}
 use Rattle.std.proofs.lemmas.Bool.{lt-ltb, le-ltb}
 use Rattle.bpf_insn.specs.Instruction.{register_number}
-use Rattle.bpf_insn.specs.Limits.{max_slots}
 use Rattle.bpf_insn.specs.declared.instruction.Reg.{Reg}
 use Rattle.bpf_insn.proofs.RegisterLemmas.{reg_below}
 use Rattle.bpf_lines.specs.Words.{behind}
@@ -17,7 +16,7 @@ use Rattle.bpf_follows_law.specs.declared.notes.Kind.TheVariants.{Nothing, Unset
 use Rattle.bpf_follows_law.specs.declared.notes.Place.{Place}
 use Rattle.bpf_follows_notes.specs.declared.error.NotesError.{NotesError}
 use Rattle.bpf_follows_notes.specs.declared.error.NotesError.TheVariants.{Form}
-use Rattle.bpf_follows_notes.specs.NotesText.{IntFits, KindFits, PlaceFits, NoteFits, entry_text, behind_text, bounds_text, kept_text, beside_text, area_text, held_text, kinds_text, place_text, note_text, note_line, note_lines}
+use Rattle.bpf_follows_notes.specs.NotesText.{max_lines, IntFits, KindFits, PlaceFits, NoteFits, entry_text, behind_text, bounds_text, kept_text, beside_text, area_text, held_text, kinds_text, place_text, note_text, note_line, note_lines}
 use Rattle.bpf_follows_notes.specs.code.Reading.{number_in, word_in, value_in, bounds_in, behind_in, plain_in, numbered_in, offset_in, area_in, kind_in, entry_in, kinds_in, nothing_said, place_in, note_in, taken_at, with_front, lines_in, after_lines, saved_in, kept_in, closing_in, held_in}
 use Rattle.bpf_lines.proofs.WordLemmas.{behind_word}
 use Rattle.bpf_follows_notes.proofs.Decimals.{Ends, digits_again, number_again, int_again, register_again}
@@ -409,7 +408,7 @@ unfolding lines_in
 lines_step k slot [] n rest some e = absurd (omega arith)
 lines_step k slot (c ∷ cs) n rest some e = rw e refl
 
-pub lines_again : (k slot : ℕ) (notes : List (Option Place)) → length notes ≤ k → slot + length notes ≤ max_slots → AllByRecursion NoteFits notes → lines_in k slot (note_lines slot notes) ≡ Ok notes
+pub lines_again : (k slot : ℕ) (notes : List (Option Place)) → length notes ≤ k → slot + length notes ≤ max_lines → AllByRecursion NoteFits notes → lines_in k slot (note_lines slot notes) ≡ Ok notes
 unfolding note_lines
 lines_again k slot [] long few fits = unfold lines_in in refl
 lines_again zero slot (n ∷ notes) long few fits = absurd (omega arith)
@@ -460,19 +459,19 @@ unfolding lines_in
 lines_none done k slot [] some e = absurd (omega arith)
 lines_none done k slot (c ∷ cs) some e = rw e refl
 
-count : (slot : ℕ) → slot < max_slots → max_slots - slot ≡ suc (max_slots - (slot + 1))
+count : (slot : ℕ) → slot < max_lines → max_lines - slot ≡ suc (max_lines - (slot + 1))
 count slot h = omega arith
 
-pub lines_stop : (done : List (Option Place)) (slot : ℕ) (text : List ℕ) → 0 < length text → slot < max_slots → taken_at slot text ≡ None → after_lines done (lines_in (max_slots - slot) slot text) ≡ Err (Form (slot + 2))
-lines_stop done slot text some h e = ap (λ k. after_lines done (lines_in k slot text)) (count slot h) ∙ lines_none done (max_slots - (slot + 1)) slot text some e
+pub lines_stop : (done : List (Option Place)) (slot : ℕ) (text : List ℕ) → 0 < length text → slot < max_lines → taken_at slot text ≡ None → after_lines done (lines_in (max_lines - slot) slot text) ≡ Err (Form (slot + 2))
+lines_stop done slot text some h e = ap (λ k. after_lines done (lines_in k slot text)) (count slot h) ∙ lines_none done (max_lines - (slot + 1)) slot text some e
 
 front_after : (done : List (Option Place)) (n : Option Place) (r : Result (List (Option Place)) NotesError) → after_lines (done ++ n ∷ []) r ≡ after_lines done (with_front n r)
 front_after done n (Ok notes) = ap Ok (append_assoc done (n ∷ []) notes)
 front_after done n (Err error) = refl
 
-pub lines_more : (done : List (Option Place)) (slot : ℕ) (text : List ℕ) (n : Option Place) (more : List ℕ) → 0 < length text → slot < max_slots → taken_at slot text ≡ Some (n, more)
-    → after_lines (done ++ n ∷ []) (lines_in (max_slots - (slot + 1)) (slot + 1) more) ≡ after_lines done (lines_in (max_slots - slot) slot text)
+pub lines_more : (done : List (Option Place)) (slot : ℕ) (text : List ℕ) (n : Option Place) (more : List ℕ) → 0 < length text → slot < max_lines → taken_at slot text ≡ Some (n, more)
+    → after_lines (done ++ n ∷ []) (lines_in (max_lines - (slot + 1)) (slot + 1) more) ≡ after_lines done (lines_in (max_lines - slot) slot text)
 lines_more done slot text n more some h e =
-    front_after done n (lines_in (max_slots - (slot + 1)) (slot + 1) more)
-    ∙ ap (after_lines done) (sym (lines_step (max_slots - (slot + 1)) slot text n more some e))
+    front_after done n (lines_in (max_lines - (slot + 1)) (slot + 1) more)
+    ∙ ap (after_lines done) (sym (lines_step (max_lines - (slot + 1)) slot text n more some e))
     ∙ ap (λ k. after_lines done (lines_in k slot text)) (sym (count slot h))

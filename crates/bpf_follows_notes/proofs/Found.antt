@@ -2,12 +2,11 @@
 use Rattle.std.proofs.Common.{◌≡◌, ℕ, zero, suc, ◌+◌, ◌≤◌, ◌⊎◌, inl, inr, List, [], ◌∷◌, ◌++◌, length, Option, Some, None, refl, sym, ap, subst, ◌∙◌, append_assoc, arith}
 use Rattle.std.specs.Prelude.{option_map, Result, Ok, Err}
 use Rattle.std.specs.Option.{option_map_or}
-use Rattle.bpf_insn.specs.Limits.{max_slots}
 use Rattle.bpf_lines.specs.Words.{behind}
 use Rattle.bpf_follows_law.specs.declared.notes.Place.{Place}
 use Rattle.bpf_follows_notes.specs.declared.error.NotesError.{NotesError}
 use Rattle.bpf_follows_notes.specs.declared.error.NotesError.TheVariants.{Form}
-use Rattle.bpf_follows_notes.specs.NotesText.{note_line, note_lines}
+use Rattle.bpf_follows_notes.specs.NotesText.{max_lines, note_line, note_lines}
 use Rattle.bpf_follows_notes.specs.Refused.{NoLine, StopsAt}
 use Rattle.bpf_follows_notes.specs.code.Reading.{◌>>=◌, note_in, taken_at, with_front, lines_in}
 use Rattle.bpf_lines.proofs.WordLemmas.{behind_is}
@@ -30,7 +29,7 @@ taken_is slot text note rest e = by_note (note_in text) e
     by_note (Some read) e = by_left read (behind (note_line slot read) text) refl e
 
 -- where none is read, none stands
-no_line : (slot : ℕ) (text : List ℕ) → slot + 1 ≤ max_slots → taken_at slot text ≡ None → NoLine slot text
+no_line : (slot : ℕ) (text : List ℕ) → slot + 1 ≤ max_lines → taken_at slot text ≡ None → NoLine slot text
 no_line slot text small none note rest fits e = let some : taken_at slot text ≡ Some (note, rest) = ap (taken_at slot) e ∙ taken_again slot (omega arith) note fits rest in cc
 
 -- what reading the lines says of them, where so many may follow
@@ -51,17 +50,17 @@ behind_front slot text rest note (Err error) e (line, is, stops) =
         lines = e ∙ ap (λ t. note_line slot note ++ t) stops.lines ∙ sym (append_assoc (note_line slot note) (note_lines (slot + 1) stops.before) stops.rest);
         line_is = stops.line_is ∙ ap (λ n. n + 2) count;
         more = stops.more;
-        stops = subst (λ n. (n ≡ max_slots) ⊎ NoLine n stops.rest) count stops.stops;
+        stops = subst (λ n. (n ≡ max_lines) ⊎ NoLine n stops.rest) count stops.stops;
       },
     )
 
-stopped : (slot : ℕ) (c : ℕ) (cs : List ℕ) → (slot ≡ max_slots) ⊎ NoLine slot (c ∷ cs) → StopsAt slot (c ∷ cs) (slot + 2)
+stopped : (slot : ℕ) (c : ℕ) (cs : List ℕ) → (slot ≡ max_lines) ⊎ NoLine slot (c ∷ cs) → StopsAt slot (c ∷ cs) (slot + 2)
 unfolding note_lines
 stopped slot c cs why =
     let here : slot ≡ slot + 0 = omega arith in
-    record { before = []; rest = c ∷ cs; lines = refl; line_is = ap (λ n. n + 2) here; more = λ e. cc; stops = subst (λ n. (n ≡ max_slots) ⊎ NoLine n (c ∷ cs)) here why }
+    record { before = []; rest = c ∷ cs; lines = refl; line_is = ap (λ n. n + 2) here; more = λ e. cc; stops = subst (λ n. (n ≡ max_lines) ⊎ NoLine n (c ∷ cs)) here why }
 
-pub lines_say : (k slot : ℕ) (text : List ℕ) → slot + k ≡ max_slots → Says slot text (lines_in k slot text)
+pub lines_say : (k slot : ℕ) (text : List ℕ) → slot + k ≡ max_lines → Says slot text (lines_in k slot text)
 unfolding Says lines_in note_lines
 lines_say k slot [] room = refl
 lines_say zero slot (c ∷ cs) room = (slot + 2, refl, stopped slot c cs (inl (omega arith)))
@@ -72,10 +71,10 @@ lines_say (suc k) slot (c ∷ cs) room = by_taken (taken_at slot (c ∷ cs)) ref
     by_taken None e more = (slot + 2, refl, stopped slot c cs (inr (no_line slot (c ∷ cs) (omega arith) e)))
     by_taken (Some x) e more = behind_front slot (c ∷ cs) x.1 x.0 (lines_in k (slot + 1) x.1) (taken_is slot (c ∷ cs) x.0 x.1 e) (more x.1)
 
-pub found : (text : List ℕ) (notes : List (Option Place)) → lines_in max_slots 0 text ≡ Ok notes → text ≡ note_lines 0 notes
+pub found : (text : List ℕ) (notes : List (Option Place)) → lines_in max_lines 0 text ≡ Ok notes → text ≡ note_lines 0 notes
 unfolding Says
-found text notes e = subst (Says 0 text) e (lines_say max_slots 0 text refl)
+found text notes e = subst (Says 0 text) e (lines_say max_lines 0 text refl)
 
-pub refused : (text : List ℕ) (error : NotesError) → lines_in max_slots 0 text ≡ Err error → (line : ℕ) × (error ≡ Form line) × StopsAt 0 text line
+pub refused : (text : List ℕ) (error : NotesError) → lines_in max_lines 0 text ≡ Err error → (line : ℕ) × (error ≡ Form line) × StopsAt 0 text line
 unfolding Says
-refused text error e = subst (Says 0 text) e (lines_say max_slots 0 text refl)
+refused text error e = subst (Says 0 text) e (lines_say max_lines 0 text refl)

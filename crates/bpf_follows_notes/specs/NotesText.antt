@@ -10,6 +10,7 @@ use Rattle.bpf_follows_law.specs.declared.notes.Area.TheVariants.{Given, Own}
 use Rattle.bpf_follows_law.specs.declared.notes.Kind.{Kind}
 use Rattle.bpf_follows_law.specs.declared.notes.Kind.TheVariants.{Nothing, Unset, Same, Both, Number, Natural, Inner, Length, Sized, Ending, Closing, Offset, Fixed, Within, Start, Head, Base, Moved, Address, Saved, Kept, Constant, Counter, Turn, Alone, Returns}
 use Rattle.bpf_follows_law.specs.declared.notes.Place.{Place}
+use Rattle.bpf_follows_law.specs.Relation.{places}
 
 -- ---- what has a text
 
@@ -51,16 +52,25 @@ pub record PlaceFits (place : Place) : Type 0 where
   pub entry : place.entry < 2 ^ 32
   pub first : place.first < 2 ^ 32
   pub body : place.body < 2 ^ 32
-  pub all : length place.kinds ≡ 75
+  pub all : length place.kinds ≡ places
   pub kinds : AllByRecursion KindFits place.kinds
 
 abbrev pub NoteFits : Option Place → Type 0
 NoteFits None = Unit {0}
 NoteFits (Some place) = PlaceFits place
 
--- one for each slot of a program, and each has a text
+-- it says something of each place, if only that nothing is known
+abbrev pub SaysAll : Option Place → Type 0
+SaysAll None = Unit {0}
+SaysAll (Some place) = length place.kinds ≡ places
+
+-- one for each slot of a program, and one for behind its last
+abbrev pub max_lines : ℕ
+max_lines = max_slots + 1
+
+-- no more than that, and each has a text
 pub record AreNotes (notes : List (Option Place)) : Type 0 where
-  pub few : length notes ≤ max_slots
+  pub few : length notes ≤ max_lines
   pub each : AllByRecursion NoteFits notes
 
 -- ---- the text

@@ -1,10 +1,9 @@
 -- Why a text is none of notes: the first line that isn't one.
 use Rattle.std.specs.Prelude.{◌≡◌, ◌≢◌, ◌⊎◌, ℕ, ◌+◌, List, [], ◌++◌, length, Option}
-use Rattle.bpf_insn.specs.Limits.{max_slots}
 use Rattle.bpf_follows_law.specs.declared.notes.Place.{Place}
 use Rattle.bpf_follows_notes.specs.declared.error.NotesError.{NotesError}
 use Rattle.bpf_follows_notes.specs.declared.error.NotesError.TheVariants.{Form, Memory}
-use Rattle.bpf_follows_notes.specs.NotesText.{NoteFits, note_line, note_lines, head_line}
+use Rattle.bpf_follows_notes.specs.NotesText.{max_lines, NoteFits, note_line, note_lines, head_line}
 
 abbrev pub refusal_number : NotesError → ℕ
 refusal_number (Form line) = 1
@@ -25,7 +24,7 @@ pub record StopsAt (slot : ℕ) (text : List ℕ) (line : ℕ) : Type 0 where
   pub lines : text ≡ note_lines slot before ++ rest
   pub line_is : line ≡ slot + length before + 2
   pub more : rest ≢ []
-  pub stops : (slot + length before ≡ max_slots) ⊎ NoLine (slot + length before) rest
+  pub stops : (slot + length before ≡ max_lines) ⊎ NoLine (slot + length before) rest
 
 -- the first line isn't that of notes, or it is, and the lines behind it stop
 abbrev pub IsRefused : List ℕ → NotesError → Type 0

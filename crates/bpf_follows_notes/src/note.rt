@@ -1,6 +1,7 @@
 //! What a line says, if it is one of notes: what is read here is spelled again, and compared.
 
 ghost use Rattle.std.specs.Prelude.{◌≡◌, option_map};
+ghost use Rattle.bpf_follows_law.specs.Relation.{places};
 ghost use Rattle.bpf_follows_notes.specs.code.Reading.{register_at, plain_in, value_in, bounds_in, behind_in, saved_in, kept_in, closing_in, held_in, numbered_in, offset_in, area_in, kind_in, entry_in, kinds_in, nothing_said, place_in, note_in};
 
 use crate::digits::{int_in, number_in};
@@ -234,7 +235,7 @@ fn entry_in(text: &[u8]) -> Option<(u32, Kind, &[u8])>
 
 /// What the places hold, as far as it is said.
 fn kinds_in(text: &[u8]) -> Option<Kinds>
-    ensures { result ≡ kinds_in 75 nothing_said text.now }
+    ensures { result ≡ kinds_in places nothing_said text.now }
 {
     let mut kinds = [Kind::Nothing; PLACES];
     let mut rest = text;

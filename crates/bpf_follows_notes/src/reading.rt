@@ -1,10 +1,10 @@
 //! Reading notes: each line is looked at, spelled again and compared.
 
 ghost use Rattle.std.specs.Prelude.{◌≡◌, ◌⊎◌, ◌++◌, List, Option, Ok, Err, option_map, IfOk, IfErr, MatchResult};
-ghost use Rattle.bpf_insn.specs.Limits.{max_slots};
+ghost use Rattle.std.specs.List.{AllByRecursion};
 ghost use Rattle.bpf_follows_law.specs.declared.notes.Place.{Place};
 ghost use Rattle.bpf_follows_notes.specs.declared.error.NotesError.TheVariants.{Memory};
-ghost use Rattle.bpf_follows_notes.specs.NotesText.{AreNotes, notes_text};
+ghost use Rattle.bpf_follows_notes.specs.NotesText.{max_lines, AreNotes, SaysAll, notes_text};
 ghost use Rattle.bpf_follows_notes.specs.Refused.{IsRefused};
 ghost use Rattle.bpf_follows_notes.specs.code.Reading.{taken_at, lines_in};
 
@@ -15,6 +15,9 @@ use bpf_follows_law::Place;
 use bpf_insn::MAX_SLOTS;
 use bpf_lines::behind;
 use std::alloc::{AllocError, Global};
+
+/// The most lines behind the first: one for each slot of a program, and one for behind its last.
+const MAX_LINES: usize = MAX_SLOTS + 1;
 
 /// A note, and what stands behind its line.
 type Taken<'a> = Option<(Option<Place>, &'a [u8])>;
@@ -36,13 +39,13 @@ fn taken_at<'a>(line: &mut Vec<u8>, slot: usize, text: &'a [u8]) -> Result<Taken
 
 /// The notes of all lines.
 fn lines_in(alloc: Global, text: &[u8]) -> Result<Vec<Option<Place>>, NotesError>
-    ensures ok { IfOk result (λ notes. lines_in max_slots 0 text.now ≡ Ok notes.items) }
-    ensures err { IfErr result (λ error. (error ≡ Memory) ⊎ (lines_in max_slots 0 text.now ≡ Err error)) }
+    ensures ok { IfOk result (λ notes. lines_in max_lines 0 text.now ≡ Ok notes.items) }
+    ensures err { IfErr result (λ error. (error ≡ Memory) ⊎ (lines_in max_lines 0 text.now ≡ Err error)) }
 {
     let mut notes = Vec::new(alloc);
     let mut line = Vec::new(alloc);
     let mut rest = text;
-    for slot in 0..MAX_SLOTS {
+    for slot in 0..MAX_LINES {
         if rest.is_empty() {
             return Ok(notes);
         }
@@ -60,7 +63,7 @@ fn lines_in(alloc: Global, text: &[u8]) -> Result<Vec<Option<Place>>, NotesError
         Ok(notes)
     } else {
         Err(NotesError::Form {
-            line: MAX_SLOTS + 2,
+            line: MAX_LINES + 2,
         })
     }
 }
@@ -69,6 +72,7 @@ fn lines_in(alloc: Global, text: &[u8]) -> Result<Vec<Option<Place>>, NotesError
 pub fn read(alloc: Global, text: &[u8]) -> Result<Vec<Option<Place>>, NotesError>
     // What is read is spelled so.
     ensures found { IfOk result (λ notes. text.now ≡ notes_text notes.items) }
+    ensures whole { IfOk result (λ notes. AllByRecursion SaysAll notes.items) }
     // What is spelled so is read, unless memory runs out.
     ensures only { (notes : List (Option Place)) → AreNotes notes → text.now ≡ notes_text notes → MatchResult result (λ v. v.items ≡ notes) (λ error. error ≡ Memory) }
     ensures err { IfErr result (IsRefused text.now) }

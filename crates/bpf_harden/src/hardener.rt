@@ -67,7 +67,7 @@ fn lengths(length: u32, options: &Options) -> Result<(u32, u32), HardenError>
     if !options.padded {
         return Ok((length, length));
     }
-    match length.checked_sub(8) {
+    match length.checked_sub(options.head()) {
         Some(most) => Ok((0, most)),
         None => Err(HardenError::ShortBlock),
     }

@@ -144,7 +144,7 @@ impl<'a> Mender<'a> {
                 break;
             };
             last = next;
-            span = match self.old.kept(last).and_then(|insn| insn.access()) {
+            span = match self.old.access(last) {
                 Some(other) if other.base == access.base => span.with(Span::of(other)),
                 _ => span,
             };
@@ -162,11 +162,25 @@ impl<'a> Mender<'a> {
     /// Whether a register may hold an offset before its region that a displacement leads back into it. Only bounds of 32 bits count: notes
     /// know of no others.
     fn may_wrap(&self, slot: u32, base: Reg, off: i64) -> bool {
-        let is_below = match self.held(slot, base) {
+        let is_bounded = match self.held(slot, base) {
             RegState::Num(number) => number.unsigned().hi() <= u64::from(u32::MAX),
             RegState::Any | RegState::Ptr(_) => false,
         };
-        off > 0 && !is_below
+        off > 0 && !is_bounded
+    }
+
+    /// Tests the base itself again where a guard is exact, and by now no offset lies before the region. Whether there is one.
+    pub fn loosen(&self, plan: &mut Plan) -> bool {
+        let mut is_changed = false;
+        for slot in 0..self.old.program.slots() {
+            if let (Some(access), Some(guard)) = (self.old.access(slot), plan.at(slot).guard) {
+                if guard.exact && !self.may_wrap(slot, access.base, guard.span.from) {
+                    plan.set_guard(slot, Some(Guard::both(guard.span, false)));
+                    is_changed = true;
+                }
+            }
+        }
+        is_changed
     }
 
     /// What is known of a register in front of what stands in the place of an old instruction.

@@ -15,6 +15,9 @@ use std::alloc::{AllocError, Global};
 /// The most rounds. A round mends all faults or counts all loops of a depth, so few are needed.
 const ROUNDS: u32 = 48;
 
+/// How often a text that has a certificate is trimmed at most.
+const TRIMS: u32 = 4;
+
 /// A plan, and whether its operations were made wider.
 #[derive(Drop)]
 struct Rounds<'a> {
@@ -115,27 +118,33 @@ impl<'a> Rounds<'a> {
         Err(HardenError::NoBudget { slot: 0 })
     }
 
-    /// Takes the tests away that never hold, and folds offsets that are always the same. Whether there was something.
+    /// Takes the tests away that never hold, and folds offsets that are always the same; where there is nothing of these, loosens
+    /// guards. Whether there was something. Tests against a packet's own end stay as they are.
     fn trim(&mut self, trial: &Trial) -> bool {
         let old = self.old;
         let mender = Mender { old, trial };
-        let is_slimmer = slim(&mut self.plan, trial);
-        mender.fold(&mut self.plan) || is_slimmer
+        let may_change = !self.plan.options.padded;
+        let is_slimmer = may_change && slim(&mut self.plan, trial);
+        let is_folded = mender.fold(&mut self.plan);
+        is_slimmer || is_folded || may_change && mender.loosen(&mut self.plan)
     }
 
-    /// The trimmed text, if it has a certificate.
+    /// The last of the trimmed texts that has a certificate.
     fn trimmed<W: Watch>(
         &mut self,
-        trial: Trial,
+        mut trial: Trial,
         meter: &mut Meter<'_, W>,
     ) -> Result<Trial, HardenError> {
-        if !self.trim(&trial) {
-            return Ok(trial);
+        for _ in 0..TRIMS {
+            if !self.trim(&trial) {
+                break;
+            }
+            match Trial::of(self.alloc, self.old, &self.plan, meter) {
+                Ok(slimmer) if matches!(slimmer.verdict, Verdict::Yes) => trial = slimmer,
+                _ => break,
+            }
         }
-        match Trial::of(self.alloc, self.old, &self.plan, meter) {
-            Ok(slimmer) if matches!(slimmer.verdict, Verdict::Yes) => Ok(slimmer),
-            _ => Ok(trial),
-        }
+        Ok(trial)
     }
 }
 
@@ -193,7 +202,7 @@ fn count_all(old: &Old, plan: &mut Plan) -> bool {
 /// Plans a guard in front of each access by an offset.
 pub fn guard_all(old: &Old, plan: &mut Plan) {
     for slot in 0..old.program.slots() {
-        if let Some(access) = old.kept(slot).and_then(|insn| insn.access()) {
+        if let Some(access) = old.access(slot) {
             if plan.is_offset(old.kind(slot, access.base), access.base) {
                 plan.set_guard(slot, Some(Guard::both(Span::of(access), access.off != 0)));
             }
@@ -205,7 +214,7 @@ pub fn guard_all(old: &Old, plan: &mut Plan) {
 /// come from an instruction that reads such a register.
 fn first_unknown(old: &Old) -> Result<(), HardenError> {
     for slot in 0..old.program.slots() {
-        if let Some(access) = old.kept(slot).and_then(|insn| insn.access()) {
+        if let Some(access) = old.access(slot) {
             if matches!(old.kind(slot, access.base), Kind::Unknown | Kind::Number) {
                 return Err(old.unknown_base(slot));
             }

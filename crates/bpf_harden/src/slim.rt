@@ -50,12 +50,9 @@ fn without(trial: &Trial, new: u32, guard: Guard) -> Guard {
     }
 }
 
-/// Takes away the tests of guards that never hold. Whether there was one. Those against a packet's own end stay.
+/// Takes away the tests of guards that never hold. Whether there was one.
 pub fn slim(plan: &mut Plan, trial: &Trial) -> bool {
     let mut is_changed = false;
-    if plan.options.padded {
-        return false;
-    }
     for new in 0..trial.draft.program.slots() {
         let owner = trial.draft.owner(new);
         if owner.change == Some(Change::Guard) && plan.at(owner.old).constant.is_none() {

@@ -2,8 +2,7 @@
 
 use crate::mend::Mender;
 use bpf_harden_plan::{Early, Kind, Plan, Span};
-use bpf_insn::{AluOp, Insn, Operand, Reg, Width};
-use bpf_state::FRAME_START;
+use bpf_insn::{AluOp, FRAME_BYTES, Insn, Operand, Reg, Width};
 
 /// How many instructions may lie between a sum and the access.
 const FARTHEST: u32 = 16;
@@ -54,7 +53,7 @@ impl<'a> Sums<'a> {
     /// The offset at which the region ends.
     fn end(&self, plan: &Plan) -> i64 {
         match self.mender.old.kind(self.access, self.base) {
-            Kind::Frame => 0i64.saturating_sub(FRAME_START),
+            Kind::Frame => FRAME_BYTES as i64,
             Kind::Context | Kind::Number | Kind::Unknown => i64::from(plan.length),
         }
     }

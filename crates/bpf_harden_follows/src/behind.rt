@@ -135,14 +135,9 @@ fn touches(access: Access, slot: u8) -> bool {
     first < low.saturating_add(8) && low < end
 }
 
-/// Whether the instruction writes to a slot, or may do so, where other registers than r10 leave so many of the frame's lowest bytes alone.
-fn writes(site: &Site, slot: u8, untouched: u32) -> bool {
-    let Some(access) = site.insn.access() else {
-        return false;
-    };
-    if !access.writes {
-        return false;
-    }
+/// Whether the instruction, whose access writes, writes to a slot, or may do so, where other registers than r10 leave so many of the
+/// frame's lowest bytes alone.
+fn writes(site: &Site, access: Access, slot: u8, untouched: u32) -> bool {
     if access.base == Reg::R10 {
         return touches(access, slot);
     }
@@ -151,9 +146,12 @@ fn writes(site: &Site, slot: u8, untouched: u32) -> bool {
 
 /// The instruction writes to the frame, or may do so.
 fn write_frame(facts: &mut Facts, site: &Site, untouched: u32) {
+    let Some(access) = site.insn.access().filter(|access| access.writes) else {
+        return;
+    };
     let kind = stored(facts, &site.insn);
     for slot in 0..SLOTS {
-        if writes(site, slot, untouched) {
+        if writes(site, access, slot, untouched) {
             let is_known = !is_blurred(site, slot + REGISTERS as u8);
             facts.put(
                 usize::from(slot).saturating_add(REGISTERS),

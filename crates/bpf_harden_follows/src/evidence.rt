@@ -68,14 +68,14 @@ pub fn evidence_of(
         untouched: 0,
         ..runs
     };
-    let first = judged(alloc, old, new, each)?;
-    if first.mismatch.is_none() {
-        return Ok(first);
-    }
     let fewer = Bounds {
         untouched: taken(new),
         ..runs
     };
+    let first = judged(alloc, old, new, each)?;
+    if first.mismatch.is_none() || fewer.untouched == 0 {
+        return Ok(first);
+    }
     let second = judged(alloc, old, new, fewer)?;
     if second.mismatch.is_none() {
         Ok(second)

@@ -215,6 +215,10 @@ fn guarded(kind: Kind, cond: Cond, imm: i32) -> Kind {
     };
     match (kind, ends_of(kind), cond) {
         (Kind::Inner { .. }, _, _) => kind,
+        (Kind::Both | Kind::Natural { .. }, _, Cond::Gt) => Kind::Number {
+            least: 0,
+            most: bound,
+        },
         (Kind::Offset { area }, _, Cond::Gt) => Kind::Within {
             area,
             least: 0,

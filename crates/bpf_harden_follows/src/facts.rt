@@ -229,6 +229,11 @@ fn higher(most: u32, high: u32, stops: &[u32]) -> u32 {
         .unwrap_or(0xffff_ffff)
 }
 
+/// Whether it is the pointer to the context's start.
+fn is_base(kind: Kind) -> bool {
+    matches!(kind, Kind::Start | Kind::Head | Kind::Base)
+}
+
 /// What holds on both ways to a place.
 fn joined(r: Reg, a: Kind, b: Kind) -> Kind {
     if a == b {
@@ -243,12 +248,12 @@ fn joined(r: Reg, a: Kind, b: Kind) -> Kind {
         return joined_numbers(a, b);
     }
     match (a, b) {
-        (Kind::Start, Kind::Base) | (Kind::Base, Kind::Start) => Kind::Base,
         (Kind::Closing { by, .. }, Kind::Ending { by: more } | Kind::Closing { by: more, .. })
         | (Kind::Ending { by: more }, Kind::Closing { by, .. })
             if by == more => Kind::Ending { by },
         (Kind::Constant { .. }, Kind::Counter { head })
         | (Kind::Counter { head }, Kind::Constant { .. }) => Kind::Counter { head },
+        _ if is_base(a) && is_base(b) => Kind::Base,
         _ => Kind::Nothing,
     }
 }

@@ -6,7 +6,6 @@ mod behind;
 mod evidence;
 mod extra;
 mod facts;
-mod lists;
 mod places;
 mod returns;
 

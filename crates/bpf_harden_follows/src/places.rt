@@ -1,15 +1,14 @@
-//! The places of a hardened program, by the slots of the old one: an abstract interpretation of both, with widening. The lowest slot is looked
-//! at first, so that a loop is settled before what stands behind it.
+//! The places of a hardened program, by the slots of the old one: an abstract interpretation of both, with widening (Cousot and Cousot,
+//! 1977). The lowest slot is looked at first, so that a loop is settled before what stands behind it.
 
 use crate::behind::{Frames, step};
 use crate::extra::{pass, taken, tested};
 use crate::facts::Facts;
-use crate::lists::{at, put};
 use crate::returns::Returns;
 use bpf_follows::{is_far, is_homed, is_stuck, may_fall, may_lead};
 use bpf_follows_law::{Bounds, Kind, PLACES, Place, Site};
 use bpf_harden_notes::{Change, Hardened};
-use bpf_infer_base::SlotSet;
+use bpf_infer_base::{Call, SlotSet, calls_of, get_or, held, put};
 use bpf_insn::{AluOp, Insn, MAX_SLOTS, Operand, Program, Reg, Width, target};
 use std::alloc::{AllocError, Global};
 
@@ -54,6 +53,8 @@ struct Finder<'a> {
     returns: Returns,
     /// The numbers next to which the old program's tests are.
     stops: Vec<u32>,
+    /// The old program's calls.
+    calls: Vec<Call>,
 }
 
 /// The slot to which an instruction jumps or calls.
@@ -111,11 +112,11 @@ impl<'a> Finder<'a> {
     ) -> Result<Finder<'a>, AllocError> {
         let mut changes = vec![in alloc; None; new.program.slots() as usize]?;
         for note in &new.notes {
-            put(&mut changes, note.new, Some(note.change));
+            put(&mut changes, note.new as usize, Some(note.change));
         }
         let mut entries = vec![in alloc; None; old.slots() as usize]?;
         for function in &new.functions {
-            put(&mut entries, function.old, Some(function.new));
+            put(&mut entries, function.old as usize, Some(function.new));
         }
         Ok(Finder {
             old,
@@ -130,6 +131,7 @@ impl<'a> Finder<'a> {
             times: vec![in alloc; 0; old.slots() as usize]?,
             returns: Returns::new(alloc, old.slots())?,
             stops: stops_of(alloc, old)?,
+            calls: calls_of(alloc, old)?,
         })
     }
 
@@ -138,10 +140,10 @@ impl<'a> Finder<'a> {
     /// Where what stands for an old slot begins: behind a CALL with the test of what came back, and behind an access with what gives registers
     /// back what they held.
     fn first(&self, slot: u32) -> Option<u32> {
-        let mut first = at(&self.new.slots, slot)?;
+        let mut first = get_or(&self.new.slots, slot as usize, None)?;
         for _ in 0..MOST_EXTRA {
             let before = first.saturating_sub(1);
-            match at(&self.changes, before) {
+            match get_or(&self.changes, before as usize, None) {
                 Some(Change::Returned | Change::Save | Change::Address) => first = before,
                 _ => return Some(first),
             }
@@ -152,13 +154,13 @@ impl<'a> Finder<'a> {
     /// Where calls of a function lead that begins at an old slot; else as `first`.
     fn entry(&self, slot: u32) -> Option<u32> {
         let first = self.first(slot)?;
-        Some(at(&self.entries, slot).unwrap_or(first))
+        Some(get_or(&self.entries, slot as usize, None).unwrap_or(first))
     }
 
     /// Whether the new instruction at a slot stands for the old one itself.
     fn is_body(&self, slot: u32) -> bool {
         matches!(
-            at(&self.changes, slot),
+            get_or(&self.changes, slot as usize, None),
             None | Some(Change::Access | Change::Widened | Change::Offset)
         )
     }
@@ -199,8 +201,8 @@ impl<'a> Finder<'a> {
 
     /// The place from which a turn is taken in front of an old slot.
     fn counter(&self, old: u32) -> Option<usize> {
-        let first = at(&self.new.slots, old)?;
-        if at(&self.changes, first) != Some(Change::Turn) {
+        let first = get_or(&self.new.slots, old as usize, None)?;
+        if get_or(&self.changes, first as usize, None) != Some(Change::Turn) {
             return None;
         }
         let begin = self.new.program.at(first)?;
@@ -238,8 +240,8 @@ impl<'a> Finder<'a> {
         self.returns.reach(slot, owner);
         let mut found = *facts;
         let mut is_new = true;
-        let times = self.times.get(slot as usize).copied().unwrap_or(0);
-        if let Some(before) = at(&self.facts, slot) {
+        let times = get_or(&self.times, slot as usize, 0);
+        if let Some(before) = get_or(&self.facts, slot as usize, None) {
             found = before;
             is_new = found.join(facts, self.stops_at(times, slot <= from));
         }
@@ -249,8 +251,8 @@ impl<'a> Finder<'a> {
             }
         }
         if is_new {
-            put(&mut self.times, slot, times.saturating_add(1));
-            put(&mut self.facts, slot, Some(found));
+            put(&mut self.times, slot as usize, times.saturating_add(1));
+            put(&mut self.facts, slot as usize, Some(found));
             self.waiting.add(slot);
         }
     }
@@ -278,11 +280,9 @@ impl<'a> Finder<'a> {
 
     /// Looks again at each call of the function that begins at an old slot.
     fn call_again(&mut self, function: u32) {
-        for slot in 0..self.old.slots() {
-            if let Some(insn) = self.old.at(slot) {
-                if matches!(*insn, Insn::CallLocal { .. }) && led(slot, insn) == Some(function) {
-                    self.waiting.add(slot);
-                }
+        for call in &self.calls {
+            if call.target == function {
+                self.waiting.add(call.slot);
             }
         }
     }
@@ -313,16 +313,12 @@ impl<'a> Finder<'a> {
     /// Calls of which no EXIT is found may give back anything. Whether there was one.
     fn unanswered(&mut self) -> bool {
         let mut is_found = false;
-        for slot in 0..self.old.slots() {
-            let (Some(_facts), Some(insn)) = (at(&self.facts, slot), self.old.at(slot)) else {
-                continue;
-            };
-            if let (Insn::CallLocal { .. }, Some(to)) = (*insn, led(slot, insn)) {
-                if self.returns.given(to).is_none() {
-                    self.returns.give(to, Kind::Same);
-                    self.waiting.add(slot);
-                    is_found = true;
-                }
+        for call in &self.calls {
+            let is_met = held(&self.facts, call.slot as usize).is_some();
+            if is_met && self.returns.given(call.target).is_none() {
+                self.returns.give(call.target, Kind::Same);
+                self.waiting.add(call.slot);
+                is_found = true;
             }
         }
         is_found
@@ -349,7 +345,8 @@ impl<'a> Finder<'a> {
     /// Whether an instruction may reach the frames of other functions, where all that leads to it is known.
     fn is_reaching(&self) -> bool {
         let reaches = |slot| {
-            let site = at(&self.facts, slot).and_then(|facts| self.site(slot, &facts));
+            let facts = get_or(&self.facts, slot as usize, None);
+            let site = facts.and_then(|facts| self.site(slot, &facts));
             site.is_some_and(|site| is_far(&site.insn) && !is_homed(&site))
         };
         (0..self.old.slots()).any(reaches)
@@ -381,7 +378,7 @@ impl<'a> Finder<'a> {
                 return;
             };
             self.looks = self.looks.saturating_sub(1);
-            if let Some(facts) = at(&self.facts, slot) {
+            if let Some(facts) = get_or(&self.facts, slot as usize, None) {
                 self.go_on(slot, &facts);
             }
         }
@@ -389,7 +386,7 @@ impl<'a> Finder<'a> {
 
     /// What stands for an old slot, if a way leads there.
     fn place(&self, slot: u32) -> Option<Place> {
-        let mut facts = at(&self.facts, slot)?;
+        let mut facts = get_or(&self.facts, slot as usize, None)?;
         if let Some(Kind::Number { least, most }) = self.returns.of(slot) {
             facts.set(Reg::R10, Kind::Returns { least, most });
         }

@@ -1,8 +1,8 @@
 //! What functions give back to those that call them.
 
 use crate::facts::{grown, joined_numbers};
-use crate::lists::{at, put};
 use bpf_follows_law::Kind;
+use bpf_infer_base::{get_or, put};
 use std::alloc::{AllocError, Global};
 
 /// How often bounds grow before they grow at once.
@@ -36,19 +36,19 @@ impl Returns {
 
     /// A way leads to a slot in the function that begins at `owner`.
     pub fn reach(&mut self, slot: u32, owner: u32) {
-        if at(&self.owners, slot).is_none() {
-            put(&mut self.owners, slot, Some(owner));
+        if get_or(&self.owners, slot as usize, None).is_none() {
+            put(&mut self.owners, slot as usize, Some(owner));
         }
     }
 
     /// Where the function begins that a slot belongs to.
     pub fn owner(&self, slot: u32) -> u32 {
-        at(&self.owners, slot).unwrap_or(0)
+        get_or(&self.owners, slot as usize, None).unwrap_or(0)
     }
 
     /// What a function gives back, if an EXIT of it is found.
     pub fn given(&self, function: u32) -> Option<Kind> {
-        at(&self.given, function)
+        get_or(&self.given, function as usize, None)
     }
 
     /// What the function gives back that a slot belongs to, if it is called.
@@ -61,7 +61,7 @@ impl Returns {
 
     /// An EXIT of a function gives this back. Whether that is new.
     pub fn give(&mut self, function: u32, kind: Kind) -> bool {
-        let times = self.times.get(function as usize).copied().unwrap_or(0);
+        let times = get_or(&self.times, function as usize, 0);
         let number = match kind {
             Kind::Number { .. } => kind,
             _ => Kind::Same,
@@ -78,8 +78,8 @@ impl Returns {
                 return false;
             }
         }
-        put(&mut self.given, function, Some(found));
-        put(&mut self.times, function, times.saturating_add(1));
+        put(&mut self.given, function as usize, Some(found));
+        put(&mut self.times, function as usize, times.saturating_add(1));
         true
     }
 }

@@ -28,7 +28,7 @@ harden_texts =
     codes "recursion by the call" ∷
     codes "no argument left for the context in the function" ∷
     codes "instruction can't be hardened" ∷
-    codes "no budget for the label" ∷
+    codes "no budget is found for the loop, or at slot 0 for the program" ∷
     codes "the jump would lead too far" ∷
     codes "states of the function aren't stable" ∷
     codes "a block has at least the eight bytes of its length" ∷

@@ -31,7 +31,8 @@ pub enum HardenError {
     /// H7: the checker would refuse the instruction at the slot, and no change makes it take it.
     #[error("at slot {slot}: {}: {condition}", self.text())]
     Fault { slot: u32, condition: Condition },
-    /// H8: the budget of the loop at the slot is over a limit, or of the whole program where it is slot 0.
+    /// H8: the budget of the loop at the slot is over a limit, or of the whole program where it is slot 0, or isn't found though
+    /// the loop has a counter of turns; at slot 0 also where 48 rounds weren't enough.
     #[error("at slot {slot}: {}", self.text())]
     NoBudget { slot: u32 },
     /// H9: the jump at the slot would lead further than 32,767 slots.
@@ -83,7 +84,7 @@ impl HardenError {
             5 => Some("recursion by the call"),
             6 => Some("no argument left for the context in the function"),
             7 => Some("instruction can't be hardened"),
-            8 => Some("no budget for the label"),
+            8 => Some("no budget is found for the loop, or at slot 0 for the program"),
             9 => Some("the jump would lead too far"),
             10 => Some("states of the function aren't stable"),
             11 => Some("a block has at least the eight bytes of its length"),
@@ -127,39 +128,18 @@ impl HardenError {
         ensures same { result ≡ within slots self }
         ensures inside { harden_slot result < slots }
     {
-        let last = slots - 1;
+        let slot = self.slot().min(slots - 1);
         match self {
-            HardenError::FramePointer { slot } => HardenError::FramePointer {
-                slot: slot.min(last),
-            },
-            HardenError::MixedKinds { slot } => HardenError::MixedKinds {
-                slot: slot.min(last),
-            },
-            HardenError::FullFrame { slot } => HardenError::FullFrame {
-                slot: slot.min(last),
-            },
-            HardenError::TooLong { slot } => HardenError::TooLong {
-                slot: slot.min(last),
-            },
-            HardenError::Recursion { slot } => HardenError::Recursion {
-                slot: slot.min(last),
-            },
-            HardenError::FiveArguments { slot } => HardenError::FiveArguments {
-                slot: slot.min(last),
-            },
-            HardenError::Fault { slot, condition } => HardenError::Fault {
-                slot: slot.min(last),
-                condition,
-            },
-            HardenError::NoBudget { slot } => HardenError::NoBudget {
-                slot: slot.min(last),
-            },
-            HardenError::FarJump { slot } => HardenError::FarJump {
-                slot: slot.min(last),
-            },
-            HardenError::Unstable { slot } => HardenError::Unstable {
-                slot: slot.min(last),
-            },
+            HardenError::FramePointer { .. } => HardenError::FramePointer { slot },
+            HardenError::MixedKinds { .. } => HardenError::MixedKinds { slot },
+            HardenError::FullFrame { .. } => HardenError::FullFrame { slot },
+            HardenError::TooLong { .. } => HardenError::TooLong { slot },
+            HardenError::Recursion { .. } => HardenError::Recursion { slot },
+            HardenError::FiveArguments { .. } => HardenError::FiveArguments { slot },
+            HardenError::Fault { condition, .. } => HardenError::Fault { slot, condition },
+            HardenError::NoBudget { .. } => HardenError::NoBudget { slot },
+            HardenError::FarJump { .. } => HardenError::FarJump { slot },
+            HardenError::Unstable { .. } => HardenError::Unstable { slot },
             HardenError::ShortBlock => HardenError::ShortBlock,
             HardenError::Memory => HardenError::Memory,
         }

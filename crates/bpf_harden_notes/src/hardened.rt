@@ -10,8 +10,8 @@ pub struct Hardened {
     /// By slots of the old program, where its instruction is in the new one, with what was put in front of it. None where it
     /// was left out, and at second slots.
     pub slots: Vec<Option<u32>>,
-    /// By the functions' first slots.
+    /// By the functions' first slots. Empty where the program came out unchanged.
     pub functions: Vec<FunctionNote>,
-    /// By their slots in the new program. None where the program came out unchanged.
+    /// By their slots in the new program. Empty where the program came out unchanged.
     pub notes: Vec<Note>,
 }

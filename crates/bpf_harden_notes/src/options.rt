@@ -1,7 +1,6 @@
 //! What is asked of a hardening.
 
-/// The turns of a loop that a counter allows unless something else is said.
-pub const USUAL_TURNS: u32 = 65536;
+use bpf_packets::HEAD_BYTES;
 
 /// What is asked of a hardening.
 #[derive(Clone, Copy, Debug)]
@@ -18,13 +17,8 @@ pub struct Options {
 }
 
 impl Options {
-    /// 65,536 turns, 0 where a trap ends the program, no block.
-    pub fn usual() -> Options {
-        Options {
-            turns: USUAL_TURNS,
-            otherwise: 0,
-            padded: false,
-            everywhere: false,
-        }
+    /// How many bytes of a context stand in front of the first one that the old program may access.
+    pub fn head(&self) -> u32 {
+        if self.padded { HEAD_BYTES } else { 0 }
     }
 }

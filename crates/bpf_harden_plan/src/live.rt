@@ -22,14 +22,10 @@ impl Liveness {
 
     /// The registers that are read behind an instruction.
     pub fn after(&self, slot: u32, insn: &Insn) -> PlaceSet {
-        let mut live = PlaceSet::NONE;
-        if insn.goes_on() {
-            live = self.before(slot.saturating_add(insn.slots()));
-        }
-        if let Some(target) = Flow::of(slot, insn).jump() {
-            live = live.union(self.before(target));
-        }
-        live
+        Flow::ways(slot, insn)
+            .into_iter()
+            .flatten()
+            .fold(PlaceSet::NONE, |live, way| live.union(self.before(way)))
     }
 
     /// The arguments that a function reads which begins at a slot.

@@ -9,7 +9,7 @@ use bpf_harden_notes::HardenError;
 use bpf_infer_base::{Cfg, Flow, Meter, PlaceSet, Quest, Task, Watch, get_or};
 use bpf_infer_error::InferError;
 use bpf_infer_states::{Survey, surveyed};
-use bpf_insn::{Insn, Program, Reg};
+use bpf_insn::{Access, Insn, Program, Reg};
 use bpf_state::Place;
 use std::alloc::{AllocError, Global};
 
@@ -107,26 +107,22 @@ impl<'a> Old<'a> {
         uses
     }
 
-    /// Makes each function need the context that calls one which does. A call more deepens what is known, and there are at most
-    /// eight functions on a way.
+    /// Makes each function need the context that calls one which does, callees first.
     fn hand_on(&mut self) {
-        for _ in 0..8 {
-            for slot in 0..self.program.slots() {
-                self.hand_on_at(slot);
+        for number in 0..self.count() {
+            let function = get_or(&self.cfg.callees_first, number, 0);
+            let hands_on = self.hands_on(function);
+            if let Some(uses) = self.uses.get_mut(function) {
+                uses.needs_context = uses.needs_context || hands_on;
             }
         }
     }
 
-    /// As `hand_on` for the call at a slot.
-    fn hand_on_at(&mut self, slot: u32) {
-        if let Some(callee) = self.callee(slot) {
-            if self.uses(callee).needs_context {
-                let caller = self.function(slot);
-                if let Some(uses) = self.uses.get_mut(caller) {
-                    uses.needs_context = true;
-                }
-            }
-        }
+    /// Whether a function calls one that needs the context.
+    fn hands_on(&self, function: usize) -> bool {
+        let uses = self.uses(function);
+        let mut callees = (uses.first..uses.end).filter_map(|slot| self.callee(slot));
+        callees.any(|callee| self.uses(callee).needs_context)
     }
 
     /// The number of the function that the instruction at a slot calls.
@@ -144,6 +140,11 @@ impl<'a> Old<'a> {
         self.program
             .at(slot)
             .filter(|_insn| self.survey.is_reached(slot))
+    }
+
+    /// Of what is kept at a slot, the load or store.
+    pub fn access(&self, slot: u32) -> Option<Access> {
+        self.kept(slot)?.access()
     }
 
     /// The slot behind an instruction that leads there alone, and to which nothing else leads.

@@ -151,7 +151,7 @@ impl Plan {
 
     /// The offset at which what the old program may access of the context begins.
     pub fn start(&self) -> i64 {
-        if self.options.padded { 8 } else { 0 }
+        i64::from(self.options.head())
     }
 
     /// Whether a register of a kind holds offsets, where it is the base of an access.

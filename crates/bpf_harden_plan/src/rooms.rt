@@ -173,12 +173,8 @@ impl Rooms {
         for function in 0..old.count() {
             rooms.furnish(old, plan, function)?;
         }
-        for function in 0..old.count() {
-            rooms.note_traps(old, plan, function);
-        }
-        // A call deepens what is known, and there are at most eight functions on a way.
-        for _ in 0..8 {
-            rooms.pass_traps_on(old);
+        for function in &old.cfg.callees_first {
+            rooms.note_traps(old, plan, *function);
         }
         Ok(rooms)
     }
@@ -261,36 +257,30 @@ impl Rooms {
         spare_of(get_or(&old.survey.rets, function, Num::top()))
     }
 
-    /// Takes note whether a function may come to a trap of its own.
+    /// Takes note whether a function may come to a trap. Those that it calls come before it.
     fn note_traps(&mut self, old: &Old, plan: &Plan, function: usize) {
         let uses = old.uses(function);
         let may_trap = |slot| {
             let planned = plan.at(slot);
-            planned.guard.is_some() || planned.counts || leads_out(old, plan, slot)
+            planned.guard.is_some()
+                || planned.counts
+                || leads_out(old, plan, slot)
+                || self.calls_trap(old, slot)
         };
         let room = self.room(function);
         let reads_length = function == 0 || room.end.is_some() && room.handed_end.is_none();
         let is_short = plan.options.padded && reads_length;
-        self.set_traps(function, is_short || (uses.first..uses.end).any(may_trap));
-    }
-
-    /// Takes note whether a function may come to a trap.
-    fn set_traps(&mut self, function: usize, traps: bool) {
+        let traps = is_short || (uses.first..uses.end).any(may_trap);
         if let Some(room) = self.rooms.get_mut(function) {
             room.traps = traps;
         }
     }
 
-    /// Makes each function come to a trap that calls one which comes to a trap that is told from what it returns.
-    fn pass_traps_on(&mut self, old: &Old) {
-        for slot in 0..old.program.slots() {
-            if let Some(callee) = old.callee(slot) {
-                let room = self.room(callee);
-                if room.traps && room.spare.is_some() {
-                    self.set_traps(old.function(slot), true);
-                }
-            }
-        }
+    /// Whether the instruction at a slot calls a function that may come to a trap, told from what it returns.
+    fn calls_trap(&self, old: &Old, slot: u32) -> bool {
+        old.callee(slot)
+            .map(|callee| self.room(callee))
+            .is_some_and(|room| room.traps && room.spare.is_some())
     }
 }
 
@@ -335,7 +325,8 @@ fn leads_out(old: &Old, plan: &Plan, slot: u32) -> bool {
     let Some(insn) = plan.kept(old, slot) else {
         return false;
     };
-    let next = slot.saturating_add(insn.slots());
-    let target = Flow::of(slot, insn).jump().unwrap_or(slot);
-    plan.kept(old, target).is_none() || insn.goes_on() && plan.kept(old, next).is_none()
+    Flow::ways(slot, insn)
+        .into_iter()
+        .flatten()
+        .any(|way| plan.kept(old, way).is_none())
 }

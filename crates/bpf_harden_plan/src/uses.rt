@@ -25,7 +25,7 @@ pub const BY_CHOICE: [Reg; 10] = [
 /// What a function uses by itself.
 #[derive(Clone, Copy)]
 pub struct Uses {
-    /// Its first slot, and the one after it.
+    /// Its first slot, and the one behind its last.
     pub first: u32,
     pub end: u32,
     /// The registers that it reads or changes, or is given.

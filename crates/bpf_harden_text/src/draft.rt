@@ -136,6 +136,12 @@ fn led(piece: &Piece, distance: i32) -> Result<Insn, HardenError> {
         } else {
             Err(HardenError::FarJump { slot: piece.old })
         },
-        other => Ok(other),
+        Insn::Alu { .. } | Insn::Neg { .. } | Insn::MovSx { .. } | Insn::End { .. } => {
+            Ok(piece.insn)
+        }
+        Insn::LoadImm64 { .. } | Insn::Load { .. } | Insn::LoadSx { .. } => Ok(piece.insn),
+        Insn::Store { .. } | Insn::StoreImm { .. } | Insn::Atomic { .. } | Insn::Exit => {
+            Ok(piece.insn)
+        }
     }
 }

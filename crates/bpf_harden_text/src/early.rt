@@ -9,7 +9,7 @@ impl<'a> Writer<'a> {
     /// Tests what is added to the base of an access.
     pub fn test_early(&mut self, early: Early) -> Result<(), AllocError> {
         let room = self.rooms.room(self.old.function(early.access));
-        let Some(access) = self.old.kept(early.access).and_then(|insn| insn.access()) else {
+        let Some(access) = self.old.access(early.access) else {
             return Ok(());
         };
         let kind = self.old.kind(early.access, access.base);

@@ -186,7 +186,8 @@ impl<'a> Writer<'a> {
     }
 }
 
-/// The text of a program under a plan. H3 where the frame has no room, H4 and H9 where it would be too long.
+/// The text of a program under a plan. H3 where the frame has no room, H4 where it would be too long, H9 where a jump would
+/// lead too far.
 pub fn emitted(alloc: Global, old: &Old, plan: &Plan, rooms: &Rooms) -> Result<Draft, HardenError> {
     let mut writer = Writer::new(alloc, old, plan, rooms)?;
     writer.put_all()?;

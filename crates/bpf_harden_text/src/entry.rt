@@ -10,9 +10,6 @@ use bpf_insn::{Cond, Insn, Operand, Reg};
 use bpf_state::Place;
 use std::alloc::AllocError;
 
-/// How many bytes say how long a block's packet is.
-const LENGTH_BYTES: u32 = 8;
-
 impl<'a> Writer<'a> {
     /// Puts what stands at the entry of a function.
     pub fn enter(&mut self, function: usize) -> Result<(), AllocError> {
@@ -91,7 +88,7 @@ impl<'a> Writer<'a> {
 
     /// Puts the length of a block's packet into a register, or leads to the trap if it is more than a block has.
     fn read_length(&mut self, slot: u32, context: Reg, length: Reg) -> Result<(), AllocError> {
-        let most = self.plan.length.saturating_sub(LENGTH_BYTES);
+        let most = self.plan.length.saturating_sub(self.plan.options.head());
         self.add(slot, load(length, context, 0), Change::Length)?;
         let src = Operand::Imm(constant(i64::from(most)));
         self.trap_if(slot, Cond::Gt, length, src, Change::Length)
@@ -99,7 +96,7 @@ impl<'a> Writer<'a> {
 
     /// Keeps the offset at which a block's packet ends.
     fn keep_end(&mut self, slot: u32, length: Reg, room: Room) -> Result<(), AllocError> {
-        let more = constant(i64::from(LENGTH_BYTES));
+        let more = constant(self.plan.start());
         match room.end {
             Some(Place::Register(end)) => {
                 self.add(slot, copy(end, length), Change::Length)?;

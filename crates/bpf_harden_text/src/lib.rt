@@ -15,6 +15,5 @@ mod share;
 mod temps;
 mod writer;
 
-pub use draft::{Draft, Owner};
+pub use draft::Draft;
 pub use emit::emitted;
-pub use piece::{Goal, Piece};

@@ -1,11 +1,9 @@
 //! The regions of memory that accesses by offsets go to.
 
+use crate::edits::FRAME_END;
 use bpf_harden_plan::{Kind, Plan, Room};
-use bpf_insn::{FRAME_BYTES, Reg};
+use bpf_insn::Reg;
 use bpf_state::Place;
-
-/// The offset that stands for a frame's end.
-const FRAME_END: i64 = FRAME_BYTES as i64;
 
 /// What an access by an offset goes to.
 #[derive(Clone, Copy)]
@@ -34,12 +32,13 @@ impl Region {
                 })
             }
             Kind::Frame if plan.frames => {
-                let depth = i64::from(room.frame).min(FRAME_END);
+                let end = i64::from(FRAME_END);
+                let depth = i64::from(room.frame).min(end);
                 Some(Region {
-                    start: FRAME_END.saturating_sub(depth),
+                    start: end.saturating_sub(depth),
                     bytes: depth,
                     base: Place::Register(Reg::R10),
-                    origin: FRAME_END,
+                    origin: end,
                     end: None,
                 })
             }

@@ -68,7 +68,7 @@ impl<'a> Writer<'a> {
         }
     }
 
-    /// Takes a register: it is saved, if it is to be, and else a pointer that was made is gone where it is free.
+    /// Takes a register: saves it, if it is to be saved; a pointer that was made in a free one is gone.
     pub fn take(&mut self, slot: u32, temp: Temp) -> Result<(), AllocError> {
         match temp.way {
             Way::Free => self.forget(temp.register),

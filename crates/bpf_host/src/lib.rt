@@ -12,6 +12,7 @@ ghost use Rattle.bpf_host_runs.specs.Told.{order_named, IsVerdictOf};
 ghost use Rattle.bpf_host_runs.specs.Prepared.{IsPrepared, IsMarked, prepared_head, version};
 ghost use Rattle.bpf_host_runs.specs.Loaded.{handle_head, IsLoaded, IsMarkedHandle, HoldsLoaded, EndsAsLoaded, loaded_least, loaded_most};
 ghost use Rattle.bpf_host_runs.specs.Answers.{IsRefusedAsTold, IsNoImage, RanImage, IsUnrun, MayRun, EndsAsPrepared};
+ghost use Rattle.bpf_host_advice.specs.Explained.{IsSomeImage};
 ghost use Rattle.bpf_host_advice.specs.Texts.{refusal_text, IsNumbered};
 ghost use Rattle.bpf_host_advice.specs.Proposals.{GivesProposal, WantsRoom, IsNotProposed};
 ghost use Rattle.bpf_host_advice.specs.Hardened.{GivesImage, WantsImageRoom, IsNotHardened};
@@ -141,7 +142,8 @@ pub extern "C" fn bpf_host_load(
     ensures memory { result ≡ NO_MEMORY → (is : List Instruction) × IsImageOfProgram (order_named order) image.now is }
     ensures call { (result ≡ BAD_CALL) ↔ (1 < order) }
     ensures small { result ≡ TOO_SMALL → length memory.old ≢ handle_head + length image.now }
-    ensures size { result ≡ YES → length memory.old ≡ handle_head + length image.now }
+    ensures certified { result ≡ TOO_SMALL → (c : CertificateView) × Certifies (order_named order) image.now certificate.now c }
+    ensures size { (result ≡ YES) ⊎ (result ≡ TOO_LONG) → length memory.old ≡ handle_head + length image.now }
     ensures answers { (result ≡ YES) ⊎ (result ≡ NO) ⊎ (result ≡ NO_MEMORY) ⊎ (result ≡ BAD_CALL) ⊎ (result ≡ TOO_SMALL) ⊎ (result ≡ TOO_LONG) }
     ensures memory_kept { (result ≡ YES) ⊎ (memory.new ≡ memory.old) }
     ensures verdict_kept { (result ≡ YES) ⊎ (result ≡ TOO_LONG) ⊎ (verdict.new ≡ verdict.old) }
@@ -187,6 +189,7 @@ pub extern "C" fn bpf_host_infer(
 ) -> i32
     ensures given { result ≡ YES → GivesProposal least most wanted.new text.old text.new }
     ensures small { result ≡ TOO_SMALL → WantsRoom least most wanted.new text.old }
+    ensures image { (result ≡ YES) ⊎ (result ≡ TOO_SMALL) → IsSomeImage (order_named order) image.now }
     ensures refused { result ≡ NO → IsNotProposed (order_named order) image.now refusal.new }
     ensures call { (result ≡ BAD_CALL) ↔ ((1 < order) ⊎ ((most < least) ⊎ ((max_context < most) ⊎ (1 < deep)))) }
     ensures answers { (result ≡ YES) ⊎ (result ≡ NO) ⊎ (result ≡ NO_MEMORY) ⊎ (result ≡ BAD_CALL) ⊎ (result ≡ TOO_SMALL) }
@@ -215,6 +218,7 @@ pub extern "C" fn bpf_host_harden(
 ) -> i32
     ensures given { result ≡ YES → GivesImage wanted.new text.old text.new }
     ensures small { result ≡ TOO_SMALL → WantsImageRoom wanted.new text.old }
+    ensures image { (result ≡ YES) ⊎ (result ≡ TOO_SMALL) → IsSomeImage (order_named order) image.now }
     ensures refused { result ≡ NO → IsNotHardened (order_named order) image.now refusal.new }
     ensures call { (result ≡ BAD_CALL) ↔ ((1 < order) ⊎ ((max_context < size) ⊎ (1 < padded))) }
     ensures answers { (result ≡ YES) ⊎ (result ≡ NO) ⊎ (result ≡ NO_MEMORY) ⊎ (result ≡ BAD_CALL) ⊎ (result ≡ TOO_SMALL) }

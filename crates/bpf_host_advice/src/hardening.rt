@@ -3,6 +3,7 @@
 ghost use Rattle.std.specs.Prelude.{◌≡◌, ◌≤◌, IfOk, IfErr, IfSome};
 ghost use Rattle.bpf_insn.specs.Limits.{max_context};
 ghost use Rattle.bpf_insn.specs.Image.{IsProgram, image};
+ghost use Rattle.bpf_host_advice.specs.Explained.{IsSomeImage};
 ghost use Rattle.bpf_host_advice.specs.Hardened.{IsProgramsImage, IsNotHardened};
 ghost use Rattle.bpf_host_advice.specs.Told.{IsTold};
 
@@ -34,6 +35,7 @@ pub(crate) fn hardened(
 ) -> Result<Vec<u8>, Unmade>
     requires { length ≤ max_context }
     ensures ok { IfOk result (λ bytes. IsProgramsImage bytes.items) }
+    ensures image { IfOk result (λ _. IsSomeImage order image.now) }
     ensures err { IfErr result (IsTold (IsNotHardened order image.now)) }
 {
     let program = match decode(alloc, image, order) {

@@ -5,6 +5,7 @@
 ghost use Rattle.std.specs.Prelude.{◌≡◌, ◌++◌, ◌⊎◌, ◌↔◌, ◌<◌, length, take, drop};
 ghost use Rattle.bpf_insn.specs.Limits.{max_context};
 ghost use Rattle.bpf_host_runs.specs.Told.{order_named};
+ghost use Rattle.bpf_host_advice.specs.Explained.{IsSomeImage};
 ghost use Rattle.bpf_host_advice.specs.Texts.{refusal_text, IsNumbered};
 ghost use Rattle.bpf_host_advice.specs.Proposals.{GivesProposal, WantsRoom, IsNotProposed};
 ghost use Rattle.bpf_host_advice.specs.Hardened.{GivesImage, WantsImageRoom, IsNotHardened};
@@ -30,7 +31,7 @@ use texts::{give_beginning, text_of};
 
 /// Proposes a certificate for the program of an image, on contexts of `least` to `most` bytes: 1, and its text stands in the
 /// first `wanted` bytes of `text`. 0: none is proposed, and `refusal` says why, by E or I. -1: memory ran out. -2: the order
-/// is neither 0 nor 1, `least` is above `most`, or `most` above 4,096. -3: `text` is too small for `wanted` bytes. What isn't
+/// or `deep` is neither 0 nor 1, `least` is above `most`, or `most` above 4,096. -3: `text` is too small for `wanted` bytes. What isn't
 /// answered stays as it was. Nobody relies on a proposal: `verify` of `bpf_host_runs` judges it.
 pub fn infer(
     alloc: Global,
@@ -45,6 +46,7 @@ pub fn infer(
 ) -> i32
     ensures given { result ≡ YES → GivesProposal least most wanted.new text.old text.new }
     ensures small { result ≡ TOO_SMALL → WantsRoom least most wanted.new text.old }
+    ensures image { (result ≡ YES) ⊎ (result ≡ TOO_SMALL) → IsSomeImage (order_named order) image.now }
     ensures refused { result ≡ NO → IsNotProposed (order_named order) image.now refusal.new }
     ensures call { (result ≡ BAD_CALL) ↔ ((1 < order) ⊎ ((most < least) ⊎ ((max_context < most) ⊎ (1 < deep)))) }
     ensures answers { (result ≡ YES) ⊎ (result ≡ NO) ⊎ (result ≡ NO_MEMORY) ⊎ (result ≡ BAD_CALL) ⊎ (result ≡ TOO_SMALL) }
@@ -93,6 +95,7 @@ pub fn harden(
 ) -> i32
     ensures given { result ≡ YES → GivesImage wanted.new text.old text.new }
     ensures small { result ≡ TOO_SMALL → WantsImageRoom wanted.new text.old }
+    ensures image { (result ≡ YES) ⊎ (result ≡ TOO_SMALL) → IsSomeImage (order_named order) image.now }
     ensures refused { result ≡ NO → IsNotHardened (order_named order) image.now refusal.new }
     ensures call { (result ≡ BAD_CALL) ↔ ((1 < order) ⊎ ((max_context < size) ⊎ (1 < padded))) }
     ensures answers { (result ≡ YES) ⊎ (result ≡ NO) ⊎ (result ≡ NO_MEMORY) ⊎ (result ≡ BAD_CALL) ⊎ (result ≡ TOO_SMALL) }
@@ -122,7 +125,7 @@ pub fn harden(
     }
 }
 
-/// What a refusal or a fault says in English, without an end of line: the kind is the letter C, E, F, I or K. The answer is
+/// What a refusal or a fault says in English, without an end of line: the kind is the letter C, E, F, H, I or K. The answer is
 /// how many bytes that is, 0 where there is no such refusal; as many as have room stand in `text`.
 pub fn refusal_text(kind: u32, number: u32, text: &mut [u8]) -> usize
     ensures numbered { (0 < result) ↔ IsNumbered kind number }

@@ -3,6 +3,7 @@
 ghost use Rattle.std.specs.Prelude.{◌≡◌, ◌≤◌, ◌<◌, ◌++◌, ◌⊎◌, IfOk, IfErr, IfSome, length, drop};
 ghost use Rattle.bpf_insn.specs.Limits.{max_context};
 ghost use Rattle.bpf_cert.specs.Spelling.{certificate_text};
+ghost use Rattle.bpf_host_advice.specs.Explained.{IsSomeImage};
 ghost use Rattle.bpf_host_advice.specs.Proposals.{IsProposal, IsNotProposed};
 ghost use Rattle.bpf_host_advice.specs.Told.{IsTold};
 ghost use Rattle.bpf_host_runs.specs.declared.answers.TheConstants.{YES, TOO_SMALL};
@@ -35,6 +36,7 @@ pub(crate) fn proposal(
     requires order { wanted.least ≤ wanted.most }
     requires short { wanted.most ≤ max_context }
     ensures ok { IfOk result (λ text. IsProposal wanted.least wanted.most text.items) }
+    ensures image { IfOk result (λ _. IsSomeImage order image.now) }
     ensures err { IfErr result (IsTold (IsNotProposed order image.now)) }
 {
     let program = match decode(alloc, image, order) {

@@ -38,13 +38,13 @@ pub struct BpfVerdict {
 #[repr(C)]
 #[derive(Clone, Copy)]
 pub struct BpfRefusal {
-    /// The letter of the refusal: E (an image), K (a certificate), C (a program by its certificate) or I (an inference).
+    /// The letter of the refusal: E (an image), K (a certificate), C (a program by its certificate), I (an inference) or H (a hardening).
     pub kind: u32,
     /// Its number, from 1.
     pub number: u32,
     /// The slot that is named, from 0 to 65,535; of K the line, from 1.
     pub place: u64,
-    /// Of I4 the number of the checker's condition, from 3 to 12; else 0.
+    /// Of I4 and H7 the number of the checker's condition, from 3 to 12; else 0.
     pub condition: u64,
 }
 

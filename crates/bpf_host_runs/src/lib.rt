@@ -205,7 +205,8 @@ pub fn load(
     ensures memory { result ≡ NO_MEMORY → (is : List Instruction) × IsImageOfProgram (order_named order) image.now is }
     ensures call { (result ≡ BAD_CALL) ↔ (1 < order) }
     ensures small { result ≡ TOO_SMALL → length memory.old ≢ handle_head + length image.now }
-    ensures size { result ≡ YES → length memory.old ≡ handle_head + length image.now }
+    ensures certified { result ≡ TOO_SMALL → (c : CertificateView) × Certifies (order_named order) image.now certificate.now c }
+    ensures size { (result ≡ YES) ⊎ (result ≡ TOO_LONG) → length memory.old ≡ handle_head + length image.now }
     ensures answers { (result ≡ YES) ⊎ (result ≡ NO) ⊎ (result ≡ NO_MEMORY) ⊎ (result ≡ BAD_CALL) ⊎ (result ≡ TOO_SMALL) ⊎ (result ≡ TOO_LONG) }
     ensures memory_kept { (result ≡ YES) ⊎ (memory.new ≡ memory.old) }
     ensures verdict_kept { (result ≡ YES) ⊎ (result ≡ TOO_LONG) ⊎ (verdict.new ≡ verdict.old) }

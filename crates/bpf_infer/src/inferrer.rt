@@ -43,8 +43,8 @@ fn certificate_of<E: From<InferError> + Drop>(
 }
 
 /// Proposes a certificate of version 2 for a program on contexts of `least` to `most` bytes, at most 4,096. I1 if a
-/// function's states aren't stable after 64 rounds, at its first slot; I2 if a loop has no counter or a label is over a
-/// limit, at the label; I3 at the lowest call of a recursion; I4 at an instruction that the checker would refuse, with
+/// function's states aren't stable after 64 rounds, or a limit of the search is passed, at its first slot; I2 if a loop has
+/// no counter or a label is over a limit, at the label; I3 at the lowest call of a recursion; I4 at an instruction that the checker would refuse, with
 /// the condition that fails, C3 to C12; I5 if memory runs out.
 pub fn infer(
     alloc: Global,

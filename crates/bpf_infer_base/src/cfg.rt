@@ -24,7 +24,7 @@ pub struct Cfg {
 }
 
 impl Cfg {
-    /// The functions and blocks of a program whose jumps stay in their functions. I2 at the first of the 257th function, and at
+    /// The functions and blocks of a program whose jumps stay in their functions. I2 at the first slot of the 257th function, and at
     /// that of the lowest function with a depth above 8; I3 at the lowest call of a recursion; I4 (C12) at the lowest
     /// instruction that leaves its function.
     pub fn of(alloc: Global, program: &Program) -> Result<Cfg, InferError> {

@@ -57,4 +57,11 @@ impl Flow {
             Flow::Next | Flow::Call(_) | Flow::Exit => None,
         }
     }
+
+    /// The slots in its function to which the instruction at a slot leads: where it jumps, and the next one.
+    #[inline]
+    pub fn ways(slot: u32, insn: &Insn) -> [Option<u32>; 2] {
+        let next = slot.saturating_add(insn.slots());
+        [Flow::of(slot, insn).jump(), insn.goes_on().then_some(next)]
+    }
 }

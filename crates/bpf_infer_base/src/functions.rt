@@ -10,7 +10,7 @@ use bpf_infer_error::{Condition, InferError};
 use bpf_insn::{Insn, Program};
 use std::alloc::{AllocError, Global};
 
-/// A call, by its slot, and the slot that it leads to.
+/// A call: its slot, and the slot that it leads to.
 #[derive(Clone, Copy)]
 pub struct Call {
     pub slot: u32,
@@ -105,10 +105,8 @@ pub fn callers_first(alloc: Global, depths: &[u32]) -> Result<Vec<usize>, AllocE
 /// Whether the instruction at a slot jumps out of its function, or goes on into the next one.
 fn leaves_function(program: &Program, functions: &Blocks, slot: u32, insn: &Insn) -> bool {
     let function = functions.block_of(slot);
-    let target = Flow::of(slot, insn).jump().unwrap_or(slot);
-    let next = slot.saturating_add(insn.slots());
-    let goes_on = insn.goes_on() && next < program.slots();
-    functions.block_of(target) != function || goes_on && functions.block_of(next) != function
+    let leaves = |way: u32| way < program.slots() && functions.block_of(way) != function;
+    Flow::ways(slot, insn).into_iter().flatten().any(leaves)
 }
 
 /// I4 (C12) at the lowest instruction that jumps out of its function, or goes on into the next one.

@@ -3,7 +3,7 @@
 ghost use Rattle.std.specs.Prelude.{◌≤ℤ◌, IfSome};
 ghost use Rattle.bpf_state.specs.State.{IsRegister, IsPointer, IsSlot};
 
-use crate::places::REGISTERS;
+use crate::places::WRITABLE;
 use crate::widen::Stops;
 use bpf_insn::Reg;
 use bpf_num::Num;
@@ -110,7 +110,7 @@ fn join_slot(old: SlotState, new: SlotState, stops: Option<&Stops>) -> SlotState
 
 /// Makes what is known of the registers what both know.
 fn join_registers(old: &mut State, new: &State, stops: Option<&Stops>) {
-    for i in 0..REGISTERS {
+    for i in 0..WRITABLE {
         let r = Reg::numbered(i as u8);
         old.set_reg(r, join_register(old.reg(r), new.reg(r), stops));
     }

@@ -34,16 +34,17 @@ pub use component_search::ComponentSearch;
 pub use counter::{Counter, Shift};
 pub use fault::Fault;
 pub use flow::Flow;
+pub use functions::{Call, calls_of};
 pub use graph::{Arc, Components, Graph, longest_paths, nodes_on_cycles, number_in};
 pub use joined_states::JoinedStates;
 pub use joins::{join, join_register, join_slots};
 pub use labels::{LabelState, labels_of, load, load_at};
 pub use lines::{Line, Span};
 pub use lists::{get_or, held, put, vacant};
-pub use losses::{Losses, losses_in};
+pub use losses::losses_in;
 pub use meter::{DEEP_WORK, LABEL_WORK, Meter, PLAIN_WORK};
 pub use places::{
-    PLACES, PlaceSet, REGISTERS, number_at, place, said, slots_touched, tag_own, tight_number,
+    PLACES, PlaceSet, WRITABLE, number_at, place, said, slots_touched, tag_own, tight_number,
 };
 pub use proposal::Proposal;
 pub use quest::Quest;

@@ -3,10 +3,10 @@
 use crate::sketch::Limit;
 use crate::watch::Watch;
 
-/// The most that the plain search and the deep one go over, in slots. A label counts as a few slots, and so does what arrives
-/// over an edge.
+/// The most that the plain search goes over, in slots. A label counts as a few slots, and so does what arrives over an edge.
 pub const PLAIN_WORK: u64 = 16_000_000;
 
+/// The same of the deep search.
 pub const DEEP_WORK: u64 = 40_000_000;
 
 /// The work for a label beside its slots.

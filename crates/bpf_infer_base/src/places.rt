@@ -8,7 +8,7 @@ use bpf_num::Num;
 use bpf_state::{Entries, Place, Reach, RegState, SlotState, State, Tag};
 
 /// How many registers a program may write: r0 to r9.
-pub const REGISTERS: usize = 10;
+pub const WRITABLE: usize = 10;
 
 /// How many places a state has: eleven registers and sixty-four slots. All but r10 may hold a counter.
 pub const PLACES: usize = 75;
@@ -17,10 +17,10 @@ pub const PLACES: usize = 75;
 pub fn place(number: usize) -> Place
     ensures { IsPlace result }
 {
-    if number <= REGISTERS {
+    if number <= WRITABLE {
         Place::Register(Reg::numbered(number as u8))
     } else {
-        Place::Slot((number.min(PLACES - 1) - REGISTERS) as u8)
+        Place::Slot((number.min(PLACES - 1) - WRITABLE) as u8)
     }
 }
 
@@ -35,7 +35,7 @@ impl PlaceSet {
     pub const NONE: PlaceSet = PlaceSet(0);
 
     /// All places.
-    pub const ALL: PlaceSet = PlaceSet(u128::MAX);
+    pub const ALL: PlaceSet = PlaceSet((1 << PLACES) - 1);
 
     /// r0 to r5, which a CALL changes.
     pub const CHANGED_BY_CALL: PlaceSet = PlaceSet(0b11_1111);
@@ -163,7 +163,7 @@ pub fn slots_touched(access: Access, state: &State) -> (u8, u8) {
 /// How many places of a state something is known of.
 pub fn places_known(state: &State) -> usize {
     let mut count = 0usize;
-    for i in 0..REGISTERS {
+    for i in 0..WRITABLE {
         if !matches!(state.reg(Reg::numbered(i as u8)), RegState::Any) {
             count = count.saturating_add(1);
         }

@@ -76,7 +76,7 @@ pub enum Tangle {
     Backward { from: u32 },
 }
 
-/// A limit of certificates or of the deep search that is passed. The slot is the refusal's.
+/// A limit of certificates or of a search that is passed. The slot is the refusal's.
 #[derive(Clone, Copy)]
 pub enum Limit {
     /// So many instructions would have to be counted for a round of the loop at the slot, and at most 1,048,576 can be.
@@ -146,7 +146,7 @@ impl Sketch {
     }
 }
 
-/// A refusal of the deep search, and what it had then: what is in the way, and the states; these are those in which the refused instruction was seen, or
+/// A refusal of a search, and what it had then: what is in the way, and the states; these are those in which the refused instruction was seen, or
 /// with which no budget was found. There are none where it stopped before it had states, or memory ran out.
 #[derive(Drop)]
 pub struct Stop {

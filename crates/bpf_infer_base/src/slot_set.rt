@@ -1,9 +1,16 @@
 //! Sets of slots.
 
+use bpf_insn::MAX_SLOTS;
+
+/// How many words of 64 slots a program has.
+const WORDS: usize = MAX_SLOTS / 64;
+
 /// A set of slots, each a bit.
 #[derive(Drop)]
 pub struct SlotSet {
-    held: [u64; 1024],
+    held: [u64; WORDS],
+    /// No word in front of this one holds a slot.
+    low: usize,
 }
 
 impl SlotSet {
@@ -14,27 +21,34 @@ impl SlotSet {
 
     /// Each word of 64 slots is this one.
     pub fn filled(word: u64) -> Self {
-        SlotSet { held: [word; 1024] }
+        SlotSet {
+            held: [word; WORDS],
+            low: 0,
+        }
     }
 
     /// Puts a slot in, if it is at most 65,535.
     pub fn add(&mut self, slot: u32) {
-        if let Some(word) = self.held.get_mut(slot as usize / 64) {
+        let index = slot as usize / 64;
+        if let Some(word) = self.held.get_mut(index) {
             *word |= 1 << (slot % 64);
+            self.low = self.low.min(index);
         }
     }
 
     /// Takes the first slot out.
     pub fn take_first(&mut self) -> Option<u32> {
-        let mut first = 0u32;
-        for word in self.held.iter_mut() {
-            if *word != 0 {
-                let slot = first.saturating_add(word.trailing_zeros());
-                *word &= *word - 1;
-                return Some(slot);
+        for index in self.low..WORDS {
+            if let Some(word) = self.held.get_mut(index) {
+                if *word != 0 {
+                    let slot = (index as u32 * 64).saturating_add(word.trailing_zeros());
+                    *word &= *word - 1;
+                    self.low = index;
+                    return Some(slot);
+                }
             }
-            first = first.saturating_add(64);
         }
+        self.low = WORDS;
         None
     }
 

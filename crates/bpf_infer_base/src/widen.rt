@@ -166,7 +166,7 @@ impl Stops {
     }
 }
 
-// A sum carries from a bit that isn't known to the next one, so bits would be lost one a round.
+/// The bits that stay known; none from the lowest lost one on, since a sum carries and would lose one a round.
 fn bits(old: KnownBits, new: KnownBits) -> KnownBits {
     let lost = new.mask() & !old.mask();
     let lowest = lost & lost.wrapping_neg();

@@ -7,7 +7,7 @@ use bpf_cert::{MAX_BASE, MAX_TERMS};
 use bpf_infer_base::{Components, Counter, Limit, Obstacle, Stop, get_or, put};
 use bpf_state::Tag;
 
-/// Bases that are found.
+/// The search for bases.
 #[derive(Drop)]
 struct Settling {
     /// By paths, what the base at the start has to pay beside the one at the end.

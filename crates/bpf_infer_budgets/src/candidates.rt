@@ -52,10 +52,14 @@ fn level(graph: &Graph, heights: &[i128], changes: &mut Vec<i128>) {
     }
 }
 
-/// Changes such that none is above 0, and the sums on cycles are the same. False if a cycle has a sum above 0.
+/// Changes of a component such that none is above 0, and the sums on cycles are the same. False if a cycle has a sum above 0.
 fn even_out(alloc: Global, graph: &Graph, changes: &mut Vec<i128>) -> Result<bool, AllocError> {
     if changes.iter().all(|change| *change <= 0) {
         return Ok(true);
+    }
+    // Each arc lies on a cycle: where none falls and one grows, a cycle grows.
+    if changes.iter().all(|change| *change >= 0) {
+        return Ok(false);
     }
     let heights = vec![in alloc; 0; graph.count()]?;
     match longest_paths(graph, changes, heights, PASSES) {

@@ -29,7 +29,7 @@ abbrev pub infer_texts : List (List ℕ)
 infer_texts =
     [] ∷
     codes "states of the function aren't stable" ∷
-    codes "no budget for the label" ∷
+    codes "a loop isn't counted, or calls are too deep or too many" ∷
     codes "recursion by the call" ∷
     codes "the checker would refuse the instruction" ∷
     codes "out of memory" ∷

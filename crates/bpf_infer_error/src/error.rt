@@ -10,10 +10,12 @@ use thiserror::Error;
 /// Why no certificate is proposed for a program, with a slot of it.
 #[derive(Clone, Copy, Debug, PartialEq, Eq, Error)]
 pub enum InferError {
-    /// I1: the states of the function that begins at the slot aren't stable after 64 rounds.
+    /// I1: no stable states are found for the function at the slot, or not within a limit; at slot 0 also where what functions
+    /// return isn't stable.
     #[error("at slot {slot}: {}", self.text())]
     Unstable { slot: u32 },
-    /// I2: the loop at the slot has no counter, or the slot's label is over a limit.
+    /// I2: the loop at the slot has no counter, or the slot's label is over a limit, or functions call one another more than 8
+    /// deep, or there are more than 256.
     #[error("at slot {slot}: {}", self.text())]
     NoBudget { slot: u32 },
     /// I3: the call at the slot is part of a recursion.
@@ -49,7 +51,7 @@ impl InferError {
     {
         match number {
             1 => Some("states of the function aren't stable"),
-            2 => Some("no budget for the label"),
+            2 => Some("a loop isn't counted, or calls are too deep or too many"),
             3 => Some("recursion by the call"),
             4 => Some("the checker would refuse the instruction"),
             5 => Some("out of memory"),

@@ -49,8 +49,8 @@ fn proposal_for<W: Watch>(
     Ok(Proposal { steps, functions })
 }
 
-/// What the table of one counter for a loop gives a program. I1 if a function's states aren't stable after 64 rounds,
-/// at its first slot; I2 if a loop has no counter, at its label; I3 at the lowest call of a recursion; I4 at an
+/// What the plain search finds for a program, with one counter for each loop. I1 if a function's states aren't stable after 64
+/// rounds, or a limit of the search is passed, at its first slot; I2 if a loop has no counter, at its label; I3 at the lowest call of a recursion; I4 at an
 /// instruction that the checker would refuse, with the condition that fails, C3 to C12; I5 if memory runs out.
 pub fn plain_proposal<W: Watch>(
     alloc: Global,

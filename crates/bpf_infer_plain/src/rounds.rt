@@ -174,7 +174,7 @@ impl<'a> Rounds<'a> {
         Ok(())
     }
 
-    /// Goes over a function until nothing changes: I1 if that takes more than 64 rounds.
+    /// Goes over a function until nothing changes: I1 if that takes more than 64 rounds, or a limit of the search is passed.
     fn settle<W: Watch>(
         &mut self,
         function: usize,
@@ -248,7 +248,7 @@ impl<'a> Rounds<'a> {
 }
 
 /// The states of a program's labels, from the state that it starts in. I1 at a function whose states aren't stable after 64
-/// rounds; I4 at an instruction that is refused or never reached.
+/// rounds, or where a limit of the search is passed; I4 at an instruction that is refused or never reached.
 pub fn states_of<'a, W: Watch>(
     task: Task<'a>,
     start: &State,

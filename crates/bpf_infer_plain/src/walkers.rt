@@ -2,9 +2,9 @@
 
 use crate::loops::{Loop, loop_from};
 use crate::rounds::Rounds;
-use bpf_infer_base::{Obstacle, Task};
+use bpf_infer_base::{Obstacle, PlaceSet, Task};
 use bpf_insn::{AluOp, Insn, Operand, Reg, Width};
-use bpf_state::RegState;
+use bpf_state::{Place, RegState};
 
 /// The register whose pointer an instruction moves or reads and writes through.
 fn pointer_in(insn: &Insn) -> Option<Reg> {
@@ -30,10 +30,7 @@ enum Deed {
 
 /// What an instruction does to a register. A call leaves nothing in r0 to r5 that was there.
 fn deed_of(insn: &Insn, reg: Reg) -> Deed {
-    if matches!(*insn, Insn::CallLocal { .. }) && reg as u8 <= 5 {
-        return Deed::Sets;
-    }
-    if insn.register_written() != Some(reg) {
+    if !PlaceSet::written_by(insn).has(Place::Register(reg)) {
         return Deed::Keeps;
     }
     let moves = matches!(

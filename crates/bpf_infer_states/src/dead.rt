@@ -105,8 +105,8 @@ impl Seeds {
         Ok(is_changed)
     }
 
-    /// Gives each register that the states of slots which lead to a fault don't know a number, and each slot of the frame too
-    /// if that is asked for. Whether there is one.
+    /// Gives each register of which the states that lead to a fault know nothing a number, and each slot of the frame, too, if
+    /// that is asked for. Whether there is one.
     fn fill_before(
         &mut self,
         task: Task,
@@ -212,13 +212,10 @@ impl<'a> Seeker<'a> {
         let Some(insn) = self.task.program.at(slot) else {
             return Ok(());
         };
-        if insn.goes_on() {
-            self.lead_to(slot.saturating_add(insn.slots()))?;
+        for way in Flow::ways(slot, insn).into_iter().flatten() {
+            self.lead_to(way)?;
         }
-        match Flow::of(slot, insn).jump() {
-            Some(target) => self.lead_to(target),
-            None => Ok(()),
-        }
+        Ok(())
     }
 
     /// Takes note of all dead code that a slot leads to.

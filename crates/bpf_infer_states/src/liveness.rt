@@ -1,6 +1,7 @@
-//! Liveness, backwards over a function's labels, callees first; and states that say no more than what is read.
+//! Liveness, backwards over a function's labels, callees first (Kildall, "A Unified Approach to Global Program Optimization", 1973);
+//! and states that say no more than what is read.
 
-use bpf_infer_base::{Flow, LabelState, PlaceSet, REGISTERS, Task, Visitor, get_or, put};
+use bpf_infer_base::{Flow, LabelState, PlaceSet, Task, Visitor, WRITABLE, get_or, put};
 use bpf_insn::{Access, Insn, Reg, Size};
 use bpf_num::{KnownBits, Num, Signed, Unsigned, WordDomain};
 use bpf_state::{Entries, Place, RegState, SlotState, State};
@@ -173,7 +174,7 @@ pub fn least_number(number: Num) -> Num {
 
 /// Forgets registers that aren't read, and what of the others is implied.
 fn keep_live_registers(state: &mut State, live: PlaceSet) {
-    for i in 0..REGISTERS {
+    for i in 0..WRITABLE {
         let r = Reg::numbered(i as u8);
         if !live.has(Place::Register(r)) {
             state.set_reg(r, RegState::Any);

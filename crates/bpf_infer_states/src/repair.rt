@@ -1,6 +1,6 @@
 //! Changes of a state under which dead code isn't refused.
 
-use bpf_infer_base::{REGISTERS, Task};
+use bpf_infer_base::{Task, WRITABLE};
 use bpf_insn::{AluOp, Insn, Operand, Reg, Width};
 use bpf_num::Num;
 use bpf_state::{Area, Pointer, RegState, SlotState, State};
@@ -11,7 +11,7 @@ const MIDDLE: i64 = -256;
 /// Gives each register that isn't known a number. Whether there is one.
 fn fill_registers(state: &mut State) -> bool {
     let mut is_filled = false;
-    for i in 0..REGISTERS {
+    for i in 0..WRITABLE {
         let r = Reg::numbered(i as u8);
         if matches!(state.reg(r), RegState::Any) {
             state.set_reg(r, RegState::Num(Num::constant(0)));

@@ -210,7 +210,7 @@ impl<'a> Settler<'a> {
 
     // ---- the turns of a loop
 
-    /// Whether as much was gone over as is before bounds are moved to extremes at once.
+    /// Whether bounds are moved to their extremes at once: half of the work is done, or patience is at its end.
     fn is_tired(&self) -> bool {
         self.is_late || self.patience == 0
     }
@@ -279,7 +279,7 @@ impl<'a> Settler<'a> {
         }
     }
 
-    /// How far bounds are moved on that a turn of a loop moved. The turn is counted.
+    /// How far bounds are moved on that a turn of a loop moved. The change is counted.
     fn reach_of(&mut self, number: usize) -> Reach {
         let changes = get_or(&self.changes, number, 0).saturating_add(1);
         put(&mut self.changes, number, changes);

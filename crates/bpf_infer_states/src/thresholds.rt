@@ -1,9 +1,12 @@
 //! Thresholds of the widening: the numbers at which the bounds of a loop's states may stop.
 
-use bpf_infer_base::{REGISTERS, Stops, compared, held, join, join_register, join_slots};
+use bpf_infer_base::{Stops, WRITABLE, compared, held, join, join_register, join_slots};
 use bpf_insn::{Insn, Operand, Reg};
 use bpf_state::{RegState, State};
 use std::alloc::{AllocError, Global};
+
+/// How many rows of stops there are: one for each register that a program may write, and one for all else.
+const ROWS: usize = WRITABLE + 1;
 
 /// The most bounds of one register's operands that are kept.
 const MOST_LEARNED: usize = 64;
@@ -12,7 +15,7 @@ const MOST_LEARNED: usize = 64;
 const ALWAYS: [i64; 7] = [-(1 << 31), -1, 0, 1, (1 << 31) - 1, (1 << 32) - 1, i64::MAX];
 
 /// A number that a register is compared with.
-#[derive(Clone, Copy)]
+#[derive(Clone, Copy, PartialEq)]
 struct Compared {
     register: usize,
     number: i64,
@@ -25,6 +28,8 @@ pub struct Thresholds {
     compared: Vec<Compared>,
     /// The bounds of operands among them.
     operands: Vec<Compared>,
+    /// By registers, how many these are.
+    learned: [usize; ROWS],
     /// By registers; empty until a bound is moved. The last ones are for all else.
     stops: Vec<Option<Stops>>,
 }
@@ -47,13 +52,14 @@ impl Thresholds {
             alloc,
             compared: Vec::new(alloc),
             operands: Vec::new(alloc),
+            learned: [0; ROWS],
             stops: Vec::new(alloc),
         }
     }
 
     /// Adds a length of contexts, for all that isn't compared with anything.
     pub fn add_length(&mut self, length: u32) -> Result<(), AllocError> {
-        self.add(REGISTERS, length as i64)
+        self.add(WRITABLE, length as i64)
     }
 
     /// A register is compared with a number.
@@ -98,15 +104,15 @@ impl Thresholds {
 
     /// Takes note of a bound, each once, and of at most 64 of a register.
     fn learn_number(&mut self, register: usize, number: i64) -> Result<(), AllocError> {
-        let learned = self
-            .operands
-            .iter()
-            .filter(|known| known.register == register);
-        let is_it = |known: &Compared| known.register == register && known.number == number;
-        if learned.count() >= MOST_LEARNED || self.operands.iter().any(is_it) {
+        let known = Compared { register, number };
+        let Some(learned) = self.learned.get_mut(register) else {
+            return Ok(());
+        };
+        if *learned >= MOST_LEARNED || self.operands.contains(&known) {
             return Ok(());
         }
-        self.operands.push(Compared { register, number })?;
+        *learned = learned.saturating_add(1);
+        self.operands.push(known)?;
         self.add(register, number)
     }
 
@@ -115,12 +121,12 @@ impl Thresholds {
         let mut stops = Stops::new(self.alloc);
         let mut has_any = false;
         for compared in self.compared.as_slice() {
-            if compared.register == register || register >= REGISTERS {
+            if compared.register == register || register >= WRITABLE {
                 has_any = true;
                 stops.add(compared.number)?;
             }
         }
-        if !has_any && register < REGISTERS {
+        if !has_any && register < WRITABLE {
             return Ok(None);
         }
         for number in ALWAYS {
@@ -135,7 +141,7 @@ impl Thresholds {
         if !self.stops.is_empty() {
             return Ok(());
         }
-        for register in 0..REGISTERS.saturating_add(1) {
+        for register in 0..ROWS {
             let stops = self.stops_of(register)?;
             self.stops.push(stops)?;
         }
@@ -144,7 +150,7 @@ impl Thresholds {
 
     /// The stops of a register, else those for all else.
     fn stops_at(&self, register: usize) -> Option<&Stops> {
-        held(&self.stops, register).or(held(&self.stops, REGISTERS))
+        held(&self.stops, register).or(held(&self.stops, WRITABLE))
     }
 
     /// Makes a state one that another lies in too, with bounds that move moved on.
@@ -162,11 +168,11 @@ impl Thresholds {
 
     /// Makes a state one that another lies in too, each register with its stops.
     fn join_each(&self, old: &mut State, new: &State) {
-        for i in 0..REGISTERS {
+        for i in 0..WRITABLE {
             let r = Reg::numbered(i as u8);
             let stops = self.stops_at(i);
             old.set_reg(r, join_register(old.reg(r), new.reg(r), stops));
         }
-        join_slots(old, new, self.stops_at(REGISTERS));
+        join_slots(old, new, self.stops_at(WRITABLE));
     }
 }

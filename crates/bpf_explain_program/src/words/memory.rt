@@ -1,6 +1,6 @@
 //! Accesses out of bounds, of bytes that aren't initialised, and of what may not be written.
 
-use crate::known::{Far, Name, Offset, known_register};
+use crate::known::{Name, Offset, Pointed, known_register};
 use crate::listing::Lengths;
 use crate::sight::Sight;
 use crate::words::kinds::tell_held;
@@ -69,7 +69,7 @@ fn tell_far<C: Code, W: Tell>(out: &mut W, sight: &Sight<'_, C>) {
     let Some(made) = far_pointer(&sight.site.insn, &sight.before) else {
         return;
     };
-    let far = Far(made);
+    let far = Pointed(made);
     write!(
         out,
         "the pointer may leave its bounds, -{FARTHEST} to {FARTHEST}: it would be {far}; "

@@ -51,3 +51,9 @@ returns-clause-unpaid c = λ d few long certifies paid.
     let under : c.verify-answer.new.verdict.bound ≤ c.args.limit = search rules in
     let same = told.2 in
     absurd (omega (arith, under, same, paid))
+
+pub returns-then-not-has_handle_room-clause-certified : goal.returns-then-not-has_handle_room-clause-certified
+returns-then-not-has_handle_room-clause-certified c = λ which.
+    let is : c.verify-answer.result ≡ pos 1 = search rules in
+    let promised = c.verify-answer.ensures.promised is in
+    (promised.certificate, promised.certifies)

@@ -120,6 +120,14 @@ pub struct Filter {
     words: Vec<u64>,
 }
 
+impl fmt::Debug for Filter {
+    fn fmt(&self, f: &mut fmt::Formatter) -> fmt::Result {
+        f.debug_struct("Filter")
+            .field("verdict", &self.verdict)
+            .finish_non_exhaustive()
+    }
+}
+
 impl Filter {
     /// Judges an image by a certificate, and prepares its program, if no run takes more than `greatest` instructions.
     pub fn load(

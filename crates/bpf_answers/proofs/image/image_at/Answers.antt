@@ -11,4 +11,4 @@ pub returns-in-Err-Memory-read_image-clause-names : goal.returns-in-Err-Memory-r
 returns-in-Err-Memory-read_image-clause-names g c = (Some (g.P.Reader.Read.remaining c.in-Ok.reader), c.in-Ok.ensures)
 
 pub returns : goal.returns
-returns g c = record { ok = tt; err = search rules; names = (Some (g.P.Reader.Read.remaining c.in-Ok.reader), c.in-Ok.ensures) }
+returns g c = record { ok = tt; err = search rules; quiet = tt; names = (Some (g.P.Reader.Read.remaining c.in-Ok.reader), c.in-Ok.ensures) }

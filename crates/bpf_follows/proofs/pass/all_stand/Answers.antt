@@ -6,14 +6,14 @@ use Rattle.bpf_follows.proofs.InsideLemmas.{insn_inside}
 use Rattle.bpf_follows.proofs.pass.all_stand.Goals as goal
 
 pub returns-in-Err-clause-exact : goal.returns-in-Err-clause-exact
-returns-in-Err-clause-exact g c = (λ h. absurd (false≢true h), λ all. c.in-Err.ensures.1 (all c.loop-slot.slot))
+returns-in-Err-clause-exact g c = (λ h. absurd (false≢true h), λ all. c.in-Err.ensures.exact.1 (all c.loop-slot.slot))
 
 pub returns-in-Err-clause-err : goal.returns-in-Err-clause-err
-returns-in-Err-clause-err g c = (λ stands. false≢true (c.in-Err.ensures.1 stands), c.loop-slot.invariant)
+returns-in-Err-clause-err g c = (c.in-Err.ensures.why, λ stands. false≢true (c.in-Err.ensures.exact.1 stands), c.loop-slot.invariant)
 
 pub loop-slot-preserved : goal.loop-slot-preserved
 loop-slot-preserved g c =
-    one_more (λ slot. StandsAt (g.O.Code.program c.args.old.now) (g.N.Code.program c.args.new.now) c.args.notes.now c.args.bounds slot) c.loop-slot.slot c.loop-slot.invariant (c.in-Ok.ensures.0 refl)
+    one_more (λ slot. StandsAt (g.O.Code.program c.args.old.now) (g.N.Code.program c.args.new.now) c.args.notes.now c.args.bounds slot) c.loop-slot.slot c.loop-slot.invariant (c.in-Ok.ensures.exact.0 refl)
 
 pub returns-clause-exact : goal.returns-clause-exact
 returns-clause-exact g c = (

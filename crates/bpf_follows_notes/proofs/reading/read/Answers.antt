@@ -1,7 +1,7 @@
 use Rattle.std.proofs.Common.{◌≡◌, inl, None, refl, sym}
 use Rattle.bpf_lines.specs.Words.{behind}
 use Rattle.bpf_follows_notes.specs.NotesText.{head_line}
-use Rattle.bpf_follows_notes.proofs.Whole.{no_head, whole_ok, whole_only, whole_err}
+use Rattle.bpf_follows_notes.proofs.Whole.{no_head, whole_ok, whole_said, whole_only, whole_err}
 use Rattle.bpf_follows_notes.proofs.reading.read.Goals as goal
 
 pub returns-in_default-clause-only : goal.returns-in_default-clause-only
@@ -12,6 +12,9 @@ returns-in_default-clause-err c = let none : behind head_line c.args.text.now �
 
 pub returns-clause-found : goal.returns-clause-found
 returns-clause-found c = whole_ok (λ v. v.items) c.args.text.now c.in-Some.rest.now c.lines_in.result (sym c.in-Some.ensures) c.lines_in.ensures.ok
+
+pub returns-clause-whole : goal.returns-clause-whole
+returns-clause-whole c = whole_said (λ v. v.items) c.in-Some.rest.now c.lines_in.result c.lines_in.ensures.ok
 
 pub returns-clause-only : goal.returns-clause-only
 returns-clause-only c = whole_only (λ v. v.items) c.args.text.now c.in-Some.rest.now c.lines_in.result (sym c.in-Some.ensures) c.lines_in.ensures.ok c.lines_in.ensures.err
