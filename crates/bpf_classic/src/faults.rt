@@ -1,0 +1,181 @@
+//! What is wrong with the instructions of a filter.
+
+ghost use Rattle.std.specs.Prelude.{◌≡◌, ◌+◌, ◌<◌, ◌≤◌, ℕ, length, IfSome, IfNone, None};
+ghost use Rattle.bpf_classic.specs.Valid.{max_filter, names_no_cell, has_bad_constant, leads_outside, is_no_word, is_mod, is_not_in_seccomp, is_extension, not_for, fault_of, fault_of_raw, fault_at, IsLowestFault};
+ghost use Rattle.bpf_classic.specs.Machine.{divides, shifts};
+ghost use Rattle.bpf_classic.specs.Codes.{instruction_of};
+
+use crate::instruction::{Classic, LoadSize, Op, Source};
+use crate::raw::{Raw, instruction_of};
+use crate::refusal::{Fault, Kind};
+
+/// Where Linux's extensions begin: offsets that no packet has.
+const EXTENSIONS: u32 = 0xffff_f000;
+
+const LAST_EXTENSION: u32 = 0xffff_f03c;
+
+fn names_no_cell(i: &Classic) -> bool
+    ensures { result ≡ names_no_cell i.now }
+{
+    match *i {
+        Classic::Cell { cell, .. } => cell >= 16,
+        Classic::Store { cell, .. } => cell >= 16,
+        Classic::Constant { .. } | Classic::Length { .. } | Classic::At { .. } => false,
+        Classic::Index { .. } | Classic::Header { .. } | Classic::Alu { .. } => false,
+        Classic::Neg | Classic::Jump { .. } | Classic::JumpIf { .. } => false,
+        Classic::Return { .. } | Classic::ReturnA | Classic::Tax | Classic::Txa => false,
+    }
+}
+
+fn divides(op: Op) -> bool
+    ensures { result ≡ divides op }
+{
+    match op {
+        Op::Div | Op::Mod => true,
+        Op::Add | Op::Sub | Op::Mul | Op::Or | Op::And | Op::Lsh | Op::Rsh | Op::Xor => false,
+    }
+}
+
+fn shifts(op: Op) -> bool
+    ensures { result ≡ shifts op }
+{
+    match op {
+        Op::Lsh | Op::Rsh => true,
+        Op::Add | Op::Sub | Op::Mul | Op::Div | Op::Or | Op::And | Op::Mod | Op::Xor => false,
+    }
+}
+
+fn has_bad_constant(i: &Classic) -> bool
+    ensures { result ≡ has_bad_constant i.now }
+{
+    match *i {
+        Classic::Alu {
+            op,
+            source: Source::K(k),
+        } => (divides(op) && k == 0) || (shifts(op) && k >= 32),
+        Classic::Alu {
+            op: _,
+            source: Source::X,
+        } => false,
+        Classic::Constant { .. } | Classic::Length { .. } | Classic::At { .. } => false,
+        Classic::Index { .. } | Classic::Header { .. } | Classic::Cell { .. } => false,
+        Classic::Neg | Classic::Jump { .. } | Classic::JumpIf { .. } => false,
+        Classic::Store { .. } | Classic::Return { .. } | Classic::ReturnA => false,
+        Classic::Tax | Classic::Txa => false,
+    }
+}
+
+fn leads_outside(left: u32, i: &Classic) -> bool
+    ensures { result ≡ leads_outside left i.now }
+{
+    match *i {
+        Classic::Jump { k } => k >= left,
+        Classic::JumpIf { jt, jf, .. } => u32::from(jt) >= left || u32::from(jf) >= left,
+        Classic::Return { .. } | Classic::ReturnA => false,
+        Classic::Constant { .. } | Classic::Length { .. } | Classic::At { .. } => left == 0,
+        Classic::Index { .. } | Classic::Header { .. } | Classic::Alu { .. } => left == 0,
+        Classic::Cell { .. } | Classic::Store { .. } | Classic::Neg => left == 0,
+        Classic::Tax | Classic::Txa => left == 0,
+    }
+}
+
+fn is_no_word(size: LoadSize, k: u32) -> bool
+    ensures { result ≡ is_no_word size k }
+{
+    match size {
+        LoadSize::Word => k % 4 != 0 || k > 60,
+        LoadSize::Half | LoadSize::Byte => true,
+    }
+}
+
+fn is_mod(op: Op) -> bool
+    ensures { result ≡ is_mod op }
+{
+    match op {
+        Op::Mod => true,
+        Op::Add | Op::Sub | Op::Mul | Op::Div | Op::Or | Op::And => false,
+        Op::Lsh | Op::Rsh | Op::Xor => false,
+    }
+}
+
+fn is_not_in_seccomp(i: &Classic) -> bool
+    ensures { result ≡ is_not_in_seccomp i.now }
+{
+    match *i {
+        Classic::At { size, k } => is_no_word(size, k),
+        Classic::Index { .. } | Classic::Header { .. } => true,
+        Classic::Alu { op, .. } => is_mod(op),
+        Classic::Constant { .. } | Classic::Length { .. } | Classic::Cell { .. } => false,
+        Classic::Neg | Classic::Jump { .. } | Classic::JumpIf { .. } => false,
+        Classic::Store { .. } | Classic::Return { .. } | Classic::ReturnA => false,
+        Classic::Tax | Classic::Txa => false,
+    }
+}
+
+fn is_extension(i: &Classic) -> bool
+    ensures { result ≡ is_extension i.now }
+{
+    match *i {
+        Classic::At { size: _, k } => k >= EXTENSIONS && k <= LAST_EXTENSION,
+        Classic::Index { .. } | Classic::Header { .. } | Classic::Alu { .. } => false,
+        Classic::Constant { .. } | Classic::Length { .. } | Classic::Cell { .. } => false,
+        Classic::Neg | Classic::Jump { .. } | Classic::JumpIf { .. } => false,
+        Classic::Store { .. } | Classic::Return { .. } | Classic::ReturnA => false,
+        Classic::Tax | Classic::Txa => false,
+    }
+}
+
+fn not_for(kind: Kind, i: &Classic) -> Option<Fault>
+    ensures { result ≡ not_for kind i.now }
+{
+    match kind {
+        Kind::Packets => if is_extension(i) {
+            Some(Fault::Extension)
+        } else {
+            None
+        },
+        Kind::Seccomp => if is_not_in_seccomp(i) {
+            Some(Fault::Seccomp)
+        } else {
+            None
+        },
+    }
+}
+
+fn fault_of(kind: Kind, left: u32, i: &Classic) -> Option<Fault>
+    ensures { result ≡ fault_of kind left i.now }
+{
+    if names_no_cell(i) {
+        return Some(Fault::Cell);
+    }
+    if has_bad_constant(i) {
+        return Some(Fault::Constant);
+    }
+    if leads_outside(left, i) {
+        return Some(Fault::Target);
+    }
+    not_for(kind, i)
+}
+
+fn fault_of_raw(kind: Kind, left: u32, raw: &Raw) -> Option<Fault>
+    ensures { result ≡ fault_of_raw kind left (instruction_of raw.now) }
+{
+    match instruction_of(raw) {
+        Some(i) => fault_of(kind, left, &i),
+        None => Some(Fault::Code),
+    }
+}
+
+/// The lowest instruction with a fault.
+pub fn lowest_fault(kind: Kind, raws: &[Raw]) -> Option<(u32, Fault)>
+    requires { length raws.now ≤ max_filter }
+    ensures found { IfSome result (λ f. IsLowestFault kind raws.now f.0 f.1) }
+    ensures none { IfNone result ((at : ℕ) → at < length raws.now → fault_at kind raws.now at ≡ None) }
+{
+    for at in 0..raws.len() {
+        if let Some(fault) = fault_of_raw(kind, (raws.len() - (at + 1)) as u32, &raws[at]) {
+            return Some((at as u32, fault));
+        }
+    }
+    None
+}

@@ -1,0 +1,70 @@
+//! Why instructions are no filter.
+
+use thiserror::Error;
+
+/// What a filter is for: packets, or the calls of a process (seccomp).
+#[derive(Clone, Copy, Debug, PartialEq, Eq)]
+pub enum Kind {
+    Packets,
+    Seccomp,
+}
+
+/// What is wrong with one instruction of a filter.
+#[derive(Clone, Copy, Debug, PartialEq, Eq, Error)]
+pub enum Fault {
+    /// B2: no instruction has its code.
+    #[error("no instruction of classic BPF has this code")]
+    Code,
+    /// B3: it names a cell of the scratch memory beyond the sixteenth.
+    #[error("the scratch memory has the cells M[0] to M[15] alone")]
+    Cell,
+    /// B4: it divides by the constant 0, or shifts by a constant of 32 or more.
+    #[error("it divides by the constant 0, or shifts by a constant of 32 or more")]
+    Constant,
+    /// B5: it leads past the last instruction.
+    #[error("it leads past the last instruction, or back")]
+    Target,
+    /// B6: it isn't in seccomp's filters, which load aligned words of their 64 bytes alone.
+    #[error("a seccomp filter loads aligned words of its 64 bytes alone, by constant offsets, and has no mod")]
+    Seccomp,
+    /// B7: it loads one of Linux's extensions.
+    #[error("it loads one of Linux's extensions, which a packet doesn't hold")]
+    Extension,
+}
+
+/// Why instructions are no filter.
+#[derive(Clone, Copy, Debug, PartialEq, Eq, Error)]
+pub enum Refusal {
+    /// B1: there are none, or more than 4,096.
+    #[error("a filter has from 1 to 4,096 instructions")]
+    Length,
+    /// B2 to B7: the lowest instruction with a fault.
+    #[error("at instruction {at}: {fault}")]
+    Instruction { at: u32, fault: Fault },
+    /// B9: memory ran out.
+    #[error("out of memory")]
+    Memory,
+}
+
+impl Refusal {
+    ghost use Rattle.std.specs.Prelude.{◌≡◌};
+    ghost use Rattle.bpf_classic.specs.Valid.{refusal_number};
+
+    /// The number of the refusal, from 1 to 9.
+    pub fn number(&self) -> u8
+        ensures { result ≡ refusal_number self.now }
+    {
+        match self {
+            Refusal::Length => 1,
+            Refusal::Instruction { fault, .. } => match fault {
+                Fault::Code => 2,
+                Fault::Cell => 3,
+                Fault::Constant => 4,
+                Fault::Target => 5,
+                Fault::Seccomp => 6,
+                Fault::Extension => 7,
+            },
+            Refusal::Memory => 9,
+        }
+    }
+}

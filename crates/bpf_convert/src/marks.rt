@@ -1,0 +1,111 @@
+//! What is known in front of each instruction: a forward pass, since jumps lead forward. Where ways meet, what all of them know is
+//! known. That it holds is seen again by `flow`, on what this pass found.
+
+ghost use Rattle.std.specs.Prelude.{◌≤◌, length};
+ghost use Rattle.bpf_classic.specs.Valid.{max_filter};
+
+use crate::flow::{known_behind, sets_a, sets_x};
+use crate::layout::{Annotated, Layout, is_beyond};
+use bpf_classic::Classic;
+use std::alloc::{AllocError, Global};
+
+/// What is known behind an instruction.
+fn behind(a: &Annotated) -> Annotated {
+    Annotated {
+        insn: a.insn,
+        reached: true,
+        known: known_behind(a).min(4096) as u32,
+        a: a.a || sets_a(&a.insn),
+        x: a.x || sets_x(&a.insn),
+    }
+}
+
+/// Leads one more way to an instruction: what both know is known.
+fn arrive(list: &mut Vec<Annotated>, at: usize, from: &Annotated) {
+    if at >= list.len() {
+        return;
+    }
+    let old = list[at];
+    let joined = if old.reached {
+        Annotated {
+            insn: old.insn,
+            reached: true,
+            known: old.known.min(from.known),
+            a: old.a && from.a,
+            x: old.x && from.x,
+        }
+    } else {
+        Annotated {
+            insn: old.insn,
+            reached: true,
+            known: from.known,
+            a: from.a,
+            x: from.x,
+        }
+    };
+    list[at] = joined;
+}
+
+/// How many instructions an instruction may pass over, one way and another.
+fn passes(insn: &Classic) -> (Option<u32>, Option<u32>) {
+    match *insn {
+        Classic::Jump { k } => (Some(k), None),
+        Classic::JumpIf { jt, jf, .. } => (Some(u32::from(jt)), Some(u32::from(jf))),
+        Classic::Return { .. } | Classic::ReturnA => (None, None),
+        Classic::Constant { .. } | Classic::Length { .. } | Classic::Cell { .. } => (Some(0), None),
+        Classic::At { .. } | Classic::Index { .. } | Classic::Header { .. } => (Some(0), None),
+        Classic::Store { .. } | Classic::Alu { .. } | Classic::Neg => (Some(0), None),
+        Classic::Tax | Classic::Txa => (Some(0), None),
+    }
+}
+
+/// Leads on from an instruction to each one that may follow.
+fn lead_on(list: &mut Vec<Annotated>, layout: &Layout, at: usize)
+    requires { at ≤ max_filter }
+{
+    let a = match list.get(at) {
+        Some(a) => *a,
+        None => return,
+    };
+    if !a.reached || is_beyond(layout, &a.insn) {
+        return;
+    }
+    let after = behind(&a);
+    let (taken, other) = passes(&a.insn);
+    if let Some(k) = taken {
+        arrive(list, at + 1 + k as usize, &after);
+    }
+    if let Some(k) = other {
+        arrive(list, at + 1 + k as usize, &after);
+    }
+}
+
+/// Each instruction with what is known in front of it.
+pub fn annotate(
+    alloc: Global,
+    filter: &[Classic],
+    layout: &Layout,
+) -> Result<Vec<Annotated>, AllocError>
+    requires { length filter.now ≤ max_filter }
+{
+    let mut list = Vec::with_capacity(alloc, filter.len())?;
+    for insn in filter {
+        list.push(Annotated {
+            insn: *insn,
+            reached: false,
+            known: 0,
+            a: false,
+            x: false,
+        })?;
+    }
+    if let Some(first) = list.get_mut(0) {
+        first.reached = true;
+        first.known = layout.known_first();
+        first.a = layout.zero_a;
+        first.x = layout.zero_x;
+    }
+    for at in 0..filter.len() {
+        lead_on(&mut list, layout, at);
+    }
+    Ok(list)
+}
