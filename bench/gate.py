@@ -1,11 +1,11 @@
 #!/usr/bin/env python3
-"""Times `rt ci` from nothing on two processors, and tells what each crate takes of it.
+"""Times `rt ci` from nothing on two processors, and `tests/wrong.py` behind it, and tells what each crate takes of them.
 Usage: bench/gate.py [PROCESSORS], 0,1 if not said; the others should be idle. It works on a clone of what is committed, in a
 temporary folder, so that files may be edited meanwhile. What the gate says is in its file gate.log.
 
-The table has seconds of processor time, by crate: its proof with the builds of its programs, its tests' proof, the second
-whole proof that its must-fail edits begin with ("seed"), and the checks behind it, with their number. A process is looked at
-four times a second, so that the last quarter of a second of each is missed."""
+The table has seconds of processor time, by crate: its proof with the builds of its programs, its tests' proof, and the checks of its
+wrong bodies, with the number of these checks. A process is looked at four times a second, so that the last quarter of a second of each is
+missed."""
 
 import collections
 import os
@@ -16,15 +16,15 @@ import tempfile
 import time
 
 TICKS = os.sysconf("SC_CLK_TCK")
-KINDS = ["proof", "tests", "seed", "edits"]
+KINDS = ["proof", "tests", "wrong"]
 
 
 def kind_of(words, folder):
     """What a run of the prover is for, or None."""
     if words[1] not in ("check", "build"):
         return None
-    if "rt-edit-" in folder:
-        return "edits"
+    if "rt-edit-" in folder or "bpf-wrong-" in folder:
+        return "wrong"
     return "tests" if "--test" in words else "proof"
 
 
@@ -44,11 +44,8 @@ def looked_at(number):
 
 def told(seen, minutes):
     """The table, the crate that takes longest first."""
-    spent, runs, begun = collections.Counter(), collections.Counter(), {}
-    # The first check of a crate's edits is a proof of the whole crate: what comes behind is over its work.
-    for (_, crate, kind, start), seconds in sorted(seen.items(), key=lambda run: int(run[0][3])):
-        if kind == "edits" and begun.setdefault(crate, start) == start:
-            kind = "seed"
+    spent, runs = collections.Counter(), collections.Counter()
+    for (_, crate, kind, _), seconds in seen.items():
         spent[crate, kind] += seconds
         runs[crate, kind] += 1
     whole = lambda crate: sum(spent[crate, kind] for kind in KINDS)
@@ -56,9 +53,9 @@ def told(seen, minutes):
     lines = [f"{'':16}" + "".join(f"{kind:>8}" for kind in KINDS) + "  number"]
     for crate in crates:
         columns = "".join(f"{spent[crate, kind]:8.0f}" if spent[crate, kind] else " " * 8 for kind in KINDS)
-        lines.append(f"{crate:16}{columns}{runs[crate, 'edits'] or '':>8}")
+        lines.append(f"{crate:16}{columns}{runs[crate, 'wrong'] or '':>8}")
     sums = "".join(f"{sum(spent[crate, kind] for crate in crates):8.0f}" for kind in KINDS)
-    lines.append(f"{'all':16}{sums}{sum(runs[crate, 'edits'] for crate in crates):>8}")
+    lines.append(f"{'all':16}{sums}{sum(runs[crate, 'wrong'] for crate in crates):>8}")
     lines.append(f"{minutes:.1f} minutes, {sum(map(whole, crates)):.0f} seconds of processor time")
     return "\n".join(lines)
 
@@ -70,7 +67,8 @@ def main():
     subprocess.run(["git", "clone", "-q", top, room / "tree"], check=True)
     told_of = subprocess.run(["rt", "help"], stdout=subprocess.PIPE, stderr=subprocess.STDOUT, text=True, check=False).stdout
     # A kit whose `rt ci` may take over what an earlier run has proved has a word for not doing so.
-    words = ["taskset", "-c", processors, "rt", "ci"] + ["--anew"] * ("--anew" in told_of)
+    anew = " --anew" if "--anew" in told_of else ""
+    words = ["taskset", "-c", processors, "sh", "-c", f"rt ci{anew} && tests/wrong.py --anew"]
     how = dict(os.environ, RT_JOBS=str(processors.count(",") + 1))
     print(f"{room}/gate.log", flush=True)
     seen, begun = {}, time.monotonic()

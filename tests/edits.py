@@ -1,72 +1,278 @@
 #!/usr/bin/env python3
-"""edits.py: the wrong bodies in the folders must-fail-too, which the gate doesn't try.
+"""edits.py: whether each wrong body can be tried. Nothing is proved here: tests/wrong.py has the prover refuse them.
 
-  edits.py               looks whether each text that an edit replaces stands once in its file, as in the gate. Nothing is proved.
-  edits.py --try [NAME..]  has the prover try those of these crates, or all, on a clone of what is committed: each must be refused.
-                         It begins with what checks on this machine kept: 51 of them took six minutes on four processors.
+  edits.py --name   writes each `fn:` line anew, where all texts stand in one function, and moves edits that stand in a folder of the kit by mistake
+
+A wrong body is a file crates/CRATE/wrong/function-does-wrong.edit, of lines
+
+  # WORDS             a comment
+  fn: PATH            the function that the prover must refuse, by its path below the crate, as a check prints it: `num::Num::tighten`
+  file: src/FILE.rt   where the next texts stand
+  old: TEXT           stands once in that file, in the body of a function
+  new: TEXT           what stands there instead
+
+`old:` and `new:` come in pairs, at least one of which is in the function of `fn:`. An edit of a contract, a definition or a proof shows
+nothing, so each text stands in a body.
+The lists below say which wrong body each promise has: one that is moved or deleted fails here.
 """
+import dataclasses
+import functools
 import pathlib
-import subprocess
+import re
 import sys
-import tempfile
 
 ROOT = pathlib.Path(__file__).resolve().parent.parent
-GATE, LATER = "must-fail", "must-fail-too"
+FOLDER = "wrong"
+# `rt ci` tries the edits of these crates itself, in must-fail/, and proves each of the crates a second time for them.
+BY_THE_KIT = {"bpf_lines", "bpf_flat", "bpf_request", "bpf_host_runs", "bpf_command_core", "bpf_command"}
+# The wrong bodies of these crates are tried by hand, by the crate's name: the gate would take too long with them.
+BY_NAME = {"bpf_answers", "bpf_explain", "bpf_command_core", "bpf_command", "bpf_host_runs", "bpf_host_advice", "bpf_host"}
+
+# The mistakes that a toolchain like this is known for, each with the wrong bodies that make it.
+KNOWN = {
+    "reserved bits are ignored": ["bpf_insn/fault_in-ignores-the-reserved-bits"],
+    "a 32-bit sum keeps 64-bit bounds": ["bpf_num/alu32-keeps-64-bit-bounds"],
+    "unsigned bounds are copied to signed ones across the sign": ["bpf_num/tighten-copies-unsigned-bounds-across-the-sign"],
+    "a division forgets that a zero divisor gives 0": ["bpf_num/alu-forgets-a-zero-divisor"],
+    "not greater is refined as less": ["bpf_num/where_fails-refines-not-above-as-below"],
+    "a partial store leaves a spilled pointer": ["bpf_state/transfer-leaves-a-spilled-pointer-under-a-partial-store"],
+    "a store at several offsets sets one slot": ["bpf_state/transfer-leaves-a-slot-of-several"],
+    "a backward edge passes unpaid": ["bpf_check/check-lets-a-backward-edge-pass-unpaid"],
+    "a function is checked against its own summary": ["bpf_check/calls_no_deeper-takes-an-equal-depth"],
+    "caller-saved registers are kept after a call": ["bpf_state/leave-keeps-r5"],
+    "a callee uses its caller's frame pointer": ["bpf_state/enter-hands-on-a-frame-pointer"],
+    "the checker always says no": ["bpf_check/check-refuses-all"],
+    "a tag survives an addition that may wrap": ["bpf_state/transfer-keeps-a-counter-where-the-sum-may-wrap"],
+    "a rising counter passes above its limit": ["bpf_check/check-takes-a-counter-above-its-limit"],
+    "a contradictory label lets all below it pass": ["bpf_check/check-takes-a-contradictory-label"],
+    "a checked run always answers 0": ["bpf_check/run-answers-0"],
+    "registers aren't exchanged in big-endian images": ["bpf_insn/registers_in-keeps-in-big"],
+    "`le` keeps in big-endian programs": ["bpf_insn/swap-keeps-le-in-big", "bpf_num/swapped-reverses-what-the-big-order-keeps"],
+    "an access is tested against the greatest length": ["bpf_check/judge-tests-accesses-against-the-greatest-length"],
+    "the length register starts as the greatest length": ["bpf_state/start-begins-with-the-greatest-length"],
+    "a part of a spilled pointer passes as a number": ["bpf_state/transfer-reads-a-part-of-a-spilled-pointer"],
+    "comparisons are made round the counter": ["bpf_check/check-visits-with-a-second-work"],
+}
+
+# Each command, as bpf_words names it, and each call of the library for hosts, as bpf.h does.
+COMMANDS = {
+    "asm": ["bpf_command_core/asm-empties-OUT-and-says-no-memory"],
+    "check": ["bpf_command_core/check-tells-the-length-as-the-bound"],
+    "explain": ["bpf_command/explain-seeks-for-length-0-whatever-was-asked"],
+    "follows": ["bpf_command_core/follows-compares-the-old-image-with-itself"],
+    "groups": ["bpf_command_core/groups-names-divmul-for-atomic"],
+    "harden": ["bpf_command/harden-writes-what-is-not-shown"],
+    "infer": ["bpf_command/infer-seeks-for-the-least-length-alone"],
+    "list": ["bpf_command_core/list-reads-big-images-as-little"],
+    "migrate": ["bpf_command_core/migrate-writes-the-certificate-as-it-was"],
+    "run": ["bpf_command_core/run-gives-half-the-steps"],
+    "run-checked": ["bpf_command_core/run-checked-tells-32-bits-of-the-number"],
+}
+CALLS = {
+    "bpf_host_explain": ["bpf_host_advice/explain-says-yes-of-a-refused-program"],
+    "bpf_host_explain_search": ["bpf_host_advice/explain_search-says-yes-of-a-refused-certificate"],
+    "bpf_host_harden": ["bpf_host_advice/harden-takes-any-number-for-padded"],
+    "bpf_host_infer": ["bpf_host_advice/infer-proposes-for-the-greatest-length-alone", "bpf_host/bpf_host_infer-hands-the-least-on-as-the-most"],
+    "bpf_host_load": ["bpf_host_runs/load-takes-twice-the-limit"],
+    "bpf_host_prepare": ["bpf_host_runs/prepare-writes-big-always"],
+    "bpf_host_prepared_size": ["bpf_host_runs/prepared_size-leaves-out-the-head"],
+    "bpf_host_refusal_text": ["bpf_host_advice/refusal_text-says-of-c3-what-c4-is"],
+    "bpf_host_run": ["bpf_host_runs/run-gives-half-the-fuel"],
+    "bpf_host_run_checked": ["bpf_host_runs/run_checked-runs-what-another-version-prepared"],
+    "bpf_host_run_loaded": ["bpf_host_runs/run_loaded-takes-any-shorter-context"],
+    "bpf_host_verify": ["bpf_host_runs/verify-tells-the-least-as-the-most"],
+}
+# Those whose answer is an equation, or isn't pinned by a clause (docs/PROOFS.md, "What no clause says").
+WITHOUT = ["bpf_host_explain_image", "bpf_host_loaded_size", "bpf_host_version"]
 
 
-def faults_of(edit):
-    """What is wrong with the form of an edit: it names a file of its crate, and each text that it replaces stands there once."""
-    lines = edit.read_text(encoding="utf-8").splitlines()
-    if not lines or not lines[0].startswith("file: "):
-        return ["it names no file"]
-    file = edit.parent.parent / lines[0].removeprefix("file: ")
-    if not file.is_file():
-        return [f"there is no {lines[0].removeprefix('file: ')}"]
-    text, pairs = file.read_text(encoding="utf-8"), lines[1:]
-    kinds = [line.partition(":")[0] for line in pairs]
-    if not pairs or kinds != ["old", "new"] * (len(pairs) // 2):
-        return ["it has other lines than pairs of old and new"]
-    olds = [line.removeprefix("old:").removeprefix(" ") for line in pairs[::2]]
-    return [f"this stands {text.count(old)} times: {old}" for old in olds if text.count(old) != 1]
+class BadEdit(Exception):
+    """Why an edit can't be tried, in words."""
+
+
+@dataclasses.dataclass(frozen=True)
+class Edit:
+    path: pathlib.Path
+    function: str
+    pairs: tuple[tuple[str, str, str], ...]
+
+    @property
+    def crate(self):
+        return self.path.parent.parent.name
+
+    @property
+    def name(self):
+        return f"{self.crate}/{self.path.stem}"
+
+    def applied(self):
+        """The edited files, by their path in the crate, and the functions in whose bodies the texts stand, its own among them."""
+        texts, touched = self.changed()
+        if self.function not in touched:
+            raise BadEdit(f"fn: {self.function} isn't edited: the texts stand in {', '.join(sorted(touched))}")
+        return texts, touched
+
+    def changed(self):
+        """As [`applied`], whatever function it names."""
+        folder, texts, touched = self.path.parent.parent, {}, set()
+        for file, old, new in self.pairs:
+            if file not in texts:
+                texts[file] = text_of(folder / file)
+            text = texts[file]
+            if text.count(old) != 1:
+                raise BadEdit(f"this stands {text.count(old)} times in {file}, and not once: {old}")
+            touched.add(function_at(folder, file, text, text.index(old)))
+            texts[file] = text.replace(old, new)
+        if any(texts[file] == text_of(folder / file) for file in texts):
+            raise BadEdit("it leaves a file as it was")
+        return texts, touched
+
+
+def text_of(file):
+    try:
+        return file.read_text(encoding="utf-8")
+    except OSError as error:
+        raise BadEdit(f"{file.name}: {error.strerror}") from error
+
+
+def read(path):
+    """The edit in a file."""
+    function, file, old, pairs = None, None, None, []
+    for line in text_of(path).splitlines():
+        kind, _, rest = line.partition(": ")
+        if line.startswith("#") or not line:
+            continue
+        if (kind == "old") != (old is None and kind not in ("fn", "file")):
+            raise BadEdit(f"an `old:` has no `new:` behind it, or a `new:` no `old:` before it: {line}")
+        if kind == "fn" and function is None:
+            function = rest
+        elif kind == "file" and re.fullmatch(r"src/[\w/]+\.rt", rest):
+            file = rest
+        elif kind == "old" and file and rest:
+            old = rest
+        elif kind.rstrip(":") == "new":
+            pairs.append((file, old, rest))
+            old = None
+        else:
+            raise BadEdit(f"this line isn't read: {line}")
+    if not function or not pairs or old is not None:
+        raise BadEdit("it has no `fn:`, or no pair of `old:` and `new:`")
+    return Edit(path, function, tuple(pairs))
+
+
+DEFINED = re.compile(r"^(?:pub(?:\([\w ]+\))? )?(?:struct|enum) (\w+)", re.M)
+ITEM = re.compile(
+    r"(?P<column> *)(?:pub(?:\([\w ]+\))? )?(?:const |unsafe )*"
+    r"(?:(?:extern \"C\" )?fn (?P<fn>\w+)|impl(?:<.*?>)? (?:(?P<trait>\w+)(?:<.*?>)? for )?(?P<type>\w+)|(?:trait|mod) (?P<other>\w+))"
+)
+
+
+def module_of(file):
+    """The path of the module that a file is."""
+    return [it for it in file.removeprefix("src/").removesuffix(".rt").split("/") if it not in ("lib", "main")]
+
+
+@functools.cache
+def modules_of(folder):
+    """From a type's name to the module that defines it, by which the prover names its methods, wherever they stand."""
+    files = [(it, it.relative_to(folder).as_posix()) for it in sorted(folder.glob("src/**/*.rt"))]
+    found = [(name, module_of(path)) for file, path in files for name in DEFINED.findall(text_of(file))]
+    return dict(found)
+
+
+def function_at(folder, file, text, at):
+    """The path of the function whose body has this place, by the layout of `rt fmt`: what begins an item and its closing brace stand
+    in one column, and so does the brace that opens the body of a function with a contract."""
+    lines, number = text.split("\n"), text.count("\n", 0, at)
+    module, modules = module_of(file), modules_of(folder)
+    names, is_in_body = [], False
+    for first, line in enumerate(lines[: number + 1]):
+        item = ITEM.match(line)
+        if not item or line.endswith(";"):
+            continue
+        column = item["column"]
+        last = next((i for i in range(first, len(lines)) if lines[i] == column + "}"), first)
+        if last < number:
+            continue
+        opened = next(i for i in range(first, last + 1) if re.match(column + r"(\S.*)?\{$", lines[i]))
+        if item["type"]:
+            module = modules.get(item["type"], module)
+        names.append(item["fn"] or item["other"] or item["type"] + (item["trait"] or ""))
+        is_in_body = bool(item["fn"]) and opened < number
+    if not is_in_body:
+        raise BadEdit(f"line {number + 1} of {file} stands in no function's body")
+    return "::".join(module + names)
 
 
 def edits():
-    return sorted(ROOT.glob(f"crates/*/{LATER}/*.edit"))
+    """The files of all edits."""
+    return sorted(ROOT.glob(f"crates/*/{FOLDER}/*"))
 
 
-def look():
-    failed = 0
-    for edit in edits():
-        for fault in faults_of(edit):
-            failed += 1
-            print(f"{edit.relative_to(ROOT)}: {fault}")
-    print(f"{len(edits())} wrong bodies beside the gate's, {failed} out of date")
-    return failed
+def faults_of_lists(names):
+    """What is wrong with the lists above, where these edits are there."""
+    listed = {name: why for table in (KNOWN, COMMANDS, CALLS) for why, them in table.items() for name in them}
+    faults = [f"{name} is gone, and was tried for: {why}" for name, why in listed.items() if name not in names]
+    header = set(re.findall(r"\b(bpf_host_\w+)\(", (ROOT / "include" / "bpf.h").read_text(encoding="utf-8")))
+    for what, there, told in [("call of bpf.h", header, {*CALLS, *WITHOUT}), ("command", commands(), {*COMMANDS})]:
+        faults += [f"the {what} {it} has no wrong body in tests/edits.py" for it in sorted(there - told)]
+        faults += [f"{it} is no {what}" for it in sorted(told - there)]
+    return faults
 
 
-def tried(names):
-    with tempfile.TemporaryDirectory() as room:
-        tree = pathlib.Path(room) / "tree"
-        subprocess.run(["git", "clone", "-q", ROOT, tree], check=True)
-        crates = names or sorted({edit.parent.parent.name for edit in edits()})
-        for crate in crates:
-            gate, later = tree / "crates" / crate / GATE, tree / "crates" / crate / LATER
-            for edit in list(gate.glob("*.edit")):
-                edit.unlink()
-            gate.mkdir(exist_ok=True)
-            for edit in list(later.glob("*.edit")):
-                edit.rename(gate / edit.name)
-        for crate in crates:
-            if subprocess.run(["rt", "check"], cwd=tree / "crates" / crate, check=False, stdout=subprocess.DEVNULL).returncode:
-                print(f"{crate} isn't proved")
-                return 1
-        return subprocess.run(["rt", "must-fail", *crates], cwd=tree, check=False).returncode
+def commands():
+    """The names of the commands, as bpf_words has them."""
+    table = (ROOT / "crates" / "bpf_words" / "src" / "table.rt").read_text(encoding="utf-8")
+    return set(re.findall(r"Entry \{\s*name: \"([\w-]+)\"", table))
+
+
+def looked_at():
+    """The edits that can be tried, and what is wrong with the others and with the lists."""
+    good, faults = [], []
+    for path in edits():
+        try:
+            if path.suffix != ".edit":
+                raise BadEdit("only files NAME.edit stand in this folder")
+            edit = read(path)
+            edit.applied()
+            good.append(edit)
+        except BadEdit as why:
+            faults.append(f"{path.relative_to(ROOT)}: {why}")
+    faults += [f"{path.relative_to(ROOT)}: the kit would prove this crate a second time for it: wrong bodies stand in {FOLDER}/" for path in strays()]
+    by_the_kit = {f"{path.parent.parent.name}/{path.stem}" for path in kits()}
+    return good, faults + faults_of_lists(by_the_kit | {edit.name for edit in good})
+
+
+def kits():
+    """The edits in folders of the kit."""
+    return sorted(ROOT.glob("crates/*/must-fail*/*.edit"))
+
+
+def strays():
+    """The edits in folders of the kit, of crates that it is not to prove a second time."""
+    return [it for it in kits() if it.parent.name != "must-fail" or it.parent.parent.name not in BY_THE_KIT]
+
+
+def name_functions():
+    """Moves strays, and writes the `fn:` line of each edit that touches one function."""
+    for path in strays():
+        folder = path.parent.parent / FOLDER
+        folder.mkdir(exist_ok=True)
+        path.rename(folder / path.name)
+    for path in edits():
+        lines = [line for line in text_of(path).splitlines() if not line.startswith("fn: ")]
+        named = next((line for line in text_of(path).splitlines() if line.startswith("fn: ")), "fn: none")
+        path.write_text("\n".join([named, *lines]) + "\n", encoding="utf-8")
+        touched = sorted(read(path).changed()[1])
+        if len(touched) == 1:
+            path.write_text("\n".join([f"fn: {touched[0]}", *lines]) + "\n", encoding="utf-8")
 
 
 def main():
-    if sys.argv[1:2] == ["--try"]:
-        return tried(sys.argv[2:])
-    return 1 if look() else 0
+    if sys.argv[1:] == ["--name"]:
+        name_functions()
+    good, faults = looked_at()
+    print("\n".join([*faults, f"{len(good)} wrong bodies can be tried, in {len({it.crate for it in good})} crates; {len(faults)} faults"]))
+    return bool(faults)
 
 
 if __name__ == "__main__":

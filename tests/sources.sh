@@ -1,6 +1,6 @@
 #!/bin/sh
-# The checker counts all its work: its Rust sources make one `Work`, and call neither `transfer`, `entails`, `entails_entries` nor
-# `covers`, which count nothing. And what takes no memory names no allocator. Contracts (`requires`, `ensures`, `ghost`), comments and
+# The checker counts all its work: its Rust sources make one `Work`, and take of bpf_state what is listed here alone, so that no state is
+# compared or transferred without being counted. And what takes no memory names no allocator. Contracts (`requires`, `ensures`, `ghost`), comments and
 # strings aren't looked at. In contracts and definitions limits stand by name.
 cd "$(dirname "$0")/../crates/bpf_check/src" || exit 1
 
@@ -75,10 +75,33 @@ fi
 # One in a visit, and one in a step of straight code.
 wants 'transfer_counted' 2
 wants 'returns_counted' 1
-wants 'transfer' 0
-wants 'entails' 0
-wants 'entails_entries' 0
-wants 'covers' 0
+
+# What the checker takes of bpf_state: its types; the edges; what counts; what makes, fills and tightens one state, and reads one number of it.
+# `number`, `of`, `slot` and the like are words of other crates, too.
+may_take=" Condition Entries Place State StateFault Tag Work branch enter leave returns_counted transfer_counted entails_label_counted
+ begin blank clear_tags copy_from put_into set_tag tighten tightened held new number of slot slots start state tag valid "
+taken=$({
+    # Each function of bpf_state that others may call, if its name stands in these sources; and what is brought in.
+    grep -rhoE '(^|[[:space:]])pub (const )?fn [[:alnum:]_]+' ../../bpf_state/src | sed 's/.* //' | sort -u | while read -r name; do
+        code $files | sed 's/^[^:]*: //' | grep -ow -- "$name" | head -n 1
+    done
+    code $files | sed -n 's/^[^:]*: *\(pub \)\{0,1\}use bpf_state:://p' | grep -oE '[[:alnum:]_*]+'
+} | sort -u)
+for name in $taken; do
+    case $may_take in
+    *[[:space:]]"$name"[[:space:]]*) ;;
+    *)
+        echo "the checker takes $name of bpf_state, which isn't among what it may take:"
+        code $files | grep -w -- "$name"
+        failed=1
+        ;;
+    esac
+done
+# Each use of bpf_state is one line that the list above reads.
+if code $files | sed 's/^[^:]*: //' | grep -w bpf_state | grep -vE '^(pub )?use bpf_state::(\{[[:alnum:]_, ]*\}|[[:alnum:]_]+);$'; then
+    echo "these lines take of bpf_state in another form than \`use bpf_state::{..};\`"
+    failed=1
+fi
 
 # What takes no memory names no allocator and makes nothing grow: numbers, states but for their entries, the machine, and the checker
 # but for `verify`, which reads a certificate.
@@ -128,7 +151,7 @@ for crate in "$crates"/*/; do
 done
 # A limit stands by name where it is believed, in definitions and clauses: its number stands where the name is defined, and nowhere else.
 limits='4096|512|65535|65536|1048576|1099511627776|2 \^ (20|40)'
-defined='bpf_insn/specs/Limits|bpf_cert/specs/Limits|bpf_state/specs/Transfer|bpf_request/specs/CommandLine'
+defined='bpf_insn/specs/Limits|bpf_classic/specs/Limits|bpf_cert/specs/Limits|bpf_state/specs/Transfer|bpf_request/specs/CommandLine'
 # The lines of definitions, without comments and strings; the lines of contracts and ghost items, up to the brace that closes them.
 definitions() {
     awk '{ line = $0; gsub(/"[^"]*"/, "", line); sub(/(^|[[:space:]])--([[:space:]].*|$)/, "", line); print FILENAME ":" FNR ": " line }' "$@"
@@ -157,8 +180,8 @@ for crate in "$crates"/*/; do
     fi
 done
 # The command's version names the kit that it was proved with last. A newer kit is a note, and no failure: a change of the kit changes no source.
-kit=$(rt version)
-if ! grep -qF "\\n$kit\";" "$crates/bpf_words/src/commands.rt"; then
+kit=$(rt version 2>/dev/null)
+if [ -n "$kit" ] && ! grep -qF "\\n$kit\";" "$crates/bpf_words/src/commands.rt"; then
     echo "note: the version in bpf_words doesn't name this kit, $kit"
 fi
 [ "$failed" -eq 0 ] && echo "the checker makes one Work, and all its work is counted; what takes no memory names no allocator; limits stand by name"

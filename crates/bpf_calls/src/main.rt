@@ -1,10 +1,13 @@
-//! What calls answer that no command makes alone: of a reader that fails, and of instructions that no text says. `tests/failures.py` refuses
-//! each growth of memory in turn.
+//! What calls answer that no command makes alone: of a reader that fails, of instructions that no text says, and of numbers and states.
+//! `tests/failures.py` refuses each growth of memory in turn.
 #![tactic(auto)]
+
+mod states;
 
 use bpf_check::{VerifyError, verify};
 use bpf_insn::{BuildError, DecodeError, Insn, Order, Program, Reg, Size, decode_from};
 use bpf_text::{TextError, assemble};
+use states::tell_states;
 use std::alloc::Global;
 use std::fmt::Display;
 use std::io::{self, ErrorKind, Read, Write};
@@ -46,6 +49,13 @@ impl<'a> Read for Failing<'a> {
     }
 }
 
+/// A reader that fails behind so many bytes.
+fn after(bytes: &[u8], count: usize) -> Failing<'_> {
+    Failing {
+        left: &bytes[..count.min(bytes.len())],
+    }
+}
+
 /// The slots of a text's program.
 fn assembled(alloc: Global) -> Result<u32, TextError> {
     Ok(assemble(alloc, TEXT, Order::Little)?.slots())
@@ -80,26 +90,51 @@ fn tell<E: Display>(out: &mut impl Write, call: &str, answer: &Result<u32, E>) -
 
 /// What is told of texts, images and lists.
 fn tell_programs(alloc: Global, out: &mut impl Write) -> io::Result<()> {
-    let failing = Failing { left: &IMAGE[..12] };
     tell(out, "assemble", &assembled(alloc))?;
     tell(out, "decode_from", &decoded(alloc, IMAGE))?;
-    tell(out, "decode_from, failing", &decoded(alloc, failing))?;
+    tell(
+        out,
+        "decode_from, failing at 0",
+        &decoded(alloc, after(IMAGE, 0)),
+    )?;
+    tell(
+        out,
+        "decode_from, failing at 7",
+        &decoded(alloc, after(IMAGE, 7)),
+    )?;
+    tell(
+        out,
+        "decode_from, failing at 12",
+        &decoded(alloc, after(IMAGE, 12)),
+    )?;
+    tell(
+        out,
+        "decode_from, failing at 16",
+        &decoded(alloc, after(IMAGE, 16)),
+    )?;
     tell(out, "new", &made(alloc, Insn::Exit))?;
     tell(out, "new, no encoding", &made(alloc, NO_LOAD))
 }
 
 /// What is told of certificates.
 fn tell_verified(alloc: Global, out: &mut impl Write) -> io::Result<()> {
-    let failing = Failing {
-        left: &CERTIFICATE[..42],
-    };
     tell(out, "verify", &verified(alloc, CERTIFICATE))?;
     tell(out, "verify, short", &verified(alloc, SHORT))?;
-    tell(out, "verify, failing", &verified(alloc, failing))
+    tell(
+        out,
+        "verify, failing at 14",
+        &verified(alloc, after(CERTIFICATE, 14)),
+    )?;
+    tell(
+        out,
+        "verify, failing at 42",
+        &verified(alloc, after(CERTIFICATE, 42)),
+    )
 }
 
 fn main(rt: HostRuntime) -> io::Result<()> {
     let mut out = rt.stdout();
     tell_programs(rt.alloc(), &mut out)?;
-    tell_verified(rt.alloc(), &mut out)
+    tell_verified(rt.alloc(), &mut out)?;
+    tell_states(&mut out)
 }
