@@ -7,6 +7,21 @@ typedef unsigned short u16;
 typedef unsigned int u32;
 typedef unsigned long long u64;
 
+/* The network's byte order, as in <arpa/inet.h>; whoever includes that does so in front of this file. A constant stays one, as in
+ * `case htons(0x0800):`.
+ */
+#ifndef ntohs
+#if __BYTE_ORDER__ == __ORDER_LITTLE_ENDIAN__
+#define ntohs(x) ((u16)__builtin_bswap16(x))
+#define ntohl(x) ((u32)__builtin_bswap32(x))
+#else
+#define ntohs(x) ((u16)(x))
+#define ntohl(x) ((u32)(x))
+#endif
+#define htons(x) ntohs(x)
+#define htonl(x) ntohl(x)
+#endif
+
 /* The context's bytes: another number may be defined before this file is included, or by -DCONTEXT_SIZE=1520. */
 #ifndef CONTEXT_SIZE
 #define CONTEXT_SIZE 128
@@ -30,6 +45,29 @@ struct context {
 #else
 #define FILTER_LOOP
 #define FILTER_INLINE static inline __attribute__((always_inline, artificial))
+#endif
+
+/* As in <string.h>; whoever includes that of a C library does so in front of this file. Copies and fills are of a constant length. A comparison
+ * is of any: clang spells out one of a constant length, and else it is a loop, in the caller's own lines, so that the bytes may lie in the frame
+ * as in the context.
+ */
+void *memcpy(void *to, const void *from, __SIZE_TYPE__ size);
+void *memset(void *to, int byte, __SIZE_TYPE__ size);
+FILTER_INLINE int bytes_compared(const void *left, const void *right, u64 size)
+{
+	const u8 *a = left, *b = right;
+	int difference = 0;
+
+	FILTER_LOOP for (u64 at = 0; at < size && difference == 0; at++) {
+		difference = a[at] - b[at];
+		HIDE(difference);
+	}
+	return difference;
+}
+#ifdef __clang__
+#define memcmp(left, right, size) (__builtin_constant_p(size) ? __builtin_memcmp(left, right, size) : bytes_compared(left, right, size))
+#else
+#define memcmp(left, right, size) bytes_compared(left, right, size)
 #endif
 
 /* A loop of at most n turns over i, from 0 on; the counter itself is tested. */

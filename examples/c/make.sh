@@ -1,5 +1,5 @@
 #!/usr/bin/env bash
-# Makes the images and certificates of this folder again, from the C sources, by build.sh (BPF_CC names the compiler):
+# Makes the images and certificates of this folder again, from the C sources, by bpf-cc (BPF_CC names the compiler):
 #   make.sh [BPF]            compares them with those that are kept here
 #   make.sh [BPF] --keep     puts them in their place
 # Another version of the compiler than the one that VERSION names may make other images, which is told and is no failure. A filter that isn't
@@ -18,7 +18,7 @@ for source in *.c; do
     name=${source%.c}
     image=$made/$name.img
     certificate=$made/$name.cert
-    if ! ./build.sh "$source" "$image" -Werror || ! said=$("$bpf" infer --deep "$image" 128 "$certificate") ||
+    if ! ./bpf-cc "$source" "$image" -Werror || ! said=$("$bpf" infer --deep "$image" 128 "$certificate") ||
         ! said=$("$bpf" check "$image" "$certificate"); then
         echo "$source: ${said:-not built}" >&2
         failed=1

@@ -18,6 +18,11 @@ public:
     explicit Refused(const std::string &why) : std::runtime_error(why) {}
 };
 
+/* Throws std::logic_error where the library is of another version than its header. */
+inline void check_version() {
+    if (bpf_version() != BPF_HOST_VERSION) throw std::logic_error("libbpf_host.a is of another version than bpf.h");
+}
+
 /* A filter that was judged: what is promised of it, and its program, ready to run. Nothing changes its words, so threads may share it. */
 class Filter {
 public:
@@ -26,9 +31,9 @@ public:
      * std::bad_alloc.
      */
     Filter(const std::vector<std::uint8_t> &image, const std::vector<std::uint8_t> &certificate, bpf_order order, std::uint32_t greatest) {
+        check_version();
         bpf_refusal why;
         std::size_t size = bpf_loaded_size(image.size());
-        if (bpf_version() != BPF_HOST_VERSION) throw std::logic_error("libbpf_host.a is of another version than bpf.h");
         words_.resize(size + 1); /* some, also where no image has that length */
         switch (bpf_load(image.data(), image.size(), order, certificate.data(), certificate.size(), greatest, words_.data(), size, &verdict_, &why)) {
         case BPF_YES: break;
@@ -64,9 +69,11 @@ private:
     std::vector<std::uint64_t> words_;
 };
 
-/* What is known of an image under a certificate, or why one of the two is refused: the words of `bpf explain`. Throws std::bad_alloc. */
+/* What is known of an image under a certificate, or why one of the two is refused: the words of `bpf explain`. Throws std::bad_alloc, and
+ * std::logic_error where the library is of another version than its header. */
 inline std::string explain(const std::vector<std::uint8_t> &image, const std::vector<std::uint8_t> &certificate, bpf_order order) {
     std::string text;
+    check_version();
     for (;;) {
         std::size_t wanted = 0;
         switch (bpf_explain(image.data(), image.size(), order, certificate.data(), certificate.size(), nullptr, &text[0], text.size(), &wanted, nullptr)) {

@@ -29,8 +29,12 @@ pub struct Refusal {
     pub condition: u64,
 }
 
+/// The version of the calls below, as one number, like `BPF_HOST_VERSION` of bpf.h: the library that is linked has to be of this one.
+pub const VERSION: u32 = 100;
+
 #[link(name = "bpf_host", kind = "static")]
 unsafe extern "C" {
+    fn bpf_host_version() -> u32;
     fn bpf_host_loaded_size(image_len: usize) -> usize;
     fn bpf_host_load(
         image: *const u8,
@@ -96,6 +100,10 @@ pub enum LoadError {
         greatest: u32,
     },
     NoMemory,
+    /// The library that is linked is of another version than this crate, whose number is `VERSION`.
+    OtherVersion {
+        library: u32,
+    },
 }
 
 impl fmt::Display for LoadError {
@@ -107,6 +115,10 @@ impl fmt::Display for LoadError {
                 "a run may take {bound} instructions, and this host pays for {greatest} at most"
             ),
             LoadError::NoMemory => f.write_str("no memory"),
+            LoadError::OtherVersion { library } => write!(
+                f,
+                "libbpf_host.a is of version {library}, and this crate of {VERSION}: take both of one"
+            ),
         }
     }
 }
@@ -129,13 +141,18 @@ impl fmt::Debug for Filter {
 }
 
 impl Filter {
-    /// Judges an image by a certificate, and prepares its program, if no run takes more than `greatest` instructions.
+    /// Judges an image by a certificate, and prepares its program, if no run takes more than `greatest` instructions, and the library is of
+    /// this crate's version.
     pub fn load(
         image: &[u8],
         certificate: &[u8],
         order: Order,
         greatest: u32,
     ) -> Result<Filter, LoadError> {
+        let library = linked_version();
+        if library != VERSION {
+            return Err(LoadError::OtherVersion { library });
+        }
         let (mut verdict, mut refusal) = (Verdict::default(), Refusal::default());
         // SAFETY: a number goes in and a number comes back.
         let mut words = vec![0u64; unsafe { bpf_host_loaded_size(image.len()) }];
@@ -187,9 +204,19 @@ impl Filter {
     }
 }
 
-/// What is known of an image under a certificate, or why one of the two is refused: the words of `bpf explain`. None where memory runs out.
+/// The version of the library that is linked.
+pub fn linked_version() -> u32 {
+    // SAFETY: a number comes back.
+    unsafe { bpf_host_version() }
+}
+
+/// What is known of an image under a certificate, or why one of the two is refused: the words of `bpf explain`. None where memory runs out, or
+/// the library is of another version.
 pub fn explain(image: &[u8], certificate: &[u8], order: Order) -> Option<String> {
     const LISTING: u32 = 0;
+    if linked_version() != VERSION {
+        return None;
+    }
     let (mut text, mut wanted, mut refusal) = (Vec::new(), 0, Refusal::default());
     loop {
         // SAFETY: the pointers and lengths are those of slices and of a vector's bytes.
