@@ -1,15 +1,19 @@
-# Read by ./bpf, ./build, ./install, ./test and scripts beside this one, which set root: what is built, and of which sources.
+# Read by ./build, ./install, ./test and the scripts beside this one, which set root: what is built, and of which sources.
 #
-# prebuilt/ has the command and the library for hosts as the proofs built them, and SOURCES: the line of the kit that they were built with, and
-# sums of the sources and of both files. prebuilt/.compared is there once SOURCES was found to be of this tree, on the machine that it
-# names; it says nothing of what changed later.
+# Sources are all that says what is built and what is promised of it: code and contracts (src), definitions (specs), the list of crates, HANDLES,
+# and for the library bpf.h. Proofs (proofs) aren't: they decide whether something is built, and change neither what it does nor what is said of it.
+#
+# Beside each file that is built stands SOURCES: the line of the kit that made it, a sum of its sources, and sums of the files. No time is asked for.
 
 built_command=crates/bpf/out/bpf
 built_library=crates/bpf_host/out/host/libbpf_host.a
 
-# fails WORDS: says why and ends, with the command's status for what can't be read or written.
+# The greatest version of glibc that the command asks for.
+wanted_glibc=2.34
+
+# fails WORDS: says why and ends, with the command's status for what can't be read or written. says_it is who says so.
 fails() {
-    echo "${0##*/}: $1" >&2
+    echo "${says_it:-${0##*/}}: $1" >&2
     exit 3
 }
 
@@ -42,75 +46,70 @@ crates_of() {
     done
 }
 
-# What tells find the sources, among these and below crates.
-is_source=(-name '*.rt' -o -name '*.antt' -o -name crates.txt -o -name HANDLES)
-besides=("$root/crates.txt" "$root/HANDLES")
-
-# is_fresh FILE CRATE: whether FILE is there, and nothing that it is built from is younger.
-is_fresh() {
-    local crates
-    [ -f "$1" ] || return 1
-    crates_of "$2"
-    [ -z "$(find "${besides[@]}" "${crates[@]}" -name out -prune -o '(' "${is_source[@]}" ')' -newer "$1" -print -quit)" ]
-}
-
-# The sum of all that the command and the library are built from.
-sum_of_sources() (
-    crates_of bpf bpf_host
-    cd "$root"
-    find "${besides[@]#"$root"/}" "${crates[@]#"$root"/}" -name out -prune -o -type f '(' "${is_source[@]}" ')' -print0 |
+# sum_of CRATE..: the sum of all sources of these crates and of those that they stand on.
+sum_of() (
+    crates_of "$@"
+    cd "$root" || exit
+    from=(crates.txt HANDLES)
+    [[ " $* " != *" bpf_host "* ]] || from+=(include/bpf.h)
+    for crate in "${crates[@]#"$root"/}"; do
+        for folder in "$crate/src" "$crate/specs"; do
+            [ ! -d "$folder" ] || from+=("$folder")
+        done
+    done
+    find "${from[@]}" -type f '(' -name '*.rt' -o -name '*.antt' -o ! -path 'crates/*' ')' -print0 |
         LC_ALL=C sort -z | xargs -0 sha256sum | sha256sum | cut -d ' ' -f 1
 )
 
-# Whether prebuilt/SOURCES is of this tree, and the files beside it are those that it names.
-is_of_tree() {
-    local version sum
-    { read -r version && read -r sum _; } <"$root/prebuilt/SOURCES" && [ "$sum" = "$(sum_of_sources)" ] &&
-        (cd "$root/prebuilt" && tail -n +3 SOURCES | sha256sum --check --status)
+# notes FILE CRATE..: writes SOURCES beside a file that was built of these crates' sources, as they are.
+notes() {
+    local folder=${1%/*} sum
+    sum=$(sum_of "${@:2}")
+    (cd "$folder" && { rt version && echo "$sum  the sources" && sha256sum "${1##*/}"; } >SOURCES.new && mv SOURCES.new SOURCES)
+}
+
+# is_named FILE: whether SOURCES beside a file names it, and each file that it names is as it says.
+is_named() (
+    cd "${1%/*}" || exit
+    tail -n +3 SOURCES | grep -q "  ${1##*/}\$" && tail -n +3 SOURCES | sha256sum --check --status
+)
+
+# is_of FILE CRATE..: whether SOURCES beside a file is of these crates' sources, and names it.
+is_of() {
+    local sum
+    [ -f "$1" ] && { read -r _ && read -r sum _; } 2>/dev/null <"${1%/*}/SOURCES" && [ "$sum" = "$(sum_of "${@:2}")" ] && is_named "$1"
 }
 
 # Ends where what is prebuilt can't run on this machine, and says why.
 wants_machine() {
-    local flags word lacks=
+    local flags word lacks= glibc
     flags=$(grep -m 1 '^flags' /proc/cpuinfo) || fails "prebuilt/ is for x86-64, and this machine has another processor"
     for word in cx16 lahf_lm popcnt pni sse4_1 sse4_2 ssse3; do
         [[ " $flags " == *" $word "* ]] || lacks+=" $word"
     done
     [ -z "$lacks" ] || fails "what is built wants a processor of x86-64-v2, and this one lacks$lacks"
     [ -e /lib64/ld-linux-x86-64.so.2 ] || fails "prebuilt/ is for Linux with glibc, and /lib64/ld-linux-x86-64.so.2 isn't there"
-}
-
-# Whether prebuilt/ is of this tree, which is compared anew only where a file may have changed since.
-is_prebuilt() {
-    local crates machine stamp=$root/prebuilt/.compared new
-    [ -f "$root/prebuilt/SOURCES" ] || return 1
-    crates_of bpf bpf_host
-    # Folders tell of files that are gone; and the time that find asks for is set by no one but the system.
-    if { read -r machine <"$stamp"; } 2>/dev/null && [ "$machine" = "${HOSTNAME-}" ] &&
-        [ -z "$(find "$root"/prebuilt/* "${besides[@]}" "${crates[@]}" -name out -prune -o '(' "${is_source[@]}" -o -path "$root/prebuilt/*" -o -type d ')' \
-            -cnewer "$stamp" -print -quit)" ]; then
-        return 0
-    fi
-    # The stamp is as old as the beginning of the comparison. Where none can be written, each run compares.
-    new=$(mktemp "$stamp.XXXXXX" 2>/dev/null) && echo "${HOSTNAME-}" >"$new"
-    if is_of_tree; then
-        (wants_machine) || { rm -f "$new"; exit 3; }
-        [ -z "$new" ] || mv "$new" "$stamp"
-        return 0
-    fi
-    rm -f "$new"
-    return 1
+    # `glibc 2.36`; where getconf isn't there, the last word of the loader's own first line.
+    glibc=$(getconf GNU_LIBC_VERSION 2>/dev/null || ldd --version 2>/dev/null) || return 0
+    glibc=${glibc%%$'\n'*}
+    glibc=${glibc##* }
+    [[ "$glibc" =~ ^[0-9]+\.[0-9]+$ ]] || return 0
+    ((${glibc%.*} * 1000 + ${glibc#*.} >= ${wanted_glibc%.*} * 1000 + ${wanted_glibc#*.})) ||
+        fails "what is built wants glibc $wanted_glibc or later, and this machine has $glibc"
 }
 
 # finds BUILT CRATE PREBUILT: sets found to what ./build made of these sources, or else to what prebuilt/ has of them; ends where neither is there.
 finds() {
-    local why="$3 isn't built"
-    if is_fresh "$root/$1" "$2"; then
-        found=$root/$1
-    elif is_prebuilt; then
-        found=$root/prebuilt/$3
+    local built=$root/$1 kept=$root/prebuilt/$3 why="$3 isn't built"
+    if is_of "$built" "$2"; then
+        found=$built
+    elif is_of "$kept" bpf bpf_host; then
+        wants_machine
+        found=$kept
     else
-        [ ! -e "$root/$1" ] && [ ! -e "$root/prebuilt" ] || why="the sources were changed since $3 was built"
+        [ ! -e "$built" ] && [ ! -e "$root/prebuilt" ] || why="the sources were changed since $3 was built"
+        [ ! -e "$kept" ] || is_named "$kept" 2>/dev/null || why="prebuilt/ has other files than its SOURCES says"
+        [ ! -e "$built" ] || is_named "$built" 2>/dev/null || why="nobody noted of which sources $1 is"
         fails "$why: ./build proves and builds it, which takes half an hour to an hour and wants the Rattle kit"
     fi
 }

@@ -4,7 +4,7 @@
 PREFIX is where ./install has put everything. A command stands in an indented block behind `$ `, and the lines below it are all that it
 prints; `...` on a line of its own stands for any lines, and within a line for any characters. `cat` of a file that isn't there is how a
 document shows a source: the file is made so. The commands of a document run one behind the other in a copy of the examples, /tmp being a
-folder of its own. A section with a line `<!-- needs: WORD -->` is left out where the command's help doesn't know the word; the word `clang`
+folder of its own, and /tmp/bpf being PREFIX. A section with a line `<!-- needs: WORD -->` is left out where the command's help doesn't know the word; the word `clang`
 is known where the compiler is there that examples/c/VERSION names. What GUIDE.md prints is that compiler's: else it is left out whole.
 """
 import os
@@ -96,6 +96,7 @@ def main():
             for host in ('filter', 'filter_rs'):
                 if (PREFIX / host).exists():
                     os.symlink(PREFIX / host, f'{folder}/{host}')
+            os.symlink(PREFIX, f'{folder}/bpf')
             count = tried(os.path.basename(name), ''.join(sections_of((ROOT / name).read_text(), known)), pathlib.Path(folder))
             print(f'documents: {count} commands of {name} print what it shows')
 

@@ -8,9 +8,11 @@ import subprocess
 import sys
 
 import filters as made_for
+import rows
 
 BPF, EXAMPLES, FOLDER = sys.argv[1], pathlib.Path(sys.argv[2]), pathlib.Path(sys.argv[3])
 HOSTS = FOLDER / 'hosts'
+ROWS = pathlib.Path(__file__).resolve().parent / 'rows'
 CONTEXTS = ['none', '2a', '00' * 4, bytes(range(16)).hex(), '01' * 64, 'ff' * 4096]
 FUELS = [0, 1, 5, 1000]
 
@@ -232,6 +234,38 @@ def fill(table):
     return proposals
 
 
+def runs_of(case, words, room):
+    """The image, the contexts in hex and the steps that a command of an example runs, or None where it names other things."""
+    names = [it for it in words[1:] if it != '--big']
+    given = dict(zip(names, names[1:]))
+    steps = given.get('--steps', '')
+    failed = rows.images_made(BPF, room, words, case.files)
+    if failed or not (room / names[0]).is_file() or not steps.isdecimal() or int(steps) >> 32:
+        return None
+    if '--context' in given:
+        contexts = [case.files.get(given['--context'], b'').hex() or 'none']
+    elif '--contexts' in given:
+        contexts = case.files.get(given['--contexts'], b'').decode().split()
+    else:
+        contexts = names[1:2]
+    return room / names[0], contexts, steps
+
+
+def fill_with_rows(table):
+    """The runs of the examples in tests/rows: the command decodes a program, and the library runs a view of its image."""
+    for number, case in enumerate(case for path in sorted(ROWS.glob('*.rows')) for case in rows.cases_of(path)):
+        room = FOLDER / f'rows-{number}'
+        room.mkdir()
+        for name, data in case.files.items():
+            (room / name).write_bytes(data)
+        for words in [step[0] for step in case.steps if len(step) == 4 and step[0][0] == 'run']:
+            found = runs_of(case, words, room)
+            for context in found[1] if found else []:
+                order = 'big' if '--big' in words else 'little'
+                if re.fullmatch(r'none|(?:[0-9a-f]{2}){1,4096}', context):
+                    table.run(order, found[0], context, found[2])
+
+
 def texts_by_number(crate, file='error.rt'):
     """The sentences of a crate's refusals, in the order of their numbers, as its sources have them."""
     found = re.findall(r'^ *([0-9]+) => Some\("([^"]*)"', (EXAMPLES.parent / 'crates' / crate / 'src' / file).read_text(), re.M)
@@ -356,6 +390,7 @@ def filters():
 
 table = Table()
 proposals = fill(table)
+fill_with_rows(table)
 count = table.compare()
 for order, image, here, there in proposals:
     assert here.exists() == there.exists() and (not there.exists() or here.read_bytes() == there.read_bytes()), (order, image)

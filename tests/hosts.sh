@@ -61,6 +61,23 @@ if command -v cargo >/dev/null; then
         { cat "$dir/cargo" >&2; exit 1; }
 fi
 rustc --edition 2024 -O -D warnings -L "$dir/lib" "$root/examples/hosts/filter.rs" -o "$dir/filter_rs"
+# A library of another version is told by both wrappers, and nothing else of it is called.
+mkdir "$dir/other"
+for call in loaded_size load run_loaded explain refusal_text; do
+    echo "void bpf_host_$call(void) { __builtin_trap(); }"
+done >"$dir/other/other.c"
+echo 'unsigned bpf_host_version(void) { return 199; }' >>"$dir/other/other.c"
+"${CC:-cc}" -c "$dir/other/other.c" -o "$dir/other/other.o"
+ar rcs "$dir/other/libbpf_host.a" "$dir/other/other.o"
+rustc --edition 2024 -O -D warnings -L "$dir/other" "$root/examples/hosts/filter.rs" -o "$dir/other/filter_rs"
+"${CXX:-c++}" -std=c++11 "-I$dir/include" "$root/tests/wrapper.cc" -o "$dir/other/wrapper" "$dir/other/libbpf_host.a"
+port=("$root/examples/c/port.img" "$root/examples/c/port.cert")
+"$dir/filter_c" --make "$dir/other/frames.pcap"
+said=$("$dir/other/filter_rs" "${port[@]}" "$dir/other/frames.pcap" 2>&1) || true
+[[ "$said" == *"libbpf_host.a is of version 199, and this crate of "* ]] || { echo "hosts: filter.rs says of a library of another version: $said" >&2; exit 1; }
+said=$("$dir/other/wrapper" "${port[@]}" 2>&1) || true
+[[ "$said" == *"libbpf_host.a is of another version than bpf.h"* ]] || { echo "hosts: bpf.hpp says of a library of another version: $said" >&2; exit 1; }
+"$root/tests/version.py" "$dir"
 python3 "$root/tests/hosts.py" "$dir/bin/bpf" "$root/examples" "$dir"
 cp "$dir/filter_c" "$dir/filter"
 "$root/tests/documents.py" "$dir"
