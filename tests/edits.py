@@ -53,6 +53,7 @@ KNOWN = {
 # Each command, as bpf_words names it, and each call of the library for hosts, as bpf.h does.
 COMMANDS = {
     "asm": ["bpf_command_core/asm-empties-OUT-and-says-no-memory"],
+    "certify": ["bpf_command/certify-writes-the-old-image", "bpf_command/certify-tells-turns-that-are-not-shown"],
     "check": ["bpf_command_core/check-tells-the-length-as-the-bound"],
     "explain": ["bpf_command/explain-seeks-for-length-0-whatever-was-asked"],
     "follows": ["bpf_command_core/follows-compares-the-old-image-with-itself"],

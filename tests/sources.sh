@@ -122,13 +122,13 @@ default_arms() {
             match($0, /^ */); column = RLENGTH
             line = substr($0, column + 1)
             if (depth > 0 && column == opened[depth] && line ~ /^}/) {
-                if (told[depth] > 1 && arm[depth]) print FILENAME ":" arm[depth]
+                if (told[depth] && arm[depth]) print FILENAME ":" arm[depth]
                 depth--
             }
             if (depth > 0 && column == opened[depth] + 4) {
                 front = line
                 sub(/ => .*/, "", front)
-                if (front ~ /(^|[^[:alnum:]_])Insn::/) told[depth]++
+                if (front ~ /(^|[^[:alnum:]_])Insn::/) told[depth] = 1
                 if (line ~ /^_ (=>|if )/) arm[depth] = FNR
             }
             if (line ~ /(^|[^[:alnum:]_])match .*[{]$/) {
@@ -139,8 +139,7 @@ default_arms() {
     ' "$@"
 }
 
-# A match on instructions names each of them, so that a new one is thought of in every place. One that asks for a single form is a
-# `let .. else` in other words.
+# A match on instructions names each of them, so that a new one is thought of in every place.
 for crate in "$crates"/*/; do
     files=$(find "$crate/src" -name '*.rt' ! -path '*/tests/*' ! -name 'tests.rt' | sort)
     arms=$(default_arms $files)

@@ -7,24 +7,13 @@ use Rattle.bpf_state.specs.Condition.{condition_texts}
 use Rattle.bpf_cert.specs.RefusalNumbers.{certificate_texts}
 use Rattle.bpf_infer_error.specs.RefusalNumbers.{infer_texts}
 use Rattle.bpf_harden_notes.specs.RefusalNumbers.{harden_texts}
+use Rattle.bpf_follows_notes.specs.Refused.{mismatch_texts}
 
 -- of H13, which is no refusal of hardening itself
 abbrev pub unshown_text : List ℕ
 unshown_text = codes "the hardened program isn't shown to keep the meaning"
 
--- what of notes fails, M1 to M7, and why a text is none of notes, N1 and N2
-abbrev pub mismatch_texts : List (List ℕ)
-mismatch_texts =
-    [] ∷
-    codes "the byte orders differ" ∷
-    codes "the new program doesn't begin with what stands for the old one's start" ∷
-    codes "what stands in front of the instruction isn't known, or isn't what the notes say" ∷
-    codes "another instruction stands for it" ∷
-    codes "the instruction reads what may be something else in the new program" ∷
-    codes "the next instruction doesn't stand behind it, or the notes ask for more there" ∷
-    codes "the instruction leads elsewhere, or the notes ask for more there" ∷
-    []
-
+-- why a text is none of notes, N1 and N2
 abbrev pub notes_texts : List (List ℕ)
 notes_texts =
     [] ∷

@@ -1,35 +1,16 @@
 //! What the refusals and faults say, in words.
 
 ghost use Rattle.std.specs.Prelude.{◌≡◌, ◌<◌, ◌≤◌, ◌↔◌, ◌++◌, [], IsSome, IfSome, MatchOption, get_or, length, take, drop};
-ghost use Rattle.bpf_host_advice.specs.Texts.{refusal_text, answer_text, mismatch_texts, notes_texts, IsNumbered};
+ghost use Rattle.bpf_host_advice.specs.Texts.{refusal_text, answer_text, notes_texts, IsNumbered};
 
 use crate::refusals::UNSHOWN;
 use bpf_cert::CertError;
+use bpf_follows_notes::mismatch_text;
 use bpf_harden_notes::HardenError;
 use bpf_infer::InferError;
 use bpf_insn::DecodeError;
 use bpf_semantics::Reason;
 use bpf_state::Condition;
-
-/// What of notes fails.
-fn mismatch_text(number: u32) -> Option<&'static str>
-    ensures numbered { IsSome result ↔ ((1 ≤ number) × (number ≤ 7)) }
-    ensures said { IfSome result (λ text. 0 < length text.now) }
-    ensures words { MatchOption result (get_or mismatch_texts number [] ≡ []) (λ text. text.now ≡ get_or mismatch_texts number []) }
-{
-    match number {
-        1 => Some("the byte orders differ"),
-        2 => Some("the new program doesn't begin with what stands for the old one's start"),
-        3 => Some(
-            "what stands in front of the instruction isn't known, or isn't what the notes say",
-        ),
-        4 => Some("another instruction stands for it"),
-        5 => Some("the instruction reads what may be something else in the new program"),
-        6 => Some("the next instruction doesn't stand behind it, or the notes ask for more there"),
-        7 => Some("the instruction leads elsewhere, or the notes ask for more there"),
-        _ => None,
-    }
-}
 
 /// Why a text is none of notes.
 fn notes_text(number: u32) -> Option<&'static str>
