@@ -26,7 +26,7 @@ FOLDER = "wrong"
 # `rt ci` tries the edits of these crates itself, in must-fail/, and proves each of the crates a second time for them.
 BY_THE_KIT = {"bpf_lines", "bpf_flat", "bpf_request", "bpf_host_runs", "bpf_command_core", "bpf_command"}
 # The wrong bodies of these crates are tried by hand, by the crate's name: the gate would take too long with them.
-BY_NAME = {"bpf_answers", "bpf_explain", "bpf_command_core", "bpf_command", "bpf_host_runs", "bpf_host_advice", "bpf_host"}
+BY_NAME = {"bpf_classic", "bpf_convert", "bpf_answers", "bpf_explain", "bpf_command_core", "bpf_command", "bpf_host_runs", "bpf_host_advice", "bpf_host"}
 
 # The mistakes that a toolchain like this is known for, each with the wrong bodies that make it.
 KNOWN = {
@@ -57,6 +57,7 @@ KNOWN = {
 # Each command, as bpf_words names it, and each call of the library for hosts, as bpf.h does.
 COMMANDS = {
     "asm": ["bpf_command_core/asm-empties-OUT-and-says-no-memory"],
+    "certify": ["bpf_command/certify-writes-the-old-image", "bpf_command/certify-tells-turns-that-are-not-shown"],
     "check": ["bpf_command_core/check-tells-the-length-as-the-bound"],
     "explain": ["bpf_command/explain-seeks-for-length-0-whatever-was-asked"],
     "follows": ["bpf_command_core/follows-compares-the-old-image-with-itself"],
@@ -69,8 +70,10 @@ COMMANDS = {
     "run-checked": ["bpf_command_core/run-checked-tells-32-bits-of-the-number"],
 }
 CALLS = {
+    "bpf_host_certify": ["bpf_host_advice/certify-writes-the-old-image", "bpf_host_advice/certify-tells-another-bound"],
     "bpf_host_explain": ["bpf_host_advice/explain-says-yes-of-a-refused-program"],
     "bpf_host_explain_search": ["bpf_host_advice/explain_search-says-yes-of-a-refused-certificate"],
+    "bpf_host_follows": ["bpf_host_advice/follows-judges-the-old-image-beside-itself"],
     "bpf_host_harden": ["bpf_host_advice/harden-takes-any-number-for-padded"],
     "bpf_host_infer": ["bpf_host_advice/infer-proposes-for-the-greatest-length-alone", "bpf_host/bpf_host_infer-hands-the-least-on-as-the-most"],
     "bpf_host_load": ["bpf_host_runs/load-takes-twice-the-limit"],
@@ -83,7 +86,7 @@ CALLS = {
     "bpf_host_verify": ["bpf_host_runs/verify-tells-the-least-as-the-most"],
 }
 # Those whose answer is an equation, or isn't pinned by a clause (docs/PROOFS.md, "What no clause says").
-WITHOUT = ["bpf_host_explain_image", "bpf_host_loaded_size", "bpf_host_version"]
+WITHOUT = ["bpf_host_answer_text", "bpf_host_explain_image", "bpf_host_explain_size", "bpf_host_infer_size", "bpf_host_loaded_size", "bpf_host_version"]
 
 
 class BadEdit(Exception):

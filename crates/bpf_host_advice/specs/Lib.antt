@@ -1,5 +1,8 @@
 pub mod Texts
+pub mod Sizes
 pub mod Told
 pub mod Proposals
 pub mod Hardened
+pub mod Followed
+pub mod Certified
 pub mod Explained

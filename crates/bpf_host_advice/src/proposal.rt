@@ -8,15 +8,15 @@ ghost use Rattle.bpf_host_advice.specs.Proposals.{IsProposal, IsNotProposed};
 ghost use Rattle.bpf_host_advice.specs.Told.{IsTold};
 ghost use Rattle.bpf_host_runs.specs.declared.answers.TheConstants.{YES, TOO_SMALL};
 
-use crate::refusals::{Unmade, of_inference};
+use crate::refusals::{Unmade, of_search};
 use bpf_cert::{Certificate, write};
 use bpf_host_runs::{TOO_SMALL, YES, of_image};
-use bpf_infer::{InferError, Unwatched, Wanted, propose};
+use bpf_infer::{Unwatched, Wanted, propose};
 use bpf_insn::{DecodeError, Order, decode};
 use std::alloc::Global;
 
 /// The text of a certificate; None where memory ran out.
-fn text_of(alloc: Global, certificate: &Certificate) -> Option<Vec<u8>>
+pub(crate) fn text_of(alloc: Global, certificate: &Certificate) -> Option<Vec<u8>>
     ensures { IfSome result (λ text. text.items ≡ certificate_text certificate.now) }
 {
     let mut text = Vec::new(alloc);
@@ -44,10 +44,9 @@ pub(crate) fn proposal(
         Err(DecodeError::Memory) => return Err(Unmade::Memory),
         Err(error) => return Err(Unmade::Refused(of_image(error))),
     };
-    let certificate = match propose(alloc, &program, wanted, &mut Unwatched) {
+    let certificate = match of_search(propose(alloc, &program, wanted, &mut Unwatched)) {
         Ok(certificate) => certificate,
-        Err(InferError::Memory) => return Err(Unmade::Memory),
-        Err(error) => return Err(Unmade::Refused(of_inference(error))),
+        Err(unmade) => return Err(unmade),
     };
     match text_of(alloc, &certificate) {
         Some(text) => Ok(text),

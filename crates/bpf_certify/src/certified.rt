@@ -1,0 +1,355 @@
+//! Certified programs.
+
+ghost use Rattle.std.specs.Prelude.{◌≡◌, ◌<◌, ◌≤◌, ◌↔◌, ℕ, false, IsTrue, IfOk, IfErr, IfSome};
+ghost use Rattle.bpf_insn.specs.Instruction.{slots};
+ghost use Rattle.bpf_insn.specs.Limits.{frame_bytes, max_context};
+ghost use Rattle.bpf_follows_law.specs.Matching.{Matches};
+ghost use Rattle.bpf_harden_notes.specs.declared.error.HardenError.TheVariants.{Memory, NoBudget};
+ghost use Rattle.bpf_certify.specs.Certified.{Answers, AreWished, IsPaid, IsRefused, IsUnjudged, IsUnpaid, certify_slot, leaving};
+ghost use Rattle.bpf_certify.specs.declared.error.CertifyError.TheVariants.{Unhardened};
+
+use crate::error::CertifyError;
+use crate::wish::Wish;
+use bpf_cert::Certificate;
+use bpf_check::check;
+use bpf_follows::Mismatch;
+use bpf_follows_law::{Bounds, Place, matching_keeps_meaning};
+use bpf_harden::{Fitted, HardenError, Hardened, Options, Unfit, fit};
+use bpf_harden_follows::{Evidence, evidence_of};
+use bpf_infer::{InferError, search};
+use bpf_infer_base::Unwatched;
+use bpf_insn::{Code, Order, Program};
+use std::alloc::Global;
+
+/// A program in the place of the one that was given, and what is shown of it.
+#[derive(Drop)]
+pub struct Rewritten {
+    /// The new program, and what was done. Its certificate stands beside it.
+    pub hardened: Hardened,
+    /// How often a loop that has a counter may turn in one call of its function.
+    pub turns: u32,
+    /// How many of the lowest bytes of each frame runs of the old program have to leave to r10.
+    pub untouched: u32,
+    /// Whether it is shown that the new program keeps the meaning of the old one, on runs within both.
+    pub is_shown: bool,
+    /// What of the notes fails where it isn't, if that was looked at.
+    pub mismatch: Option<Mismatch>,
+    /// The notes by which it is shown. Empty where nothing was to be shown and none were wanted.
+    pub notes: Vec<Option<Place>>,
+}
+
+/// A certificate within a bound, and what it certifies.
+#[derive(Drop)]
+pub struct Certified {
+    /// The new program; None where the one that was given has the certificate as it stands.
+    pub rewritten: Option<Rewritten>,
+    pub certificate: Certificate,
+    /// The greatest number of instructions that a run takes.
+    pub bound: u32,
+}
+
+/// A certificate that was checked, and its bound.
+#[derive(Drop)]
+struct Paid {
+    certificate: Certificate,
+    bound: u32,
+}
+
+/// What is shown of a hardened program.
+#[derive(Drop)]
+struct Shown {
+    untouched: u32,
+    is_shown: bool,
+    mismatch: Option<Mismatch>,
+    notes: Vec<Option<Place>>,
+}
+
+/// The refusal where there is no certificate for a whole program.
+fn unfound() -> CertifyError
+    ensures { result ≡ Unhardened (NoBudget 0) }
+{
+    CertifyError::Unhardened(HardenError::NoBudget { slot: 0 })
+}
+
+/// A certificate with its bound, if one was found, for contexts of this length; the bound is at most so much; and it certifies the program.
+fn within_bound(
+    program: &Program,
+    found: Option<Certificate>,
+    length: u32,
+    turns: u32,
+    most: u32,
+) -> Result<Paid, CertifyError>
+    ensures ok { IfOk result (λ p. IsPaid program.now p.certificate length most p.bound) }
+    ensures err { IfErr result (IsUnpaid program.now turns most) }
+{
+    let Some(certificate) = found else {
+        return Err(unfound());
+    };
+    if certificate.least() != length || certificate.most() != length {
+        return Err(unfound());
+    }
+    let bound = certificate.steps();
+    if bound > most {
+        return Err(CertifyError::TooDear { turns, bound });
+    }
+    match check(program, &certificate) {
+        Ok(_checked) => {}
+        Err(refusal) => return Err(CertifyError::Uncertified(refusal)),
+    }
+    Ok(Paid { certificate, bound })
+}
+
+/// Memory ran out.
+fn no_memory() -> CertifyError
+    ensures { result ≡ Unhardened Memory }
+{
+    CertifyError::Unhardened(HardenError::Memory)
+}
+
+/// The certificate of a program as it stands, if the deep search finds one within the bound.
+fn as_it_stands(
+    alloc: Global,
+    program: &Program,
+    length: u32,
+    wish: Wish,
+) -> Result<Option<Paid>, CertifyError>
+    requires { length ≤ max_context }
+    ensures ok { IfOk result (λ found. IfSome found (λ p. (wish.padded ≡ false) × IsPaid program.now p.certificate length wish.bound p.bound)) }
+    ensures err { IfErr result (λ e. e ≡ Unhardened Memory) }
+{
+    if wish.padded {
+        // Of a block the program is given the packet, and not what its certificate speaks of.
+        return Ok(None);
+    }
+    match search(alloc, program, length, length, &mut Unwatched) {
+        Ok(certificate) => {
+            let found = within_bound(program, Some(certificate), length, 0, wish.bound);
+            Ok(found.ok())
+        }
+        Err(InferError::Memory) => Err(no_memory()),
+        Err(_) => Ok(None),
+    }
+}
+
+/// Nothing is shown, and nothing was looked at.
+fn unseen(alloc: Global) -> Shown
+    ensures few { result.untouched ≡ 0 }
+    ensures unshown { result.is_shown ≡ false }
+{
+    Shown {
+        untouched: 0,
+        is_shown: false,
+        mismatch: None,
+        notes: Vec::new(alloc),
+    }
+}
+
+/// What was found, as it is told.
+fn seen(found: Evidence, is_shown: bool) -> Shown
+    ensures untouched { result.untouched ≡ found.untouched }
+    ensures shown { result.is_shown ≡ is_shown }
+    ensures notes { result.notes.items ≡ found.notes.items }
+{
+    Shown {
+        untouched: found.untouched,
+        is_shown,
+        mismatch: found.mismatch,
+        notes: found.notes,
+    }
+}
+
+/// Whether two byte orders are the same.
+fn same_order(a: Order, b: Order) -> bool
+    ensures { IsTrue result ↔ (a ≡ b) }
+{
+    a == b
+}
+
+/// What is shown of a hardened program: that it keeps the meaning of the old one, or it is refused, but where what isn't proved is wanted, too.
+fn judged(
+    alloc: Global,
+    old: &Program,
+    new: &Hardened,
+    runs: Bounds,
+    wish: Wish,
+) -> Result<Shown, CertifyError>
+    ensures order { IfOk result (λ _. new.now.program.order ≡ old.now.order) }
+    ensures few { IfOk result (λ s. s.untouched ≤ frame_bytes) }
+    ensures shows { IfOk result (λ s. IsTrue s.is_shown → Matches old.now new.now.program s.notes.items (leaving runs s.untouched)) }
+    ensures all { wish.unproved ≡ false → IfOk result (λ s. IsTrue s.is_shown) }
+    ensures err { IfErr result (IsUnjudged old.now new.now.program runs) }
+{
+    if !same_order(new.program.order(), old.order()) {
+        return Err(CertifyError::Unshown(Mismatch::Order));
+    }
+    if wish.unproved && !wish.notes {
+        return Ok(unseen(alloc));
+    }
+    let Ok(found) = evidence_of(alloc, old, new, runs) else {
+        return Err(no_memory());
+    };
+    match found.mismatch {
+        None => Ok(seen(found, true)),
+        Some(_) if wish.unproved => Ok(seen(found, false)),
+        Some(mismatch) => Err(CertifyError::Unshown(mismatch)),
+    }
+}
+
+/// The turns that are wished, or those that were found.
+fn turns_of(wish: Wish, found: u32) -> u32
+    ensures { AreWished wish result }
+{
+    wish.turns.unwrap_or(found)
+}
+
+/// Why a program isn't hardened for the wish.
+fn refusal_of(unfit: Unfit, program: &Program, wish: Wish) -> CertifyError
+    ensures { (length : ℕ) → IsRefused program.now length wish result }
+{
+    let slots = Code::slots(program);
+    match unfit {
+        Unfit::Refused(error) => CertifyError::Unhardened(error.within(slots)),
+        Unfit::TooDear { turns, bound } if bound > wish.bound => {
+            let turns = turns_of(wish, turns);
+            CertifyError::TooDear { turns, bound }
+        }
+        Unfit::TooDear { .. } => unfound(),
+    }
+}
+
+/// The program hardened for the wish, which isn't judged yet.
+fn hardened(
+    alloc: Global,
+    program: &Program,
+    length: u32,
+    wish: Wish,
+) -> Result<Fitted, CertifyError>
+    requires { length ≤ max_context }
+    ensures ok { IfOk result (λ fitted. AreWished wish fitted.turns) }
+    ensures err { IfErr result (IsRefused program.now length wish) }
+{
+    let options = Options {
+        turns: 0,
+        otherwise: wish.otherwise,
+        padded: wish.padded,
+        everywhere: false,
+    };
+    match fit(alloc, program, length, &options, wish.bound, wish.turns) {
+        Ok(Fitted { hardened, turns }) => Ok(Fitted {
+            hardened,
+            turns: turns_of(wish, turns),
+        }),
+        Err(unfit) => Err(refusal_of(unfit, program, wish)),
+    }
+}
+
+/// A hardened program and its certificate, which is no longer in what was done.
+fn taken(hardened: Hardened) -> (Hardened, Option<Certificate>)
+    ensures program { result.0.program ≡ hardened.program }
+{
+    let Hardened {
+        program,
+        certificate,
+        slots,
+        functions,
+        notes,
+    } = hardened;
+    let rest = Hardened {
+        program,
+        certificate: None,
+        slots,
+        functions,
+        notes,
+    };
+    (rest, certificate)
+}
+
+/// A program that was hardened for the wish, judged.
+fn as_fitted(
+    alloc: Global,
+    program: &Program,
+    fitted: Fitted,
+    length: u32,
+    wish: Wish,
+) -> Result<Certified, CertifyError>
+    requires { AreWished wish fitted.turns }
+    ensures ok { IfOk result (Answers program.now length wish) }
+    ensures shown { wish.unproved ≡ false → IfOk result (λ c. IfSome c.rewritten (λ r. IsTrue r.is_shown)) }
+    ensures err { IfErr result (IsRefused program.now length wish) }
+{
+    let _slots = Code::slots(program);
+    matching_keeps_meaning();
+    let Fitted { hardened, turns } = fitted;
+    let runs = Bounds {
+        length,
+        padded: wish.padded,
+        turns,
+        untouched: 0,
+    };
+    let shown = judged(alloc, program, &hardened, runs, wish)?;
+    let (hardened, found) = taken(hardened);
+    let Paid { certificate, bound } = within_bound(
+        &hardened.program,
+        found,
+        length,
+        turns,
+        wish.bound,
+    )?;
+    Ok(Certified {
+        rewritten: Some(Rewritten {
+            hardened,
+            turns,
+            untouched: shown.untouched,
+            is_shown: shown.is_shown,
+            mismatch: shown.mismatch,
+            notes: shown.notes,
+        }),
+        certificate,
+        bound,
+    })
+}
+
+/// A program hardened for the wish, judged.
+fn as_hardened(
+    alloc: Global,
+    program: &Program,
+    length: u32,
+    wish: Wish,
+) -> Result<Certified, CertifyError>
+    requires { length ≤ max_context }
+    ensures ok { IfOk result (Answers program.now length wish) }
+    ensures shown { wish.unproved ≡ false → IfOk result (λ c. IfSome c.rewritten (λ r. IsTrue r.is_shown)) }
+    ensures err { IfErr result (IsRefused program.now length wish) }
+{
+    let fitted = hardened(alloc, program, length, wish)?;
+    as_fitted(alloc, program, fitted, length, wish)
+}
+
+/// A certificate for contexts of `length` bytes, at most 4,096, whose bound is within the wish: of the program as it stands where the deep search
+/// finds one, else of the program hardened, for the turns that are wished, or for the greatest number of turns that is found to stay
+/// within the bound. What comes out was checked; and it is shown that a hardened program keeps the meaning, for the turns and the bytes that are
+/// told, unless what isn't proved is wanted, too. Blocks are given to hardened programs alone. H1 to H12 where the program isn't hardened,
+/// H13 where what comes of it isn't shown to keep the meaning, H14 where its bound is too great with the turns that are wished, or with
+/// one, H15 where the checker refuses what the search proposed.
+pub fn certify(
+    alloc: Global,
+    program: &Program,
+    length: u32,
+    wish: Wish,
+) -> Result<Certified, CertifyError>
+    requires { length ≤ max_context }
+    ensures ok { IfOk result (Answers program.now length wish) }
+    ensures shown { wish.unproved ≡ false → IfOk result (λ c. IfSome c.rewritten (λ r. IsTrue r.is_shown)) }
+    ensures err { IfErr result (IsRefused program.now length wish) }
+    ensures slot { IfErr result (λ e. certify_slot e < slots program.now.list) }
+{
+    let _slots = Code::slots(program);
+    match as_it_stands(alloc, program, length, wish)? {
+        Some(Paid { certificate, bound }) => Ok(Certified {
+            rewritten: None,
+            certificate,
+            bound,
+        }),
+        None => as_hardened(alloc, program, length, wish),
+    }
+}
