@@ -5,8 +5,9 @@
  * The functions of this header look at what can be wrong with pointers and lengths, and hand the rest to the library, whose
  * own functions (bpf_host_..) take no pointer that is null. None keeps what it was given, or changes anything but what the
  * answer says; none has state, so any number of threads may call at once, each with memory of its own for the answers.
- * What isn't wanted of an answer may be null. A null pointer is bytes only with the length 0. An answer that shares a byte with what
- * the call reads, or with the words or the text that it writes, is BPF_BAD_CALL; the two calls that run prepared words don't look at that.
+ * What isn't wanted of an answer may be null. A null pointer is bytes only with the length 0. Where one isn't, or an answer shares a byte with
+ * what the call reads, or with the words or the text that it writes, it is BPF_BAD_MEMORY; the two calls that run prepared words don't look
+ * whether *result lies in them or in the context.
  */
 #ifndef BPF_HOST_H
 #define BPF_HOST_H
@@ -18,18 +19,24 @@
 extern "C" {
 #endif
 
-/* The version of this header, 0.1.0, as one number: 10,000 times its first part, 100 times its second, and its third, together. */
-#define BPF_HOST_VERSION 100
+/* The version of this header, 0.2.0, as one number: 10,000 times its first part, 100 times its second, and its third, together. */
+#define BPF_HOST_VERSION 200
+
+/* The greatest image that there is, in bytes. */
+enum { BPF_IMAGE_MOST = 524288 };
 
 /* ---- what the calls answer */
 
 enum bpf_answer {
     BPF_YES = 1,        /* done, and the answer stands where it was asked for */
     BPF_NO = 0,         /* refused, and the refusal says why */
-    BPF_NO_MEMORY = -1, /* malloc gave none */
-    BPF_BAD_CALL = -2,  /* an argument that no call takes: see each call */
-    BPF_TOO_SMALL = -3, /* the memory for the answer is too small */
-    BPF_TOO_LONG = -4   /* a run may take more instructions than are paid for */
+    BPF_NO_MEMORY = -1,  /* malloc gave none */
+    BPF_BAD_CALL = -2,   /* a number that the call doesn't take, or lines that are no table: see each call */
+    BPF_TOO_SMALL = -3,  /* the memory for the answer is too small */
+    BPF_TOO_LONG = -4,   /* a run may take more instructions than are paid for */
+    BPF_BAD_LENGTH = -5, /* a context of a length for which the image isn't run */
+    BPF_BAD_WORDS = -6,  /* words that this version of the library didn't write, or not all of them */
+    BPF_BAD_MEMORY = -7  /* bytes or words that aren't there, or an answer that would be written over what is read or written beside it */
 };
 
 /* The byte order of an image and of the memory that it runs on. */
@@ -42,7 +49,9 @@ enum bpf_kind {
     BPF_FAULT = 'F',       /* an instruction that the machine can't do */
     BPF_HARDENING = 'H',   /* the program isn't hardened */
     BPF_INFERENCE = 'I',   /* no certificate is proposed */
-    BPF_CERTIFICATE = 'K'  /* the text is no certificate */
+    BPF_CERTIFICATE = 'K', /* the text is no certificate */
+    BPF_MISMATCH = 'M',    /* the notes don't show that the meaning is kept */
+    BPF_NOTES = 'N'        /* the text is none of notes */
 };
 
 /* On every context of `least` to `most` bytes the program ends within `bound` instructions. */
@@ -55,8 +64,9 @@ struct bpf_verdict {
 struct bpf_refusal {
     uint32_t kind;      /* enum bpf_kind, but BPF_FAULT */
     uint32_t number;    /* from 1 */
-    uint64_t place;     /* the slot, from 0; of BPF_CERTIFICATE the line, from 1 */
-    uint64_t condition; /* of I4 and H7: the number of the checker's condition, 3 to 12; else 0 */
+    uint64_t place;     /* the slot, from 0; of BPF_CERTIFICATE and BPF_NOTES the line, from 1 */
+    uint64_t condition; /* of I4 and H7: the number of the checker's condition, 3 to 12; of H13: that of BPF_MISMATCH, 1 to 7; of BPF_IMAGE by
+                           bpf_follows: 0 of the old image, 1 of the new one; else 0 */
 };
 
 enum bpf_end {
@@ -93,10 +103,16 @@ int32_t bpf_host_run_loaded(const uint8_t *memory, size_t memory_len, const uint
                             uint64_t *value);
 int32_t bpf_host_run(const uint8_t *image, size_t image_len, uint32_t order, const uint8_t *context, size_t context_len,
                      uint64_t fuel, struct bpf_outcome *outcome);
+int32_t bpf_host_follows(const uint8_t *old_image, size_t old_len, const uint8_t *new_image, size_t new_len, uint32_t order,
+                         const uint8_t *notes, size_t notes_len, uint32_t size, uint32_t turns, uint32_t padded, uint32_t untouched,
+                         struct bpf_refusal *refusal);
+size_t bpf_host_infer_size(size_t image_len);
+size_t bpf_host_explain_size(size_t image_len, size_t certificate_len, size_t lines_len);
 int32_t bpf_host_infer(const uint8_t *image, size_t image_len, uint32_t order, uint32_t least, uint32_t most, uint32_t deep,
                        uint8_t *text, size_t text_len, size_t *wanted, struct bpf_refusal *refusal);
 int32_t bpf_host_harden(const uint8_t *image, size_t image_len, uint32_t order, uint32_t size, uint32_t turns, uint64_t otherwise,
-                        uint32_t padded, uint8_t *text, size_t text_len, size_t *wanted, struct bpf_refusal *refusal);
+                        uint32_t padded, uint32_t unproved, uint32_t untouched, uint8_t *text, size_t text_len, size_t *wanted,
+                        struct bpf_refusal *refusal);
 int32_t bpf_host_explain(const uint8_t *image, size_t image_len, uint32_t order, const uint8_t *certificate, size_t certificate_len,
                          uint32_t aspect, uint32_t slot, const uint8_t *lines, size_t lines_len, uint8_t *text, size_t text_len,
                          size_t *wanted, struct bpf_refusal *refusal);
@@ -106,6 +122,7 @@ int32_t bpf_host_explain_search(const uint8_t *image, size_t image_len, uint32_t
 int32_t bpf_host_explain_image(const uint8_t *image, size_t image_len, uint32_t order, uint32_t graph, uint8_t *text, size_t text_len,
                                size_t *wanted, struct bpf_refusal *refusal);
 size_t bpf_host_refusal_text(uint32_t kind, uint32_t number, uint8_t *text, size_t text_len);
+size_t bpf_host_answer_text(int32_t answer, uint8_t *text, size_t text_len);
 
 /* ---- bytes, as C hands them over */
 
@@ -141,9 +158,9 @@ static inline int bpf_may_tell(const void *text, size_t text_len, const size_t *
 /* How many words stand in front of the image in a prepared program, and in a handle. */
 enum { BPF_PREPARED_HEAD = 2, BPF_LOADED_HEAD = 5 };
 
-/* Whether memory is that of so many words, `least` of them or more: there, aligned, and no larger than an object. */
-static inline int bpf_are_words(const uint64_t *words, size_t words_len, size_t least) {
-    return words && (uintptr_t)words % sizeof(uint64_t) == 0 && words_len - least <= (size_t)PTRDIFF_MAX / sizeof(uint64_t) - least;
+/* Whether memory is that of so many words: there, aligned, and no larger than an object. */
+static inline int bpf_are_words(const uint64_t *words, size_t words_len) {
+    return words && (uintptr_t)words % sizeof(uint64_t) == 0 && words_len <= (size_t)PTRDIFF_MAX / sizeof(uint64_t);
 }
 
 /* ---- the calls */
@@ -154,15 +171,16 @@ static inline uint32_t bpf_version(void) {
 }
 
 /* Whether a certificate certifies an image. BPF_YES: *verdict is promised of the image, whoever made the certificate. BPF_NO:
- * *refusal says why, by E, K or C. BPF_NO_MEMORY. BPF_BAD_CALL: an order that isn't one, no bytes, or an answer that lies in them. */
+ * *refusal says why, by E, K or C. BPF_NO_MEMORY. BPF_BAD_MEMORY: no bytes, or an answer that lies in them. BPF_BAD_CALL: an order that
+ * isn't one. */
 static inline int32_t bpf_verify(const void *image, size_t image_len, uint32_t order, const void *certificate,
                                  size_t certificate_len, struct bpf_verdict *verdict, struct bpf_refusal *refusal) {
     struct bpf_verdict promised = {0, 0, 0};
     struct bpf_refusal why = {0, 0, 0, 0};
     int32_t answer;
-    if (!bpf_are_bytes(image, image_len) || !bpf_are_bytes(certificate, certificate_len)) return BPF_BAD_CALL;
-    if (!bpf_is_apart(verdict, sizeof *verdict, image, image_len, certificate, certificate_len)) return BPF_BAD_CALL;
-    if (!bpf_is_apart(refusal, sizeof *refusal, image, image_len, certificate, certificate_len)) return BPF_BAD_CALL;
+    if (!bpf_are_bytes(image, image_len) || !bpf_are_bytes(certificate, certificate_len)) return BPF_BAD_MEMORY;
+    if (!bpf_is_apart(verdict, sizeof *verdict, image, image_len, certificate, certificate_len)) return BPF_BAD_MEMORY;
+    if (!bpf_is_apart(refusal, sizeof *refusal, image, image_len, certificate, certificate_len)) return BPF_BAD_MEMORY;
     answer = bpf_host_verify(bpf_bytes(image), image_len, order, bpf_bytes(certificate), certificate_len, &promised, &why);
     if (answer == BPF_YES && verdict) *verdict = promised;
     if (answer == BPF_NO && refusal) *refusal = why;
@@ -176,18 +194,21 @@ static inline size_t bpf_prepared_size(size_t image_len) {
 
 /* Prepares the program of an image for bpf_run_checked, in words of the caller; what they hold is the library's, and another version
  * doesn't run it. It may be copied and moved. BPF_YES. BPF_NO: the image is refused (bpf_verify says why).
- * BPF_TOO_SMALL: there are fewer words than bpf_prepared_size(image_len), whatever the image holds. BPF_BAD_CALL, before both: an
- * order that isn't one, no bytes, no words, or words that lie in the image. Only BPF_YES changes the words. Nothing is allocated. */
+ * BPF_TOO_SMALL: there are fewer words than bpf_prepared_size(image_len), whatever the image holds. Before both, BPF_BAD_CALL: an
+ * order that isn't one; BPF_BAD_MEMORY: no bytes, no words, or words that lie in the image. Only BPF_YES changes the words. Nothing is
+ * allocated. */
 static inline int32_t bpf_prepare(const void *image, size_t image_len, uint32_t order, uint64_t *words, size_t words_len) {
     size_t size = bpf_host_prepared_size(image_len), used = words_len < size ? words_len : size;
-    if (order > BPF_BIG || !bpf_are_bytes(image, image_len) || !bpf_are_words(words, words_len, 0)) return BPF_BAD_CALL;
-    if (bpf_overlap(words, 8 * used, image, image_len)) return BPF_BAD_CALL;
+    if (order > BPF_BIG) return BPF_BAD_CALL;
+    if (!bpf_are_bytes(image, image_len) || !bpf_are_words(words, words_len)) return BPF_BAD_MEMORY;
+    if (bpf_overlap(words, 8 * used, image, image_len)) return BPF_BAD_MEMORY;
     if (words_len < size) return BPF_TOO_SMALL;
     return bpf_host_prepare(bpf_bytes(image), image_len, order, (uint8_t *)words, 8 * size);
 }
 
 /* Runs a prepared program: BPF_YES, and *result is what r0 holds at its end, which comes within the verdict's bound. Nothing is
- * allocated. BPF_BAD_CALL: no words, no bytes, or words that another version prepared; *result stays.
+ * allocated. BPF_BAD_MEMORY: no words, or no bytes. BPF_BAD_WORDS: another version prepared the words, or there are fewer than the image
+ * takes. *result stays then.
  *
  * The caller's duty, which nobody looks at here: bpf_prepare said BPF_YES to these words, and they are as it left them; bpf_verify
  * said BPF_YES to the same image in the same order; and context_len is from `least` to `most` of that verdict. Where one isn't
@@ -196,7 +217,8 @@ static inline int32_t bpf_run_checked(const uint64_t *words, size_t words_len, c
                                       uint64_t *result) {
     uint64_t value = 0;
     int32_t answer;
-    if (!bpf_are_words(words, words_len, BPF_PREPARED_HEAD) || !bpf_are_bytes(context, context_len)) return BPF_BAD_CALL;
+    if (!bpf_are_words(words, words_len) || !bpf_are_bytes(context, context_len)) return BPF_BAD_MEMORY;
+    if (words_len < BPF_PREPARED_HEAD) return BPF_BAD_WORDS;
     answer = bpf_host_run_checked((const uint8_t *)words, 8 * words_len, bpf_bytes(context), context_len, &value);
     if (answer == BPF_YES && result) *result = value;
     return answer;
@@ -211,8 +233,8 @@ static inline size_t bpf_loaded_size(size_t image_len) {
  * one call, on the same bytes. `limit` is the greatest bound that the caller pays for. What the words hold is the library's, and
  * another version doesn't run it. They may be copied and moved. BPF_YES: the handle stands in the words, and *verdict is promised of
  * the image. BPF_TOO_LONG: *verdict is promised, and its bound is above the limit. BPF_NO: *refusal says why, by E, K or C.
- * BPF_NO_MEMORY. BPF_TOO_SMALL: there are fewer words than bpf_loaded_size(image_len), whatever the image holds. BPF_BAD_CALL,
- * before all that: an order that isn't one, no bytes, no words, words that lie in the image or the certificate, or an answer that
+ * BPF_NO_MEMORY. BPF_TOO_SMALL: there are fewer words than bpf_loaded_size(image_len), whatever the image holds. Before all that,
+ * BPF_BAD_CALL: an order that isn't one; BPF_BAD_MEMORY: no bytes, no words, words that lie in the image or the certificate, or an answer that
  * lies in one of the three. Only BPF_YES changes the words. */
 static inline int32_t bpf_load(const void *image, size_t image_len, uint32_t order, const void *certificate,
                                size_t certificate_len, uint32_t limit, uint64_t *words, size_t words_len,
@@ -221,13 +243,14 @@ static inline int32_t bpf_load(const void *image, size_t image_len, uint32_t ord
     struct bpf_verdict promised = {0, 0, 0};
     struct bpf_refusal why = {0, 0, 0, 0};
     int32_t answer;
-    if (order > BPF_BIG || !bpf_are_bytes(image, image_len) || !bpf_are_bytes(certificate, certificate_len)) return BPF_BAD_CALL;
-    if (!bpf_are_words(words, words_len, 0) || bpf_overlap(words, 8 * used, image, image_len)) return BPF_BAD_CALL;
-    if (bpf_overlap(words, 8 * used, certificate, certificate_len)) return BPF_BAD_CALL;
-    if (!bpf_is_apart(verdict, sizeof *verdict, image, image_len, certificate, certificate_len)) return BPF_BAD_CALL;
-    if (!bpf_is_apart(refusal, sizeof *refusal, image, image_len, certificate, certificate_len)) return BPF_BAD_CALL;
-    if (!bpf_is_apart(verdict, sizeof *verdict, words, 8 * used, NULL, 0)) return BPF_BAD_CALL;
-    if (!bpf_is_apart(refusal, sizeof *refusal, words, 8 * used, NULL, 0)) return BPF_BAD_CALL;
+    if (order > BPF_BIG) return BPF_BAD_CALL;
+    if (!bpf_are_bytes(image, image_len) || !bpf_are_bytes(certificate, certificate_len)) return BPF_BAD_MEMORY;
+    if (!bpf_are_words(words, words_len) || bpf_overlap(words, 8 * used, image, image_len)) return BPF_BAD_MEMORY;
+    if (bpf_overlap(words, 8 * used, certificate, certificate_len)) return BPF_BAD_MEMORY;
+    if (!bpf_is_apart(verdict, sizeof *verdict, image, image_len, certificate, certificate_len)) return BPF_BAD_MEMORY;
+    if (!bpf_is_apart(refusal, sizeof *refusal, image, image_len, certificate, certificate_len)) return BPF_BAD_MEMORY;
+    if (!bpf_is_apart(verdict, sizeof *verdict, words, 8 * used, NULL, 0)) return BPF_BAD_MEMORY;
+    if (!bpf_is_apart(refusal, sizeof *refusal, words, 8 * used, NULL, 0)) return BPF_BAD_MEMORY;
     if (words_len < size) return BPF_TOO_SMALL;
     answer = bpf_host_load(bpf_bytes(image), image_len, order, bpf_bytes(certificate), certificate_len, limit, (uint8_t *)words,
                            8 * size, &promised, &why);
@@ -236,9 +259,9 @@ static inline int32_t bpf_load(const void *image, size_t image_len, uint32_t ord
     return answer;
 }
 
-/* Runs the program of a handle. BPF_YES: *result is what r0 holds at its end, which comes within the verdict's bound. BPF_BAD_CALL:
- * no words, no bytes, words that another version loaded, or a context whose length isn't one of the verdict's; *result stays. Nothing
- * is allocated.
+/* Runs the program of a handle. BPF_YES: *result is what r0 holds at its end, which comes within the verdict's bound. BPF_BAD_MEMORY:
+ * no words, or no bytes. BPF_BAD_WORDS: another version loaded the words, or there are fewer than the handle has. BPF_BAD_LENGTH: the
+ * context's length isn't one of the verdict's. *result stays then. Nothing is allocated.
  *
  * The caller's duty, which nobody looks at here: bpf_load said BPF_YES to these words, and they are as it left them. Where that
  * isn't so, nothing is promised of what comes. */
@@ -246,40 +269,48 @@ static inline int32_t bpf_run_loaded(const uint64_t *words, size_t words_len, co
                                      uint64_t *result) {
     uint64_t value = 0;
     int32_t answer;
-    if (!bpf_are_words(words, words_len, BPF_LOADED_HEAD) || !bpf_are_bytes(context, context_len)) return BPF_BAD_CALL;
+    if (!bpf_are_words(words, words_len) || !bpf_are_bytes(context, context_len)) return BPF_BAD_MEMORY;
+    if (words_len < BPF_LOADED_HEAD) return BPF_BAD_WORDS;
     answer = bpf_host_run_loaded((const uint8_t *)words, 8 * words_len, bpf_bytes(context), context_len, &value);
     if (answer == BPF_YES && result) *result = value;
     return answer;
 }
 
 /* Runs an image that nobody verified, on the exact machine, for at most `fuel` instructions. BPF_YES: it ran, and *outcome says
- * how that ended. BPF_NO: the image is refused, as *outcome says. BPF_BAD_CALL: an order that isn't one, no bytes, a context
- * of more than 4,096, or an outcome that lies in them; *outcome stays. Nothing is allocated. */
+ * how that ended. BPF_NO: the image is refused, as *outcome says. BPF_BAD_MEMORY: no bytes, or an outcome that lies in them.
+ * BPF_BAD_CALL: an order that isn't one. BPF_BAD_LENGTH: a context of more than 4,096 bytes. *outcome stays then. Nothing is allocated. */
 static inline int32_t bpf_run(const void *image, size_t image_len, uint32_t order, const void *context, size_t context_len,
                               uint64_t fuel, struct bpf_outcome *outcome) {
     struct bpf_outcome end = {0, 0, 0, 0, 0};
     int32_t answer;
-    if (!bpf_are_bytes(image, image_len) || !bpf_are_bytes(context, context_len)) return BPF_BAD_CALL;
-    if (!bpf_is_apart(outcome, sizeof *outcome, image, image_len, context, context_len)) return BPF_BAD_CALL;
+    if (!bpf_are_bytes(image, image_len) || !bpf_are_bytes(context, context_len)) return BPF_BAD_MEMORY;
+    if (!bpf_is_apart(outcome, sizeof *outcome, image, image_len, context, context_len)) return BPF_BAD_MEMORY;
     answer = bpf_host_run(bpf_bytes(image), image_len, order, bpf_bytes(context), context_len, fuel, &end);
-    if (answer != BPF_BAD_CALL && outcome) *outcome = end;
+    if ((answer == BPF_YES || answer == BPF_NO) && outcome) *outcome = end;
     return answer;
+}
+
+/* How many bytes of memory do for whatever certificate bpf_infer proposes for an image of so many bytes, so that it needn't search twice.
+ * Most take far less: it is the limits of the search that these are of. Memory that isn't written costs nothing where the system gives it by
+ * pages; realloc takes back what isn't used. */
+static inline size_t bpf_infer_size(size_t image_len) {
+    return bpf_host_infer_size(image_len);
 }
 
 /* Proposes a certificate for an image, on contexts of `least` to `most` bytes; with `deep` 1 it is sought longer, and found for more
  * programs, as by `infer --deep`; else 0. BPF_YES: its text stands in the first *wanted
  * bytes of `text`. BPF_TOO_SMALL: it has *wanted bytes, and `text`, which may be null with the length 0, is as it was. BPF_NO:
  * none is proposed, and *refusal says why, by E or I. BPF_NO_MEMORY. BPF_BAD_CALL: an order or `deep` that isn't one, `least` above
- * `most`, `most` above 4,096, no bytes, a text that lies in the image, or an answer that lies in either. Nobody relies on a proposal:
- * bpf_verify judges it. */
+ * `most`, or `most` above 4,096. BPF_BAD_MEMORY: no bytes, a text that lies in the image, or an answer that lies in either. Nobody relies on
+ * a proposal: bpf_verify judges it. */
 static inline int32_t bpf_infer(const void *image, size_t image_len, uint32_t order, uint32_t least, uint32_t most, uint32_t deep,
                                 char *text, size_t text_len, size_t *wanted, struct bpf_refusal *refusal) {
     struct bpf_refusal why = {0, 0, 0, 0};
     size_t count = 0;
     uint8_t none = 0;
     int32_t answer;
-    if (!bpf_are_bytes(image, image_len) || !bpf_are_bytes(text, text_len)) return BPF_BAD_CALL;
-    if (!bpf_may_tell(text, text_len, wanted, refusal, image, image_len)) return BPF_BAD_CALL;
+    if (!bpf_are_bytes(image, image_len) || !bpf_are_bytes(text, text_len)) return BPF_BAD_MEMORY;
+    if (!bpf_may_tell(text, text_len, wanted, refusal, image, image_len)) return BPF_BAD_MEMORY;
     answer = bpf_host_infer(bpf_bytes(image), image_len, order, least, most, deep, text ? (uint8_t *)text : &none, text_len, &count,
                             &why);
     if ((answer == BPF_YES || answer == BPF_TOO_SMALL) && wanted) *wanted = count;
@@ -293,27 +324,56 @@ struct bpf_hardening {
     uint32_t padded;    /* 1: the context is a block of a packet's length in eight bytes, the packet and padding; else 0 */
     uint64_t otherwise; /* r0 where a trap ends the program; a local function that may return any number returns it from a trap, and its
                            caller goes on */
+    uint32_t unproved;  /* 0: a new image that isn't shown to keep the meaning of the old one is refused, by H13; 1: nobody shows it */
+    uint32_t untouched; /* of which runs it is shown: of those that leave so many of the lowest bytes of each frame, at most 512, to r10 */
 };
 
 /* Hardens an image for contexts of exactly `size` bytes, so that bpf_infer with `deep` may find a certificate for it; `asked` may be
- * null: 65,536 turns, no blocks, 0 otherwise. BPF_YES: the new image stands in the first *wanted bytes of `hardened`. BPF_TOO_SMALL:
- * it has *wanted bytes, at most 524,288, and `hardened`, which may be null with the length 0, is as it was. BPF_NO: *refusal says why, by
- * E or H. BPF_NO_MEMORY. BPF_BAD_CALL: an order or `padded` that isn't one, `size` above 4,096, no bytes, `hardened` lies in the
- * image, or an answer in either. For safety nobody relies on it: a certificate of the new image is found by bpf_infer, and judged by
- * bpf_load or bpf_verify. That the new image answers as the old one did, the command's `follows` shows. */
+ * null: 65,536 turns, and all else 0. BPF_YES: the new image stands in the first *wanted bytes of `hardened`; unless `unproved` is 1, it
+ * is shown to end with the old one's number on each context on which that one ends with a number, comes to no instruction more than `turns`
+ * times, and goes by no other register than r10 to the lowest `untouched` bytes of a frame. BPF_TOO_SMALL: it has *wanted bytes, at
+ * most BPF_IMAGE_MOST, and `hardened`, which may be null with the length 0, is as it was. BPF_NO: *refusal says why, by E or H.
+ * BPF_NO_MEMORY. BPF_BAD_CALL: an order, `padded` or `unproved` that isn't one, `size` above 4,096, or `untouched` above 512. BPF_BAD_MEMORY:
+ * no bytes, `hardened` lies in the image, or an answer in either. For safety nobody relies on it: a certificate of the new image is found
+ * by bpf_infer, and judged by bpf_load or bpf_verify. */
 static inline int32_t bpf_harden(const void *image, size_t image_len, uint32_t order, uint32_t size, const struct bpf_hardening *asked,
                                  void *hardened, size_t hardened_len, size_t *wanted, struct bpf_refusal *refusal) {
-    struct bpf_hardening usual = {65536, 0, 0};
+    struct bpf_hardening usual = {65536, 0, 0, 0, 0};
     struct bpf_refusal why = {0, 0, 0, 0};
     size_t count = 0;
     uint8_t none = 0;
     int32_t answer;
-    if (!bpf_are_bytes(image, image_len) || !bpf_are_bytes(hardened, hardened_len)) return BPF_BAD_CALL;
-    if (!bpf_may_tell(hardened, hardened_len, wanted, refusal, image, image_len)) return BPF_BAD_CALL;
+    if (!bpf_are_bytes(image, image_len) || !bpf_are_bytes(hardened, hardened_len)) return BPF_BAD_MEMORY;
+    if (!bpf_may_tell(hardened, hardened_len, wanted, refusal, image, image_len)) return BPF_BAD_MEMORY;
     if (!asked) asked = &usual;
     answer = bpf_host_harden(bpf_bytes(image), image_len, order, size, asked->turns ? asked->turns : usual.turns, asked->otherwise, asked->padded,
-                             hardened ? (uint8_t *)hardened : &none, hardened_len, &count, &why);
+                             asked->unproved, asked->untouched, hardened ? (uint8_t *)hardened : &none, hardened_len, &count, &why);
     if ((answer == BPF_YES || answer == BPF_TOO_SMALL) && wanted) *wanted = count;
+    if (answer == BPF_NO && refusal) *refusal = why;
+    return answer;
+}
+
+/* For which contexts and runs it is asked whether a new image keeps the meaning of an old one, as by the options of `bpf follows`. */
+struct bpf_following {
+    uint32_t size;      /* how many bytes a context has, at most 4,096 */
+    uint32_t padded;    /* 1: a context is a block, of which the old program is given the packet; else 0 */
+    uint32_t turns;     /* for runs that come to no instruction more often; 0: 65,536 times */
+    uint32_t untouched; /* and that leave so many of the lowest bytes of each frame, at most 512, to r10 */
+};
+
+/* Whether the text of notes shows that a new image keeps the meaning of an old one. BPF_YES: on each such context on which the old one ends with
+ * a number, by such a run, the new one ends with that number. BPF_NO: *refusal says why, by E (the old image where `condition` is 0, the new one
+ * where it is 1), N or M. BPF_NO_MEMORY. BPF_BAD_CALL: an order or `padded` that isn't one, `size` above 4,096, or `untouched` above 512.
+ * BPF_BAD_MEMORY: no bytes, no `asked`, or a refusal that lies in what is read. `bpf harden .. --notes` writes notes of what it hardens. */
+static inline int32_t bpf_follows(const void *old_image, size_t old_len, const void *new_image, size_t new_len, uint32_t order,
+                                  const void *notes, size_t notes_len, const struct bpf_following *asked, struct bpf_refusal *refusal) {
+    struct bpf_refusal why = {0, 0, 0, 0};
+    int32_t answer;
+    if (!bpf_are_bytes(old_image, old_len) || !bpf_are_bytes(new_image, new_len) || !bpf_are_bytes(notes, notes_len)) return BPF_BAD_MEMORY;
+    if (!asked || !bpf_is_apart(refusal, sizeof *refusal, old_image, old_len, new_image, new_len)) return BPF_BAD_MEMORY;
+    if (!bpf_is_apart(refusal, sizeof *refusal, notes, notes_len, asked, sizeof *asked)) return BPF_BAD_MEMORY;
+    answer = bpf_host_follows(bpf_bytes(old_image), old_len, bpf_bytes(new_image), new_len, order, bpf_bytes(notes), notes_len, asked->size,
+                              asked->turns ? asked->turns : 65536, asked->padded, asked->untouched, &why);
     if (answer == BPF_NO && refusal) *refusal = why;
     return answer;
 }
@@ -332,11 +392,19 @@ struct bpf_shown {
     size_t lines_len;
 };
 
+/* How many bytes of memory do for the words that explain an image of so many bytes, with a certificate and lines of the source of so many,
+ * 0 where there are none: several times what the worst that is known takes. SIZE_MAX where there is no such number. Where it isn't
+ * enough all the same, BPF_TOO_SMALL says what is. */
+static inline size_t bpf_explain_size(size_t image_len, size_t certificate_len, size_t lines_len) {
+    return bpf_host_explain_size(image_len, certificate_len, lines_len);
+}
+
 /* Explains an image with a certificate: the words of `bpf explain IN CERT`, byte for byte. `shown` may be null: the listing without lines
  * of the source. BPF_YES: they stand in the first *wanted bytes of `text`, and the certificate certifies the image. BPF_NO: they stand
  * there, and it doesn't: *refusal says why, by E, K or C. BPF_TOO_SMALL: there are *wanted bytes of them, and `text`, which may be null
- * with the length 0, is as it was. BPF_NO_MEMORY. BPF_BAD_CALL: an order or an aspect that isn't one, no bytes, lines that are no such table, a text
- * that lies in what is read, or an answer in either or in the other one. Words are for people, and may be other in another version. */
+ * with the length 0, is as it was. BPF_NO_MEMORY. BPF_BAD_CALL: an order or an aspect that isn't one, or lines that are no such table. BPF_BAD_MEMORY:
+ * no bytes, a text that lies in what is read, or an answer in either or in the other one. Words are for people, and may be other in another
+ * version. */
 static inline int32_t bpf_explain(const void *image, size_t image_len, uint32_t order, const void *certificate, size_t certificate_len,
                                   const struct bpf_shown *shown, char *text, size_t text_len, size_t *wanted,
                                   struct bpf_refusal *refusal) {
@@ -346,12 +414,12 @@ static inline int32_t bpf_explain(const void *image, size_t image_len, uint32_t 
     uint8_t none = 0;
     int32_t answer;
     if (!shown) shown = &usual;
-    if (!bpf_are_bytes(image, image_len) || !bpf_are_bytes(certificate, certificate_len)) return BPF_BAD_CALL;
-    if (!bpf_are_bytes(shown->lines, shown->lines_len) || !bpf_are_bytes(text, text_len)) return BPF_BAD_CALL;
-    if (!bpf_may_tell(text, text_len, wanted, refusal, image, image_len)) return BPF_BAD_CALL;
-    if (!bpf_may_tell(text, text_len, wanted, refusal, certificate, certificate_len)) return BPF_BAD_CALL;
-    if (!bpf_may_tell(text, text_len, wanted, refusal, shown->lines, shown->lines_len)) return BPF_BAD_CALL;
-    if (refusal && !bpf_is_apart(wanted, sizeof *wanted, refusal, sizeof *refusal, NULL, 0)) return BPF_BAD_CALL;
+    if (!bpf_are_bytes(image, image_len) || !bpf_are_bytes(certificate, certificate_len)) return BPF_BAD_MEMORY;
+    if (!bpf_are_bytes(shown->lines, shown->lines_len) || !bpf_are_bytes(text, text_len)) return BPF_BAD_MEMORY;
+    if (!bpf_may_tell(text, text_len, wanted, refusal, image, image_len)) return BPF_BAD_MEMORY;
+    if (!bpf_may_tell(text, text_len, wanted, refusal, certificate, certificate_len)) return BPF_BAD_MEMORY;
+    if (!bpf_may_tell(text, text_len, wanted, refusal, shown->lines, shown->lines_len)) return BPF_BAD_MEMORY;
+    if (refusal && !bpf_is_apart(wanted, sizeof *wanted, refusal, sizeof *refusal, NULL, 0)) return BPF_BAD_MEMORY;
     answer = bpf_host_explain(bpf_bytes(image), image_len, order, bpf_bytes(certificate), certificate_len, shown->aspect, shown->slot,
                               bpf_bytes(shown->lines), shown->lines_len, text ? (uint8_t *)text : &none, text_len, &count, &why);
     if ((answer == BPF_YES || answer == BPF_NO || answer == BPF_TOO_SMALL) && wanted) *wanted = count;
@@ -371,10 +439,10 @@ static inline int32_t bpf_explain_search(const void *image, size_t image_len, ui
     uint8_t none = 0;
     int32_t answer;
     if (!shown) shown = &usual;
-    if (!bpf_are_bytes(image, image_len) || !bpf_are_bytes(shown->lines, shown->lines_len)) return BPF_BAD_CALL;
-    if (!bpf_are_bytes(text, text_len) || !bpf_may_tell(text, text_len, wanted, refusal, image, image_len)) return BPF_BAD_CALL;
-    if (!bpf_may_tell(text, text_len, wanted, refusal, shown->lines, shown->lines_len)) return BPF_BAD_CALL;
-    if (refusal && !bpf_is_apart(wanted, sizeof *wanted, refusal, sizeof *refusal, NULL, 0)) return BPF_BAD_CALL;
+    if (!bpf_are_bytes(image, image_len) || !bpf_are_bytes(shown->lines, shown->lines_len)) return BPF_BAD_MEMORY;
+    if (!bpf_are_bytes(text, text_len) || !bpf_may_tell(text, text_len, wanted, refusal, image, image_len)) return BPF_BAD_MEMORY;
+    if (!bpf_may_tell(text, text_len, wanted, refusal, shown->lines, shown->lines_len)) return BPF_BAD_MEMORY;
+    if (refusal && !bpf_is_apart(wanted, sizeof *wanted, refusal, sizeof *refusal, NULL, 0)) return BPF_BAD_MEMORY;
     answer = bpf_host_explain_search(bpf_bytes(image), image_len, order, least, most, deep, shown->aspect, shown->slot,
                                      bpf_bytes(shown->lines), shown->lines_len, text ? (uint8_t *)text : &none, text_len, &count, &why);
     if ((answer == BPF_YES || answer == BPF_NO || answer == BPF_TOO_SMALL) && wanted) *wanted = count;
@@ -390,9 +458,9 @@ static inline int32_t bpf_explain_image(const void *image, size_t image_len, uin
     size_t count = 0;
     uint8_t none = 0;
     int32_t answer;
-    if (!bpf_are_bytes(image, image_len) || !bpf_are_bytes(text, text_len)) return BPF_BAD_CALL;
-    if (!bpf_may_tell(text, text_len, wanted, refusal, image, image_len)) return BPF_BAD_CALL;
-    if (refusal && !bpf_is_apart(wanted, sizeof *wanted, refusal, sizeof *refusal, NULL, 0)) return BPF_BAD_CALL;
+    if (!bpf_are_bytes(image, image_len) || !bpf_are_bytes(text, text_len)) return BPF_BAD_MEMORY;
+    if (!bpf_may_tell(text, text_len, wanted, refusal, image, image_len)) return BPF_BAD_MEMORY;
+    if (refusal && !bpf_is_apart(wanted, sizeof *wanted, refusal, sizeof *refusal, NULL, 0)) return BPF_BAD_MEMORY;
     answer = bpf_host_explain_image(bpf_bytes(image), image_len, order, graph, text ? (uint8_t *)text : &none, text_len, &count, &why);
     if ((answer == BPF_YES || answer == BPF_NO || answer == BPF_TOO_SMALL) && wanted) *wanted = count;
     if (answer == BPF_NO && refusal) *refusal = why;
@@ -407,6 +475,17 @@ static inline size_t bpf_refusal_text(uint32_t kind, uint32_t number, char *text
     if (!bpf_are_bytes(text, text_len)) return 0;
     room = text_len ? text_len - 1 : 0;
     len = bpf_host_refusal_text(kind, number, text ? (uint8_t *)text : &none, room);
+    if (text_len) text[len < room ? len : room] = 0;
+    return len;
+}
+
+/* What an answer below 0 says in English, as bpf_refusal_text gives it; 0 bytes of any other answer. */
+static inline size_t bpf_answer_text(int32_t answer, char *text, size_t text_len) {
+    uint8_t none = 0;
+    size_t room, len;
+    if (!bpf_are_bytes(text, text_len)) return 0;
+    room = text_len ? text_len - 1 : 0;
+    len = bpf_host_answer_text(answer, text ? (uint8_t *)text : &none, room);
     if (text_len) text[len < room ? len : room] = 0;
     return len;
 }

@@ -179,7 +179,7 @@ class Runner:
 
     def follow(self, length, order, harden):
         """What `follows` says of new.img with its notes, for each run or for those that leave the bytes alone that hardening takes, and that
-        `harden` goes by it without `--unproved`."""
+        `harden` goes by it without `--unproved`: what is shown for fewer runs than all it says, and `--untouched 0` refuses it."""
         blocks = ['--padded'] if '--padded' in harden else []
         asked = ('follows', *order, 'old.img', 'new.img', 'notes', str(length), *blocks)
         status, out = self.call(*asked)
@@ -188,13 +188,17 @@ class Runner:
             raise Wrong(f'follows says {out!r}')
         self.is_shown = status == 0
         new = self.get('new.img')
-        left = status != 0 and self.call(*asked, '--untouched', str(self.taken(harden)))[0] == 0
+        taken = self.taken(harden) if status else 0
+        left = status != 0 and self.call(*asked, '--untouched', str(taken))[0] == 0
         shown = status == 0 or left
         self.verdicts['left' if left else said[1] or 'yes'] += 1
         os.remove(os.path.join(self.folder, 'new.img'))
         status, out = self.call(*harden)
-        if (status, out) != ((0, '') if shown else (1, f'no H13 at {said[0].split(" at ")[1]}')):
+        refused = (1, f'no H13 at {said[0].split(" at ")[1]}') if said[1] else None
+        if (status, out) != ((0, f'untouched {taken}\n' if left else '') if shown else refused):
             raise Wrong(f'follows says {said[0]!r}, and harden {out!r}')
+        if left and self.call(*harden, '--untouched', '0')[0] != 1:
+            raise Wrong('harden --untouched 0 takes what is shown for fewer runs')
         if shown and self.get('new.img') != new or not shown and os.path.exists(os.path.join(self.folder, 'new.img')):
             raise Wrong('harden writes something else without --unproved')
         self.put('new.img', new)

@@ -86,7 +86,7 @@ static void say_check(uint32_t order, const struct bytes *image, const struct by
 static void say_run(uint32_t order, const struct bytes *image, const struct bytes *context, uint64_t fuel) {
     struct bpf_outcome end;
     char text[128];
-    if (bpf_run(image->at, image->len, order, context->at, context->len, fuel, &end) == BPF_BAD_CALL) {
+    if (bpf_run(image->at, image->len, order, context->at, context->len, fuel, &end) == BPF_BAD_LENGTH) {
         puts("2 context too long");
         return;
     }
@@ -116,8 +116,8 @@ static void run_loaded(uint32_t order, const struct bytes *image, const struct b
     if (memcmp(&told, &v, sizeof v)) abort();
     if (bpf_load(image->at, image->len, order, certificate->at, certificate->len, v.bound, (uint64_t *)words.at, len, &told, NULL) != BPF_YES) abort();
     if (memcmp(&told, &v, sizeof v)) abort();
-    if (bpf_run_loaded((uint64_t *)words.at, len, beyond, v.most + 1, &value) != BPF_BAD_CALL || value != 7) abort();
-    if (v.least && (bpf_run_loaded((uint64_t *)words.at, len, beyond, v.least - 1, &value) != BPF_BAD_CALL || value != 7)) abort();
+    if (bpf_run_loaded((uint64_t *)words.at, len, beyond, v.most + 1, &value) != BPF_BAD_LENGTH || value != 7) abort();
+    if (v.least && (bpf_run_loaded((uint64_t *)words.at, len, beyond, v.least - 1, &value) != BPF_BAD_LENGTH || value != 7)) abort();
     if (bpf_run_loaded((uint64_t *)words.at, len, context->at, context->len, &value) != BPF_YES || value != want) abort();
     free(words.at);
 }
@@ -157,6 +157,7 @@ static void say_infer(uint32_t order, const struct bytes *image, uint32_t least,
     case BPF_TOO_SMALL: break;
     default: abort();
     }
+    if (wanted > bpf_infer_size(image->len)) abort();
     text = of_size(wanted);
     if (bpf_infer(image->at, image->len, order, least, most, 0, (char *)text.at, wanted - 1, &again, &why) != BPF_TOO_SMALL) abort();
     if (bpf_infer(image->at, image->len, order, least, most, 0, (char *)text.at, wanted, &again, &why) != BPF_YES) abort();
@@ -170,13 +171,13 @@ static void say_infer(uint32_t order, const struct bytes *image, uint32_t least,
 /* Its words go to a file. The size is asked for first; then they are written, with a byte too few and with just enough room. */
 typedef int32_t explains(const void *of, char *text, size_t text_len, size_t *wanted, struct bpf_refusal *why);
 
-static void say_explained(explains *call, const void *of, const char *out) {
+static void say_explained(explains *call, const void *of, size_t most, const char *out) {
     size_t wanted = 0, again = 0;
     struct bpf_refusal why = {7, 7, 7, 7};
     struct bytes text;
     FILE *file;
     int32_t answer;
-    if (call(of, NULL, 0, &wanted, &why) != BPF_TOO_SMALL || !wanted) abort();
+    if (call(of, NULL, 0, &wanted, &why) != BPF_TOO_SMALL || !wanted || wanted > most) abort();
     text = of_size(wanted);
     if (call(of, (char *)text.at, wanted - 1, &again, &why) != BPF_TOO_SMALL || again != wanted || why.kind != 7) abort();
     answer = call(of, (char *)text.at, wanted, &again, &why);
@@ -216,15 +217,9 @@ static void say_explain(uint32_t order, char **word) {
     struct question q = {order, 0, 0, 0, read_file(word[0]), {NULL, 0}, {(uint32_t)atol(word[1]), (uint32_t)atol(word[2]), NULL, 0}};
     if (strcmp(word[3], "none")) lines = read_file(word[3]);
     q.shown.lines = lines.at, q.shown.lines_len = lines.len;
-    if (!word[5]) {
-        say_explained(of_image, &q, word[4]);
-    } else if (!word[6]) {
-        q.certificate = read_file(word[5]);
-        say_explained(of_certificate, &q, word[4]);
-    } else {
-        q.least = (uint32_t)atol(word[5]), q.most = (uint32_t)atol(word[6]), q.deep = (uint32_t)atol(word[7]);
-        say_explained(of_search, &q, word[4]);
-    }
+    if (word[5] && !word[6]) q.certificate = read_file(word[5]);
+    if (word[6]) q.least = (uint32_t)atol(word[5]), q.most = (uint32_t)atol(word[6]), q.deep = (uint32_t)atol(word[7]);
+    say_explained(word[6] ? of_search : word[5] ? of_certificate : of_image, &q, bpf_explain_size(q.image.len, q.certificate.len, lines.len), word[4]);
     free(q.image.at), free(q.certificate.at), free(lines.at);
 }
 
@@ -243,11 +238,36 @@ static void say_alone(uint32_t order, const struct bytes *image, uint32_t length
     free(words.at);
 }
 
+/* follows ORDER OLD NEW NOTES SIZE PADDED TURNS UNTOUCHED */
+static void say_follows(uint32_t order, char **word) {
+    struct bytes old = read_file(word[0]), new = read_file(word[1]), notes = read_file(word[2]);
+    const struct bpf_following asked = {(uint32_t)atol(word[3]), (uint32_t)atol(word[4]), (uint32_t)atol(word[5]), (uint32_t)atol(word[6])};
+    struct bpf_refusal why;
+    switch (bpf_follows(old.at, old.len, new.at, new.len, order, notes.at, notes.len, &asked, &why)) {
+    case BPF_NO:
+        if (!bpf_refusal_text(why.kind, why.number, NULL, 0)) abort();
+        printf("1 no %c%u%s at %s %u\n", (int)why.kind, (unsigned)why.number, why.kind != BPF_IMAGE ? "" : why.condition ? " of NEW" : " of OLD",
+               why.kind == BPF_NOTES ? "line" : "slot", (unsigned)why.place);
+        break;
+    case BPF_YES:
+        printf("0 yes length %u turns %u", (unsigned)asked.size, (unsigned)asked.turns);
+        if (asked.untouched) printf(" untouched %u", (unsigned)asked.untouched);
+        puts(asked.padded ? " padded" : "");
+        break;
+    default: abort();
+    }
+    free(old.at), free(new.at), free(notes.at);
+}
+
 static void answer(char **word) {
     uint32_t order = strcmp(word[1], "big") ? BPF_LITTLE : BPF_BIG;
     struct bytes image = {NULL, 0}, second = {NULL, 0}, third = {NULL, 0};
     if (!strcmp(word[0], "explain")) {
         say_explain(order, word + 2);
+        return;
+    }
+    if (!strcmp(word[0], "follows")) {
+        say_follows(order, word + 2);
         return;
     }
     image = read_file(word[2]);
@@ -285,7 +305,7 @@ static int table(void) {
 
 static int texts(void) {
     char text[128];
-    for (const char *kind = "CEFHIK"; *kind; kind++)
+    for (const char *kind = "CEFHIKMN"; *kind; kind++)
         for (uint32_t n = 1; bpf_refusal_text((uint32_t)*kind, n, text, sizeof text); n++) printf("%c%u %s\n", *kind, n, text);
     return 0;
 }
@@ -315,10 +335,10 @@ static void bad_checks(void) {
     struct bpf_verdict v = {7, 7, 7};
     struct bpf_refusal why = {7, 7, 7, 7};
     WANTS(bpf_verify(IMAGE, BPF_LITTLE, CERTIFICATE, NULL, NULL), BPF_YES);
-    WANTS(bpf_verify(NULL, 16, BPF_LITTLE, CERTIFICATE, &v, &why), BPF_BAD_CALL);
-    WANTS(bpf_verify(IMAGE, BPF_LITTLE, NULL, 9, &v, &why), BPF_BAD_CALL);
-    WANTS(bpf_verify(image, HUGE_LEN, BPF_LITTLE, CERTIFICATE, &v, &why), BPF_BAD_CALL);
-    WANTS(bpf_verify(IMAGE, BPF_LITTLE, certificate, SIZE_MAX, &v, &why), BPF_BAD_CALL);
+    WANTS(bpf_verify(NULL, 16, BPF_LITTLE, CERTIFICATE, &v, &why), BPF_BAD_MEMORY);
+    WANTS(bpf_verify(IMAGE, BPF_LITTLE, NULL, 9, &v, &why), BPF_BAD_MEMORY);
+    WANTS(bpf_verify(image, HUGE_LEN, BPF_LITTLE, CERTIFICATE, &v, &why), BPF_BAD_MEMORY);
+    WANTS(bpf_verify(IMAGE, BPF_LITTLE, certificate, SIZE_MAX, &v, &why), BPF_BAD_MEMORY);
     WANTS(bpf_verify(IMAGE, 2, CERTIFICATE, &v, &why), BPF_BAD_CALL);
     WANTS(bpf_verify(IMAGE, UINT32_MAX, CERTIFICATE, &v, &why), BPF_BAD_CALL);
     WANTS(v.least == 7 && why.kind == 7, 1);
@@ -331,10 +351,10 @@ static void bad_checks(void) {
 static void bad_runs(void) {
     static const uint8_t long_context[4097];
     struct bpf_outcome end = {7, 7, 7, 7, 7};
-    WANTS(bpf_run(NULL, 16, BPF_LITTLE, NULL, 0, 9, &end), BPF_BAD_CALL);
-    WANTS(bpf_run(IMAGE, BPF_LITTLE, NULL, 1, 9, &end), BPF_BAD_CALL);
-    WANTS(bpf_run(IMAGE, BPF_LITTLE, long_context, 4097, 9, &end), BPF_BAD_CALL);
-    WANTS(bpf_run(IMAGE, BPF_LITTLE, long_context, HUGE_LEN, 9, &end), BPF_BAD_CALL);
+    WANTS(bpf_run(NULL, 16, BPF_LITTLE, NULL, 0, 9, &end), BPF_BAD_MEMORY);
+    WANTS(bpf_run(IMAGE, BPF_LITTLE, NULL, 1, 9, &end), BPF_BAD_MEMORY);
+    WANTS(bpf_run(IMAGE, BPF_LITTLE, long_context, 4097, 9, &end), BPF_BAD_LENGTH);
+    WANTS(bpf_run(IMAGE, BPF_LITTLE, long_context, HUGE_LEN, 9, &end), BPF_BAD_MEMORY);
     WANTS(bpf_run(IMAGE, 2, NULL, 0, 9, &end), BPF_BAD_CALL);
     WANTS(end.kind == 7 && end.steps == 7, 1);
     WANTS(bpf_run(IMAGE, BPF_LITTLE, long_context, 4096, 9, NULL), BPF_YES);
@@ -342,6 +362,18 @@ static void bad_runs(void) {
     WANTS(end.kind, BPF_OUT_OF_FUEL);
     WANTS(bpf_run(image, 15, BPF_LITTLE, NULL, 0, 1, &end), BPF_NO);
     WANTS(end.kind == BPF_NOT_RUN && end.number == 1, 1);
+}
+
+/* With fewer words than were written nothing is run, and none behind them is read: the sanitizer sees it. */
+static void fewer_words(const uint64_t *words, size_t size, int32_t (*run)(const uint64_t *, size_t, const void *, size_t, uint64_t *)) {
+    for (size_t len = 0; len < size; len++) {
+        struct bytes part = of_size(8 * len);
+        uint64_t value = 7;
+        memcpy(part.at, words, part.len);
+        WANTS(run((uint64_t *)part.at, len, NULL, 0, &value), BPF_BAD_WORDS);
+        WANTS(value, 7);
+        free(part.at);
+    }
 }
 
 static void bad_preparing(void) {
@@ -354,27 +386,28 @@ static void bad_preparing(void) {
     WANTS(bpf_prepared_size(524296), 0);
     WANTS(bpf_prepared_size(SIZE_MAX), 0);
     WANTS(bpf_prepared_size(524288) > 0, 1);
-    WANTS(bpf_prepare(NULL, 16, BPF_LITTLE, words, 8), BPF_BAD_CALL);
-    WANTS(bpf_prepare(IMAGE, BPF_LITTLE, NULL, 8), BPF_BAD_CALL);
-    WANTS(bpf_prepare(IMAGE, BPF_LITTLE, words, SIZE_MAX), BPF_BAD_CALL);
-    WANTS(bpf_prepare(IMAGE, BPF_LITTLE, (uint64_t *)(void *)((char *)words + 1), 7), BPF_BAD_CALL);
+    WANTS(bpf_prepare(NULL, 16, BPF_LITTLE, words, 8), BPF_BAD_MEMORY);
+    WANTS(bpf_prepare(IMAGE, BPF_LITTLE, NULL, 8), BPF_BAD_MEMORY);
+    WANTS(bpf_prepare(IMAGE, BPF_LITTLE, words, SIZE_MAX), BPF_BAD_MEMORY);
+    WANTS(bpf_prepare(IMAGE, BPF_LITTLE, (uint64_t *)(void *)((char *)words + 1), 7), BPF_BAD_MEMORY);
     WANTS(bpf_prepare(IMAGE, 2, words, 8), BPF_BAD_CALL);
     WANTS(bpf_prepare(IMAGE, 7, words, 1), BPF_BAD_CALL);
-    WANTS(bpf_prepare(words, 16, BPF_LITTLE, words, 1), BPF_BAD_CALL);
+    WANTS(bpf_prepare(words, 16, BPF_LITTLE, words, 1), BPF_BAD_MEMORY);
     WANTS(bpf_prepare(words + 1, 16, BPF_LITTLE, words, 1), BPF_TOO_SMALL);
     WANTS(bpf_prepare(NO_IMAGE, BPF_LITTLE, words, size - 1), BPF_TOO_SMALL);
     WANTS(bpf_prepare(NO_IMAGE, BPF_LITTLE, words, size), BPF_NO);
     WANTS(bpf_prepare(image, 12, BPF_LITTLE, words, 0), BPF_NO);
     WANTS(bpf_prepare(IMAGE, BPF_LITTLE, words, size - 1), BPF_TOO_SMALL);
     WANTS(bpf_prepare(image, 12, BPF_LITTLE, words, 8), BPF_NO);
-    WANTS(bpf_prepare(words, 16, BPF_LITTLE, words, 8), BPF_BAD_CALL);
-    WANTS(bpf_prepare((char *)words + 8 * size - 8, 16, BPF_LITTLE, words, 8), BPF_BAD_CALL);
+    WANTS(bpf_prepare(words, 16, BPF_LITTLE, words, 8), BPF_BAD_MEMORY);
+    WANTS(bpf_prepare((char *)words + 8 * size - 8, 16, BPF_LITTLE, words, 8), BPF_BAD_MEMORY);
     for (int i = 0; i < 8; i++) WANTS(words[i], 7);
     WANTS(bpf_prepare(IMAGE, BPF_LITTLE, words, 8), BPF_YES);
     for (size_t i = size; i < 8; i++) WANTS(words[i], 7);
-    WANTS(bpf_run_checked(NULL, 8, NULL, 0, &value), BPF_BAD_CALL);
-    WANTS(bpf_run_checked(words, size, NULL, 1, &value), BPF_BAD_CALL);
+    WANTS(bpf_run_checked(NULL, 8, NULL, 0, &value), BPF_BAD_MEMORY);
+    WANTS(bpf_run_checked(words, size, NULL, 1, &value), BPF_BAD_MEMORY);
     WANTS(value, 7);
+    fewer_words(words, size, bpf_run_checked);
     WANTS(bpf_run_checked(words, size, NULL, 0, NULL), BPF_YES);
     WANTS(bpf_run_checked(words, 8, NULL, 0, &value), BPF_YES);
     WANTS(value, 0);
@@ -390,14 +423,14 @@ static void bad_loading(void) {
     WANTS(bpf_loaded_size(524296), 0);
     WANTS(bpf_loaded_size(SIZE_MAX), 0);
     WANTS(bpf_loaded_size(524288) > 0, 1);
-    WANTS(bpf_load(NULL, 16, BPF_LITTLE, CERTIFICATE, 9, words, 12, &v, &why), BPF_BAD_CALL);
-    WANTS(bpf_load(IMAGE, BPF_LITTLE, NULL, 9, 9, words, 12, &v, &why), BPF_BAD_CALL);
+    WANTS(bpf_load(NULL, 16, BPF_LITTLE, CERTIFICATE, 9, words, 12, &v, &why), BPF_BAD_MEMORY);
+    WANTS(bpf_load(IMAGE, BPF_LITTLE, NULL, 9, 9, words, 12, &v, &why), BPF_BAD_MEMORY);
     WANTS(bpf_load(IMAGE, 2, CERTIFICATE, 9, words, 12, &v, &why), BPF_BAD_CALL);
     WANTS(bpf_load(IMAGE, 2, CERTIFICATE, 9, words, 1, &v, &why), BPF_BAD_CALL);
-    WANTS(bpf_load(IMAGE, BPF_LITTLE, CERTIFICATE, 9, NULL, 12, &v, &why), BPF_BAD_CALL);
-    WANTS(bpf_load(IMAGE, BPF_LITTLE, CERTIFICATE, 9, words, SIZE_MAX, &v, &why), BPF_BAD_CALL);
-    WANTS(bpf_load(words, 16, BPF_LITTLE, CERTIFICATE, 9, words, 12, &v, &why), BPF_BAD_CALL);
-    WANTS(bpf_load(IMAGE, BPF_LITTLE, words + 1, 16, 9, words, 12, &v, &why), BPF_BAD_CALL);
+    WANTS(bpf_load(IMAGE, BPF_LITTLE, CERTIFICATE, 9, NULL, 12, &v, &why), BPF_BAD_MEMORY);
+    WANTS(bpf_load(IMAGE, BPF_LITTLE, CERTIFICATE, 9, words, SIZE_MAX, &v, &why), BPF_BAD_MEMORY);
+    WANTS(bpf_load(words, 16, BPF_LITTLE, CERTIFICATE, 9, words, 12, &v, &why), BPF_BAD_MEMORY);
+    WANTS(bpf_load(IMAGE, BPF_LITTLE, words + 1, 16, 9, words, 12, &v, &why), BPF_BAD_MEMORY);
     WANTS(bpf_load(IMAGE, BPF_LITTLE, CERTIFICATE, 9, words, size - 1, &v, &why), BPF_TOO_SMALL);
     WANTS(bpf_load(NO_IMAGE, BPF_LITTLE, NULL, 0, 9, words, size - 1, &v, &why), BPF_TOO_SMALL);
     WANTS(v.least == 7 && why.kind == 7, 1);
@@ -411,10 +444,11 @@ static void bad_loading(void) {
     for (int i = 0; i < 12; i++) WANTS(words[i], 7);
     WANTS(bpf_load(IMAGE, BPF_LITTLE, CERTIFICATE, 2, words, 12, NULL, NULL), BPF_YES);
     for (size_t i = size; i < 12; i++) WANTS(words[i], 7);
-    WANTS(bpf_run_loaded(NULL, 12, NULL, 0, &value), BPF_BAD_CALL);
-    WANTS(bpf_run_loaded(words, size, NULL, 1, &value), BPF_BAD_CALL);
-    WANTS(bpf_run_loaded(words, size, image, 1, &value), BPF_BAD_CALL);
+    WANTS(bpf_run_loaded(NULL, 12, NULL, 0, &value), BPF_BAD_MEMORY);
+    WANTS(bpf_run_loaded(words, size, NULL, 1, &value), BPF_BAD_MEMORY);
+    WANTS(bpf_run_loaded(words, size, image, 1, &value), BPF_BAD_LENGTH);
     WANTS(value, 7);
+    fewer_words(words, size, bpf_run_loaded);
     WANTS(bpf_run_loaded(words, size, NULL, 0, NULL), BPF_YES);
     WANTS(bpf_run_loaded(words, 12, NULL, 0, &value), BPF_YES);
     WANTS(value, 0);
@@ -431,22 +465,22 @@ static void other_versions(void) {
     WANTS(words[1], 2 * BPF_HOST_VERSION + BPF_LITTLE);
     for (uint64_t version = 0; version <= 2 * BPF_HOST_VERSION + 2; version++) {
         words[1] = version;
-        WANTS(bpf_run_checked(words, prepared, NULL, 0, &value), version / 2 == BPF_HOST_VERSION ? BPF_YES : BPF_BAD_CALL);
+        WANTS(bpf_run_checked(words, prepared, NULL, 0, &value), version / 2 == BPF_HOST_VERSION ? BPF_YES : BPF_BAD_WORDS);
     }
     WANTS(value, 0);
     value = 7;
     words[1] = (uint64_t)1 << 32 | 2 * BPF_HOST_VERSION;
-    WANTS(bpf_run_checked(words, prepared, NULL, 0, &value), BPF_BAD_CALL);
+    WANTS(bpf_run_checked(words, prepared, NULL, 0, &value), BPF_BAD_WORDS);
     WANTS(bpf_load(IMAGE, BPF_LITTLE, CERTIFICATE, 9, words, 12, NULL, NULL), BPF_YES);
     words[4] -= 2;
-    WANTS(bpf_run_loaded(words, loaded, NULL, 0, &value), BPF_BAD_CALL);
+    WANTS(bpf_run_loaded(words, loaded, NULL, 0, &value), BPF_BAD_WORDS);
     memset(words, 0, sizeof words);
-    WANTS(bpf_run_checked(words, 12, NULL, 0, &value), BPF_BAD_CALL);
-    WANTS(bpf_run_loaded(words, 12, NULL, 0, &value), BPF_BAD_CALL);
-    WANTS(bpf_run_checked(words, 1, NULL, 0, &value), BPF_BAD_CALL);
-    WANTS(bpf_run_loaded(words, 4, NULL, 0, &value), BPF_BAD_CALL);
-    WANTS(bpf_run_checked(words, 0, NULL, 0, &value), BPF_BAD_CALL);
-    WANTS(bpf_run_loaded(words, 0, NULL, 0, &value), BPF_BAD_CALL);
+    WANTS(bpf_run_checked(words, 12, NULL, 0, &value), BPF_BAD_WORDS);
+    WANTS(bpf_run_loaded(words, 12, NULL, 0, &value), BPF_BAD_WORDS);
+    WANTS(bpf_run_checked(words, 1, NULL, 0, &value), BPF_BAD_WORDS);
+    WANTS(bpf_run_loaded(words, 4, NULL, 0, &value), BPF_BAD_WORDS);
+    WANTS(bpf_run_checked(words, 0, NULL, 0, &value), BPF_BAD_WORDS);
+    WANTS(bpf_run_loaded(words, 0, NULL, 0, &value), BPF_BAD_WORDS);
     WANTS(value, 7);
 }
 
@@ -460,29 +494,29 @@ static void bad_explanations(void) {
         size_t wanted;
         struct bpf_refusal why;
     } both;
-    WANTS(bpf_explain(NULL, 16, BPF_LITTLE, CERTIFICATE, NULL, text, 1024, &wanted, &why), BPF_BAD_CALL);
+    WANTS(bpf_explain(NULL, 16, BPF_LITTLE, CERTIFICATE, NULL, text, 1024, &wanted, &why), BPF_BAD_MEMORY);
     WANTS(bpf_explain(IMAGE, 2, CERTIFICATE, NULL, text, 1024, &wanted, &why), BPF_BAD_CALL);
-    WANTS(bpf_explain(IMAGE, BPF_LITTLE, NULL, 9, NULL, text, 1024, &wanted, &why), BPF_BAD_CALL);
-    WANTS(bpf_explain(IMAGE, BPF_LITTLE, CERTIFICATE, NULL, NULL, 9, &wanted, &why), BPF_BAD_CALL);
+    WANTS(bpf_explain(IMAGE, BPF_LITTLE, NULL, 9, NULL, text, 1024, &wanted, &why), BPF_BAD_MEMORY);
+    WANTS(bpf_explain(IMAGE, BPF_LITTLE, CERTIFICATE, NULL, NULL, 9, &wanted, &why), BPF_BAD_MEMORY);
     WANTS(bpf_explain(IMAGE, BPF_LITTLE, CERTIFICATE, &fourth, text, 1024, &wanted, &why), BPF_BAD_CALL);
     WANTS(bpf_explain(IMAGE, BPF_LITTLE, CERTIFICATE, &no_table, text, 1024, &wanted, &why), BPF_BAD_CALL);
-    WANTS(bpf_explain(IMAGE, BPF_LITTLE, CERTIFICATE, &null, text, 1024, &wanted, &why), BPF_BAD_CALL);
-    WANTS(bpf_explain(text, 16, BPF_LITTLE, CERTIFICATE, NULL, text, 1024, &wanted, &why), BPF_BAD_CALL);
-    WANTS(bpf_explain(IMAGE, BPF_LITTLE, text + 1023, 9, NULL, text, 1024, &wanted, &why), BPF_BAD_CALL);
-    WANTS(bpf_explain(IMAGE, BPF_LITTLE, CERTIFICATE, &(const struct bpf_shown){0, 0, text, 9}, text, 1024, &wanted, &why), BPF_BAD_CALL);
-    WANTS(bpf_explain(IMAGE, BPF_LITTLE, CERTIFICATE, NULL, text, 1024, (void *)text, &why), BPF_BAD_CALL);
-    WANTS(bpf_explain(IMAGE, BPF_LITTLE, CERTIFICATE, NULL, text, 1024, &wanted, (void *)text), BPF_BAD_CALL);
-    WANTS(bpf_explain(IMAGE, BPF_LITTLE, CERTIFICATE, NULL, text, 1024, &both.wanted, &both.why), BPF_BAD_CALL);
+    WANTS(bpf_explain(IMAGE, BPF_LITTLE, CERTIFICATE, &null, text, 1024, &wanted, &why), BPF_BAD_MEMORY);
+    WANTS(bpf_explain(text, 16, BPF_LITTLE, CERTIFICATE, NULL, text, 1024, &wanted, &why), BPF_BAD_MEMORY);
+    WANTS(bpf_explain(IMAGE, BPF_LITTLE, text + 1023, 9, NULL, text, 1024, &wanted, &why), BPF_BAD_MEMORY);
+    WANTS(bpf_explain(IMAGE, BPF_LITTLE, CERTIFICATE, &(const struct bpf_shown){0, 0, text, 9}, text, 1024, &wanted, &why), BPF_BAD_MEMORY);
+    WANTS(bpf_explain(IMAGE, BPF_LITTLE, CERTIFICATE, NULL, text, 1024, (void *)text, &why), BPF_BAD_MEMORY);
+    WANTS(bpf_explain(IMAGE, BPF_LITTLE, CERTIFICATE, NULL, text, 1024, &wanted, (void *)text), BPF_BAD_MEMORY);
+    WANTS(bpf_explain(IMAGE, BPF_LITTLE, CERTIFICATE, NULL, text, 1024, &both.wanted, &both.why), BPF_BAD_MEMORY);
     WANTS(bpf_explain_search(IMAGE, 2, 0, 0, 0, NULL, text, 1024, &wanted, &why), BPF_BAD_CALL);
     WANTS(bpf_explain_search(IMAGE, BPF_LITTLE, 1, 0, 0, NULL, text, 1024, &wanted, &why), BPF_BAD_CALL);
     WANTS(bpf_explain_search(IMAGE, BPF_LITTLE, 0, 4097, 0, NULL, text, 1024, &wanted, &why), BPF_BAD_CALL);
     WANTS(bpf_explain_search(IMAGE, BPF_LITTLE, 0, 0, 2, NULL, text, 1024, &wanted, &why), BPF_BAD_CALL);
     WANTS(bpf_explain_search(IMAGE, BPF_LITTLE, 0, 0, 0, &fourth, text, 1024, &wanted, &why), BPF_BAD_CALL);
-    WANTS(bpf_explain_search(IMAGE, BPF_LITTLE, 0, 0, 0, NULL, text, 1024, (void *)text, &why), BPF_BAD_CALL);
+    WANTS(bpf_explain_search(IMAGE, BPF_LITTLE, 0, 0, 0, NULL, text, 1024, (void *)text, &why), BPF_BAD_MEMORY);
     WANTS(bpf_explain_image(IMAGE, 2, 0, text, 1024, &wanted, &why), BPF_BAD_CALL);
     WANTS(bpf_explain_image(IMAGE, BPF_LITTLE, 2, text, 1024, &wanted, &why), BPF_BAD_CALL);
-    WANTS(bpf_explain_image(text, 16, BPF_LITTLE, 0, text, 1024, &wanted, &why), BPF_BAD_CALL);
-    WANTS(bpf_explain_image(IMAGE, BPF_LITTLE, 0, text, 1024, &both.wanted, &both.why), BPF_BAD_CALL);
+    WANTS(bpf_explain_image(text, 16, BPF_LITTLE, 0, text, 1024, &wanted, &why), BPF_BAD_MEMORY);
+    WANTS(bpf_explain_image(IMAGE, BPF_LITTLE, 0, text, 1024, &both.wanted, &both.why), BPF_BAD_MEMORY);
     WANTS(wanted == 7 && why.kind == 7 && !strcmp(text, "as it was"), 1);
     WANTS(bpf_explain(IMAGE, BPF_LITTLE, CERTIFICATE, NULL, text, 3, &wanted, &why), BPF_TOO_SMALL);
     WANTS(wanted > 7 && wanted < 1024 && why.kind == 7 && !strcmp(text, "as it was"), 1);
@@ -495,17 +529,48 @@ static void bad_explanations(void) {
     WANTS(bpf_explain_search(IMAGE, BPF_LITTLE, 0, 0, 1, NULL, text, 1024, NULL, NULL), BPF_YES);
 }
 
+static void bad_following(void) {
+    const struct bpf_following asked = {0, 0, 0, 0}, two = {0, 2, 0, 0}, large = {4097, 0, 0, 0}, more = {0, 0, 0, 513};
+    struct bpf_refusal why = {7, 7, 7, 7};
+    WANTS(bpf_follows(NULL, 16, IMAGE, BPF_LITTLE, CERTIFICATE, &asked, &why), BPF_BAD_MEMORY);
+    WANTS(bpf_follows(IMAGE, NULL, 16, BPF_LITTLE, CERTIFICATE, &asked, &why), BPF_BAD_MEMORY);
+    WANTS(bpf_follows(IMAGE, IMAGE, BPF_LITTLE, NULL, 9, &asked, &why), BPF_BAD_MEMORY);
+    WANTS(bpf_follows(IMAGE, IMAGE, BPF_LITTLE, CERTIFICATE, NULL, &why), BPF_BAD_MEMORY);
+    WANTS(bpf_follows(IMAGE, IMAGE, BPF_LITTLE, CERTIFICATE, &asked, (void *)&asked), BPF_BAD_MEMORY);
+    WANTS(bpf_follows(IMAGE, IMAGE, 2, CERTIFICATE, &asked, &why), BPF_BAD_CALL);
+    WANTS(bpf_follows(IMAGE, IMAGE, BPF_LITTLE, CERTIFICATE, &two, &why), BPF_BAD_CALL);
+    WANTS(bpf_follows(IMAGE, IMAGE, BPF_LITTLE, CERTIFICATE, &large, &why), BPF_BAD_CALL);
+    WANTS(bpf_follows(IMAGE, IMAGE, BPF_LITTLE, CERTIFICATE, &more, &why), BPF_BAD_CALL);
+    WANTS(why.kind, 7);
+    WANTS(bpf_follows(IMAGE, IMAGE, BPF_LITTLE, CERTIFICATE, &asked, NULL), BPF_NO);
+    WANTS(bpf_follows(IMAGE, IMAGE, BPF_LITTLE, CERTIFICATE, &asked, &why), BPF_NO);
+    WANTS(why.kind == BPF_NOTES && why.number == 1 && why.place == 1 && !why.condition, 1);
+    WANTS(bpf_follows(IMAGE, NO_IMAGE, BPF_LITTLE, CERTIFICATE, &asked, &why), BPF_NO);
+    WANTS(why.kind == BPF_IMAGE && why.condition == 1, 1);
+}
+
+static void sizes(void) {
+    WANTS(bpf_infer_size(0), 64);
+    WANTS(bpf_infer_size(16), 64 + 2 * 320 + 2 * 74 * 136);
+    WANTS(bpf_infer_size(BPF_IMAGE_MOST), 64 + 65536 * 320 + (1 << 20) * 136);
+    WANTS(bpf_infer_size(SIZE_MAX) == bpf_infer_size(BPF_IMAGE_MOST), 1);
+    WANTS(bpf_explain_size(0, 0, 0), 100000);
+    WANTS(bpf_explain_size(24, 5, 7), 100000 + 3 * 8192 + 4 * 12);
+    WANTS(bpf_explain_size(0, SIZE_MAX / 4, 0) == SIZE_MAX, 1);
+    WANTS(bpf_explain_size(SIZE_MAX, SIZE_MAX, SIZE_MAX) == SIZE_MAX, 1);
+}
+
 static void bad_proposals(void) {
     char text[256] = "as it was";
     size_t wanted = 7;
     struct bpf_refusal why = {7, 7, 7, 7};
-    WANTS(bpf_infer(NULL, 16, BPF_LITTLE, 0, 0, 0, text, 256, &wanted, &why), BPF_BAD_CALL);
+    WANTS(bpf_infer(NULL, 16, BPF_LITTLE, 0, 0, 0, text, 256, &wanted, &why), BPF_BAD_MEMORY);
     WANTS(bpf_infer(IMAGE, 2, 0, 0, 0, text, 256, &wanted, &why), BPF_BAD_CALL);
     WANTS(bpf_infer(IMAGE, BPF_LITTLE, 1, 0, 0, text, 256, &wanted, &why), BPF_BAD_CALL);
     WANTS(bpf_infer(IMAGE, BPF_LITTLE, 0, 4097, 0, text, 256, &wanted, &why), BPF_BAD_CALL);
     WANTS(bpf_infer(IMAGE, BPF_LITTLE, 0, 0, 2, text, 256, &wanted, &why), BPF_BAD_CALL);
-    WANTS(bpf_infer(IMAGE, BPF_LITTLE, 0, 0, 0, NULL, 256, &wanted, &why), BPF_BAD_CALL);
-    WANTS(bpf_infer(text, 16, BPF_LITTLE, 0, 0, 0, text, 256, &wanted, &why), BPF_BAD_CALL);
+    WANTS(bpf_infer(IMAGE, BPF_LITTLE, 0, 0, 0, NULL, 256, &wanted, &why), BPF_BAD_MEMORY);
+    WANTS(bpf_infer(text, 16, BPF_LITTLE, 0, 0, 0, text, 256, &wanted, &why), BPF_BAD_MEMORY);
     WANTS(wanted == 7 && why.kind == 7 && !strcmp(text, "as it was"), 1);
     WANTS(bpf_infer(IMAGE, BPF_LITTLE, 0, 0, 0, text, 3, &wanted, &why), BPF_TOO_SMALL);
     WANTS(wanted > 7 && wanted < 256 && !strcmp(text, "as it was"), 1);
@@ -523,25 +588,25 @@ static void bad_answers(void) {
     memset(own, 7, all.len), memcpy(own, image, 16), memcpy(proof, kept, proof_len), memcpy(before.at, own, all.len);
 #define OWN own, 16, BPF_LITTLE
 #define PROOF proof, proof_len
-    WANTS(bpf_verify(OWN, PROOF, (void *)(own + 12), NULL), BPF_BAD_CALL);
-    WANTS(bpf_verify(OWN, PROOF, (void *)(proof - 8), NULL), BPF_BAD_CALL);
-    WANTS(bpf_verify(OWN, PROOF, NULL, (void *)own), BPF_BAD_CALL);
-    WANTS(bpf_verify(OWN, PROOF, NULL, (void *)(proof + 32)), BPF_BAD_CALL);
-    WANTS(bpf_load(OWN, PROOF, 9, (void *)room, words_len, (void *)(own + 4), NULL), BPF_BAD_CALL);
-    WANTS(bpf_load(OWN, PROOF, 9, (void *)room, words_len, NULL, (void *)(proof - 16)), BPF_BAD_CALL);
-    WANTS(bpf_load(OWN, PROOF, 9, (void *)room, words_len, (void *)(room + 8 * words_len - 4), NULL), BPF_BAD_CALL);
-    WANTS(bpf_load(OWN, PROOF, 9, (void *)room, words_len, NULL, (void *)(room + 8 * words_len - 8)), BPF_BAD_CALL);
-    WANTS(bpf_load(OWN, PROOF, 9, (void *)room, 1, NULL, (void *)room), BPF_BAD_CALL);
-    WANTS(bpf_run(OWN, PROOF, 9, (void *)(own + 8)), BPF_BAD_CALL);
-    WANTS(bpf_run(OWN, PROOF, 9, (void *)proof), BPF_BAD_CALL);
-    WANTS(bpf_infer(OWN, 0, 0, 0, (char *)room, 64, (void *)own, NULL), BPF_BAD_CALL);
-    WANTS(bpf_infer(OWN, 0, 0, 0, (char *)room, 64, (void *)(room + 56), NULL), BPF_BAD_CALL);
-    WANTS(bpf_infer(OWN, 0, 0, 0, (char *)room, 64, NULL, (void *)(own + 8)), BPF_BAD_CALL);
-    WANTS(bpf_infer(OWN, 0, 0, 0, (char *)room, 64, NULL, (void *)(room - 16)), BPF_BAD_CALL);
-    WANTS(bpf_harden(OWN, 0, NULL, room, 16, (void *)own, NULL), BPF_BAD_CALL);
-    WANTS(bpf_harden(OWN, 0, NULL, room, 16, (void *)(room + 8), NULL), BPF_BAD_CALL);
-    WANTS(bpf_harden(OWN, 0, NULL, room, 16, NULL, (void *)own), BPF_BAD_CALL);
-    WANTS(bpf_harden(OWN, 0, NULL, room, 16, NULL, (void *)(room - 16)), BPF_BAD_CALL);
+    WANTS(bpf_verify(OWN, PROOF, (void *)(own + 12), NULL), BPF_BAD_MEMORY);
+    WANTS(bpf_verify(OWN, PROOF, (void *)(proof - 8), NULL), BPF_BAD_MEMORY);
+    WANTS(bpf_verify(OWN, PROOF, NULL, (void *)own), BPF_BAD_MEMORY);
+    WANTS(bpf_verify(OWN, PROOF, NULL, (void *)(proof + 32)), BPF_BAD_MEMORY);
+    WANTS(bpf_load(OWN, PROOF, 9, (void *)room, words_len, (void *)(own + 4), NULL), BPF_BAD_MEMORY);
+    WANTS(bpf_load(OWN, PROOF, 9, (void *)room, words_len, NULL, (void *)(proof - 16)), BPF_BAD_MEMORY);
+    WANTS(bpf_load(OWN, PROOF, 9, (void *)room, words_len, (void *)(room + 8 * words_len - 4), NULL), BPF_BAD_MEMORY);
+    WANTS(bpf_load(OWN, PROOF, 9, (void *)room, words_len, NULL, (void *)(room + 8 * words_len - 8)), BPF_BAD_MEMORY);
+    WANTS(bpf_load(OWN, PROOF, 9, (void *)room, 1, NULL, (void *)room), BPF_BAD_MEMORY);
+    WANTS(bpf_run(OWN, PROOF, 9, (void *)(own + 8)), BPF_BAD_MEMORY);
+    WANTS(bpf_run(OWN, PROOF, 9, (void *)proof), BPF_BAD_MEMORY);
+    WANTS(bpf_infer(OWN, 0, 0, 0, (char *)room, 64, (void *)own, NULL), BPF_BAD_MEMORY);
+    WANTS(bpf_infer(OWN, 0, 0, 0, (char *)room, 64, (void *)(room + 56), NULL), BPF_BAD_MEMORY);
+    WANTS(bpf_infer(OWN, 0, 0, 0, (char *)room, 64, NULL, (void *)(own + 8)), BPF_BAD_MEMORY);
+    WANTS(bpf_infer(OWN, 0, 0, 0, (char *)room, 64, NULL, (void *)(room - 16)), BPF_BAD_MEMORY);
+    WANTS(bpf_harden(OWN, 0, NULL, room, 16, (void *)own, NULL), BPF_BAD_MEMORY);
+    WANTS(bpf_harden(OWN, 0, NULL, room, 16, (void *)(room + 8), NULL), BPF_BAD_MEMORY);
+    WANTS(bpf_harden(OWN, 0, NULL, room, 16, NULL, (void *)own), BPF_BAD_MEMORY);
+    WANTS(bpf_harden(OWN, 0, NULL, room, 16, NULL, (void *)(room - 16)), BPF_BAD_MEMORY);
     WANTS(memcmp(own, before.at, all.len), 0);
     /* Behind all that is written there is room for them. */
     WANTS(bpf_harden(OWN, 0, NULL, room, 16, (void *)(room + 16), NULL), BPF_YES);
@@ -552,9 +617,9 @@ static void bad_answers(void) {
 }
 
 static void bad_texts(void) {
-    static const struct { char kind; uint32_t count; } kinds[] = {{'C', 13}, {'E', 10}, {'F', 9}, {'H', 12}, {'I', 5}, {'K', 5}};
+    static const struct { char kind; uint32_t count; } kinds[] = {{'C', 13}, {'E', 10}, {'F', 9}, {'H', 13}, {'I', 5}, {'K', 5}, {'M', 7}, {'N', 2}};
     char text[128] = "as it was";
-    for (int i = 0; i < 6; i++) {
+    for (int i = 0; i < 8; i++) {
         WANTS(bpf_refusal_text((uint32_t)kinds[i].kind, 0, text, sizeof text), 0);
         for (uint32_t n = 1; n <= kinds[i].count; n++) {
             size_t len = bpf_refusal_text((uint32_t)kinds[i].kind, n, text, sizeof text);
@@ -562,6 +627,18 @@ static void bad_texts(void) {
         }
         WANTS(bpf_refusal_text((uint32_t)kinds[i].kind, kinds[i].count + 1, text, sizeof text), 0);
     }
+    for (int32_t answer = BPF_BAD_MEMORY; answer <= BPF_NO_MEMORY; answer++) {
+        char all[256];
+        size_t len = bpf_answer_text(answer, all, sizeof all);
+        WANTS(len > 8 && len < sizeof all && strlen(all) == len, 1);
+    }
+    WANTS(bpf_answer_text(BPF_NO, text, sizeof text), 0);
+    WANTS(bpf_answer_text(BPF_YES, text, sizeof text), 0);
+    WANTS(bpf_answer_text(BPF_BAD_MEMORY - 1, text, sizeof text), 0);
+    WANTS(bpf_answer_text(INT32_MIN, text, sizeof text), 0);
+    WANTS(bpf_answer_text(BPF_NO_MEMORY, NULL, 0), 13);
+    WANTS(bpf_answer_text(BPF_NO_MEMORY, text, 4), 13);
+    WANTS(strcmp(text, "out"), 0);
     WANTS(bpf_refusal_text('D', 1, text, sizeof text), 0);
     WANTS(bpf_refusal_text('K', 4, NULL, 0), 13);
     WANTS(bpf_refusal_text('K', 4, NULL, 5), 0);
@@ -576,6 +653,8 @@ static int bad(void) {
     bad_loading();
     other_versions();
     bad_explanations();
+    bad_following();
+    sizes();
     bad_proposals();
     bad_answers();
     bad_texts();

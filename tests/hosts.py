@@ -136,6 +136,10 @@ class Table:
     def run_checked(self, order, image, certificate, context):
         self.add(bpf('run-checked', *big(order), image, certificate, context), 'run-checked', order, image, certificate, context)
 
+    def follows(self, order, old, new, notes, size, padded=0, turns=65536, untouched=0):
+        words = [*(['--padded'] if padded else []), '--turns', turns, '--untouched', untouched]
+        self.add(bpf('follows', *big(order), old, new, notes, size, *words), 'follows', order, old, new, notes, size, padded, turns, untouched)
+
     def alone(self, image, certificate, context):
         self.add(bpf('run-checked', image, certificate, context), 'alone', 'little', image, len(context) // 2, context)
 
@@ -172,6 +176,28 @@ class Table:
         for here, words in self.words.items():
             assert words and here.read_bytes() == words, (here, self.lines[int(here.stem)])
         return len(got)
+
+
+def fill_follows(table, images):
+    """Pairs of images with notes: what harden made, with its own notes and with others, and what is none."""
+    none = made('none.notes', b'no notes\n')
+    for name in ['every', 'order', *(path.stem for path in EXAMPLES.glob('*.asm'))]:
+        for order in ['little', 'big']:
+            old = images[f'{name}.text'][order]
+            for padded in [0, 1]:
+                new, notes = FOLDER / f'{name}.{order}.{padded}.new', FOLDER / f'{name}.{order}.{padded}.notes'
+                words = ['--padded'] if padded else []
+                if bpf('harden', *big(order), '--unproved', *words, old, 16, new, '--notes', notes)[0]:
+                    continue
+                for size in [15, 16]:
+                    for turns in [1, 65536]:
+                        for untouched in [0, 512]:
+                            table.follows(order, old, new, notes, size, padded=padded, turns=turns, untouched=untouched)
+                table.follows(order, old, old, notes, 16, padded=padded)
+                table.follows(order, old, new, none, 16, padded=padded)
+    for name in NO_IMAGES:
+        table.follows('little', images[name]['little'], images['order.text']['little'], none, 16)
+        table.follows('little', images['order.text']['little'], images[name]['little'], none, 16)
 
 
 def fill(table):
@@ -222,6 +248,7 @@ def fill(table):
             table.explain('little', path, **keys, lines=lines)
             table.explain('little', path, **keys, slot=9, lines=lines)
             table.explain('little', path, **keys, graph=True)
+    fill_follows(table, images)
     for filter_of in [made_for.port, made_for.dns, made_for.checksum, made_for.histogram, made_for.rate, made_for.http]:
         path = EXAMPLES / f'c/{filter_of.__name__}.img'
         for context, _ in filter_of(random.Random(1)):
@@ -276,7 +303,7 @@ def texts_by_number(crate, file='error.rt'):
 def texts():
     """What hosts are told of a refusal is what the crates' errors say, I4 and H7 apart from the condition that they name."""
     done = subprocess.run([HOSTS, 'texts'], capture_output=True, text=True, timeout=60, check=True)
-    told = {'C': [], 'E': [], 'F': [], 'H': [], 'I': [], 'K': []}
+    told = {'C': [], 'E': [], 'F': [], 'H': [], 'I': [], 'K': [], 'M': [], 'N': []}
     for line in done.stdout.splitlines():
         number, _, text = line.partition(' ')
         told[number[0]].append(text)
@@ -285,12 +312,14 @@ def texts():
         'C': texts_by_number('bpf_state', 'condition.rt'),
         'E': texts_by_number('bpf_insn', 'refusal.rt'),
         'F': texts_by_number('bpf_semantics', 'reason.rt'),
-        'H': texts_by_number('bpf_harden_notes'),
+        'H': [*texts_by_number('bpf_harden_notes'), "the hardened program isn't shown to keep the meaning"],
         'I': texts_by_number('bpf_infer_error'),
         'K': texts_by_number('bpf_cert'),
+        'M': told['M'],
+        'N': told['N'],
     }
     assert told == want, (told, want)
-    assert [len(it) for it in told.values()] == [13, 10, 9, 12, 5, 5], told
+    assert [len(it) for it in told.values()] == [13, 10, 9, 13, 5, 5, 7, 2], told
 
 
 def told(words, limit=None, **env):

@@ -33,22 +33,31 @@ plain=("${CC:-cc}" -std=gnu11 -g -O1 -Wall -Wextra -Wpedantic -Werror)
 "${plain[@]}" -fno-builtin -shared -fPIC "$root/tests/allocator.c" -o "$dir/allocator.so"
 "${plain[@]}" "$root/tests/memory.c" -o "$dir/memory" $flags
 "${plain[@]}" "$root/tests/memory.c" "$dir/allocator.o" -o "$dir/memory_own" $flags
-# What the library hardens is what the command hardens with --unproved, and so is its certificate.
+# What the library hardens is what the command hardens, with --unproved too, and so is its certificate; what it refuses, the command refuses.
 "${build[@]}" -std=c11 "$root/tests/hardened.c" -o "$dir/hardened" $flags
 "$dir/hardened" bad
 hardens() {
-    local image=$1 size=$2 padded=$3 words=()
-    ((padded == 0)) || words=(--padded)
-    "$dir/hardened" "$image" little "$size" "$padded" "$dir/new.img" "$dir/new.cert" >"$dir/said"
-    "$dir/bin/bpf" harden --unproved "${words[@]}" "$image" "$size" "$dir/their.img"
+    local image=$1 size=$2 padded=$3 unproved=$4 words=()
+    ((padded == 0)) || words+=(--padded)
+    ((unproved == 0)) || words+=(--unproved)
+    "$dir/hardened" "$image" little "$size" "$padded" "$unproved" 0 "$dir/new.img" "$dir/new.cert" >"$dir/said"
+    "$dir/bin/bpf" harden "${words[@]}" "$image" "$size" "$dir/their.img"
     "$dir/bin/bpf" infer --deep "$dir/their.img" "$size" "$dir/their.cert"
     cmp "$dir/new.img" "$dir/their.img" && cmp "$dir/new.cert" "$dir/their.cert"
     [[ $("$dir/bin/bpf" check "$dir/new.img" "$dir/new.cert") == "yes length $size $(cat "$dir/said")" ]]
 }
 "$dir/bin/bpf" asm "$root/examples/checksum.asm" "$dir/checksum.img"
-hardens "$dir/checksum.img" 15 0
-hardens "$root/examples/first-byte.img" 64 0
-hardens "$root/examples/first-byte.img" 64 1
+for unproved in 0 1; do
+    hardens "$dir/checksum.img" 15 0 "$unproved"
+    hardens "$root/examples/first-byte.img" 64 0 "$unproved"
+    hardens "$root/examples/first-byte.img" 64 1 "$unproved"
+done
+# Pointers that are put in order: nobody shows that the meaning is kept.
+printf 'r0 = 0\nr2 = r1\nr2 += 4\nif r2 > r1 goto +1\nexit\nr0 = 1\nexit\n' >"$dir/ordered.asm"
+"$dir/bin/bpf" asm "$dir/ordered.asm" "$dir/ordered.img"
+! said=$("$dir/hardened" "$dir/ordered.img" little 16 0 0 0 "$dir/new.img" "$dir/new.cert")
+[[ $said == $("$dir/bin/bpf" harden "$dir/ordered.img" 16 "$dir/their.img") && $said == "no H13 at slot 3" ]]
+hardens "$dir/ordered.img" 16 0 1
 pairs=()
 for image in "$root"/examples/c/*.img; do
     pairs+=("$image" "${image%.img}.cert")

@@ -20,6 +20,7 @@ OLD = b'what stood here before\n'
 TRIES = 100
 # the longest name that Linux takes, in bytes
 LONGEST = 255
+FULL = 'No space left'
 CASES = []
 
 
@@ -56,8 +57,10 @@ def require_made(out, what=''):
     require(f'asm a.asm {out} {what}', asm(out), (0, b'', b''))
 
 
-def require_refused(out, what='', **how):
-    require(f'asm a.asm {out} {what}', asm(out, **how), (3, b'', b'cannot write ' + os.fsencode(out) + b'\n'))
+def require_refused(out, what='', why='', **how):
+    """OUT can't be written, for this reason of the system, where it is one that is told."""
+    reason = f': {why}'.encode() if why else b''
+    require(f'asm a.asm {out} {what}', asm(out, **how), (3, b'', b'cannot write ' + os.fsencode(out) + reason + b'\n'))
 
 
 def write(name, data=OLD, mode=None):
@@ -120,10 +123,10 @@ def other_names_keep_the_older_file():
 
 @case
 def full_disks():
-    require_refused('out', 'on a full disk', preexec_fn=limited(8, killed=False))
+    require_refused('out', 'on a full disk', FULL, preexec_fn=limited(8, killed=False))
     require('what is left of a new file', names(), [])
     write('out')
-    require_refused('out', 'on a full disk', preexec_fn=limited(8, killed=False))
+    require_refused('out', 'on a full disk', FULL, preexec_fn=limited(8, killed=False))
     require('what stood there', (names(), read('out')), (['out'], OLD))
 
 
@@ -131,8 +134,10 @@ def full_disks():
 def what_cant_be_made():
     os.mkdir('folder')
     write('file')
-    for out in ('folder', 'folder/', 'nowhere/out', 'file/out', 'new/', '', 'x' * (LONGEST + 1)):
-        require_refused(out)
+    absent, folder, no_folder = 'No such file or directory', 'Is a directory', 'Not a directory'
+    for out, why in (('folder', folder), ('folder/', folder), ('nowhere/out', absent), ('file/out', no_folder), ('new/', absent), ('', absent),
+                     ('x' * (LONGEST + 1), 'File name too long')):
+        require_refused(out, why=why)
     require('what is left', (names(), names('folder'), read('file')), (['file', 'folder'], [], OLD))
 
 
@@ -176,7 +181,7 @@ def links_lead_to_files():
 def links_on_full_disks():
     link_folders()
     for out in ('links/near', 'links/chain', 'links/far', 'links/dangling'):
-        require_refused(out, 'on a full disk', preexec_fn=limited(8, killed=False))
+        require_refused(out, 'on a full disk', FULL, preexec_fn=limited(8, killed=False))
     require('what is left', (names('files'), read('files/real')), (['links', 'real'], OLD))
     require('links', [os.path.islink(f'links/{name}') for name in names('links')], [True] * 4)
 
@@ -188,8 +193,8 @@ def links_that_lead_nowhere():
     # (what the link leads to has a name that can't be said in UTF-8)
     write(b'b\xffd')
     os.symlink(b'b\xffd', 'latin')
-    for out in ('round', 'lost', 'latin'):
-        require_refused(out)
+    for out, why in (('round', 'Too many levels of symbolic links'), ('lost', 'No such file or directory'), ('latin', '')):
+        require_refused(out, why=why)
     require('what stood there', read(b'b\xffd'), OLD)
 
 
@@ -209,18 +214,72 @@ def require_made_through(out, number):
     require(f'asm a.asm {out}', asm(out, pass_fds=[number]), (0, b'', b''))
 
 
+# ---- names that lead to one file
+
+def harden(*words):
+    """The answer of `bpf harden` of the image in `i.img`: the status, and whether the image is as it was."""
+    write('i.img', IMAGE)
+    done = subprocess.run([BPF, 'harden', 'i.img', '0', *words], capture_output=True, timeout=60, check=False)
+    return done.returncode, done.stderr, read('i.img') == IMAGE
+
+
+@case
+def names_that_lead_to_one_file():
+    """OUT, --notes and --changes have files of their own, and the notes and the changes don't come in the place of the image."""
+    os.mkdir('folder')
+    os.mkdir('other')
+    os.symlink('folder', 'door')
+    os.symlink('folder/o', 'near')
+    os.symlink('../folder/o', 'other/far')
+    os.symlink('i.img', 'image')
+    here = os.getcwd()
+    refused = (2, b"words that don't go together\n", True)
+    for one, other in (('o', './o'), ('o', f'{here}/o'), ('folder/o', 'door/o'), ('folder/o', 'near'), ('near', 'other/far'), ('o', 'folder/../o')):
+        require(f'OUT {one}, notes {other}', harden(one, '--notes', other), refused)
+        require(f'OUT {one}, changes {other}', harden(one, '--changes', other), refused)
+        require(f'notes {one}, changes {other}', harden('p', '--notes', one, '--changes', other), refused)
+    for name in ('i.img', './i.img', 'image', f'{here}/i.img', 'folder/../i.img'):
+        require(f'notes {name}', harden('p', '--notes', name), refused)
+        require(f'changes {name}', harden('p', '--changes', name), refused)
+    require('what is left', (names(), names('folder'), names('other')), (['door', 'folder', 'i.img', 'image', 'near', 'other'], [], ['far']))
+    # Files of their own, the image in its own place, and devices, of which nothing is lost.
+    for words in (('folder/o', '--notes', 'other/o', '--changes', 'o'), ('i.img',), ('/dev/null', '--notes', '/dev//null')):
+        require(' '.join(words), harden(*words), (0, b'', True))
+
+
+@case
+def hard_links_are_files_of_their_own():
+    write('i.img', IMAGE)
+    os.link('i.img', 'second')
+    require('notes at another name of the image', harden('o', '--notes', 'second'), (0, b'', True))
+
+
 # ---- devices and pipes
+
+@case
+def closed_pipes():
+    """Whoever reads goes: nothing is told of it, and the status is the one of a tool that the signal ends."""
+    write('long.asm', b'r0 = 0\n' * 20_000 + b'exit\n')
+    require('a long image', subprocess.run([BPF, 'asm', 'long.asm', 'long.img'], capture_output=True, timeout=60, check=False).returncode, 0)
+    write('contexts', b'none\n' * 20_000)
+    write('i.img', IMAGE)
+    for words in (['list', 'long.img'], ['run', 'i.img', '--contexts', 'contexts', '--steps', '9'], ['asm', 'long.asm', '-']):
+        with subprocess.Popen([BPF, *words], stdout=subprocess.PIPE, stderr=subprocess.PIPE) as run:
+            run.stdout.read(1)
+            run.stdout.close()
+            require(f'{words} behind a closed pipe', (run.stderr.read(), run.wait(60)), (b'', 141))
+
 
 @case
 def devices_and_pipes():
     require('asm a.asm -', asm('-'), (0, IMAGE, b''))
     require('asm a.asm /dev/stdout', asm('/dev/stdout'), (0, IMAGE, b''))
     require_made('/dev/null')
-    require_refused('/dev/full')
+    require_refused('/dev/full', why=FULL)
     os.symlink('/dev/null', 'null')
     os.symlink('/dev/full', 'full')
     require_made('null')
-    require_refused('full')
+    require_refused('full', why=FULL)
     os.mkfifo('pipe')
     os.symlink('pipe', 'link')
     for out in ('pipe', 'link'):
@@ -280,7 +339,7 @@ def long_names():
             write(name, mode=0o600)
             require_made(name)
             require(f'a name of {length} bytes', (read(name), mode_of(name)), (IMAGE, 0o600))
-            require_refused(name, 'on a full disk', preexec_fn=limited(8, killed=False))
+            require_refused(name, 'on a full disk', FULL, preexec_fn=limited(8, killed=False))
             os.unlink(name)
     # 85 letters of three bytes, and one that ends behind where the longer names do
     for name in ('\u20ac' * 85, 'n' * 3 + '\u20ac' * 84):
@@ -313,8 +372,8 @@ CONTROLS_TOLD = 'a\\x1b[1m\\x0ab\\x09c\\x7fd\\xc2\\x9be\u00e9'
 def control_characters_in_names():
     name, told = CONTROLS, CONTROLS_TOLD
     done = subprocess.run([BPF, 'list', name], capture_output=True, timeout=60, check=False)
-    require('list of a name with control characters', (done.returncode, done.stdout, done.stderr), (3, b'', f'cannot read {told}\n'.encode()))
-    require('asm onto such a name', asm('no/' + name), (3, b'', f'cannot write no/{told}\n'.encode()))
+    require('list of a name with control characters', (done.returncode, done.stdout, done.stderr), (3, b'', f'cannot read {told}: No such file or directory\n'.encode()))
+    require('asm onto such a name', asm('no/' + name), (3, b'', f'cannot write no/{told}: No such file or directory\n'.encode()))
 
 
 @case

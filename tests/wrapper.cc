@@ -51,6 +51,24 @@ int main(int, char **argv) {
     want(refuses(image, {}, 1000, "refused by K1 at line 1: "), "no certificate");
     want(refuses({0, 0, 0, 0, 0, 0, 0, 0}, certificate, 1000, "refused by E2 at slot 0: "), "no image");
     want(bpf::explain(image, {}, BPF_LITTLE).compare(0, 15, "K1 at line 1: t") == 0, "why no certificate is none");
+    const bpf::Bytes proposed = bpf::infer(image, BPF_LITTLE, 128, 128), hardened = bpf::harden(image, BPF_LITTLE, 128);
+    want(bpf::Filter(image, proposed, BPF_LITTLE, 1000).run(block.data(), block.size()) == 0, "a certificate that is proposed");
+    want(hardened == image, "what needs no hardening");
+    const bpf_hardening two = {0, 2, 0, 0, 0};
+    thrown = false;
+    try {
+        bpf::harden(image, BPF_LITTLE, 128, &two);
+    } catch (const std::invalid_argument &why) {
+        thrown = std::string(why.what()).find("switch") != std::string::npos;
+    }
+    want(thrown, "a switch of 2");
+    thrown = false;
+    try {
+        bpf::infer(image, BPF_LITTLE, 0, 0);
+    } catch (const bpf::Refused &why) {
+        thrown = std::string(why.what()).compare(0, 13, "refused by I4") == 0;
+    }
+    want(thrown, "no certificate for no bytes");
     const std::string known = bpf::explain(image, certificate, BPF_LITTLE);
     want(known.find("\naccepted: at most ") != std::string::npos && known.back() == '\n', "what is known");
     return 0;

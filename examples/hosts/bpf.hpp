@@ -5,6 +5,7 @@
 #include <bpf.h>
 #include <cstddef>
 #include <cstdint>
+#include <memory>
 #include <new>
 #include <stdexcept>
 #include <string>
@@ -12,15 +13,34 @@
 
 namespace bpf {
 
-/* Why an image isn't loaded: refused, or a bound above what the host pays for. */
+using Bytes = std::vector<std::uint8_t>;
+
+/* Why nothing is loaded, proposed or hardened: the image is refused, or a bound is above what the host pays for. */
 class Refused : public std::runtime_error {
 public:
     explicit Refused(const std::string &why) : std::runtime_error(why) {}
 };
 
-/* Throws std::logic_error where the library is of another version than its header. */
-inline void check_version() {
-    if (bpf_version() != BPF_HOST_VERSION) throw std::logic_error("libbpf_host.a is of another version than bpf.h");
+/* What an answer below 0 says. */
+inline std::string answer_text(std::int32_t answer) {
+    char text[256];
+    return std::string(text, bpf_answer_text(answer, text, sizeof text));
+}
+
+/* Why something is refused: by what, where, and in words. */
+inline std::string refusal_text(const bpf_refusal &why) {
+    char text[128];
+    bpf_refusal_text(why.kind, why.number, text, sizeof text);
+    return std::string("refused by ") + static_cast<char>(why.kind) + std::to_string(why.number) +
+           (why.kind == BPF_CERTIFICATE ? " at line " : " at slot ") + std::to_string(why.place) + ": " + text;
+}
+
+/* Throws what an answer other than BPF_YES says: Refused, std::bad_alloc, or std::invalid_argument. */
+inline void expect_yes(std::int32_t answer, const bpf_refusal &why) {
+    if (answer == BPF_YES) return;
+    if (answer == BPF_NO) throw Refused(refusal_text(why));
+    if (answer == BPF_NO_MEMORY) throw std::bad_alloc();
+    throw std::invalid_argument(answer_text(answer));
 }
 
 /* A filter that was judged: what is promised of it, and its program, ready to run. Nothing changes its words, so threads may share it. */
@@ -30,20 +50,17 @@ public:
      * std::invalid_argument for an order that is none, std::logic_error where the library is of another version than its header, and
      * std::bad_alloc.
      */
-    Filter(const std::vector<std::uint8_t> &image, const std::vector<std::uint8_t> &certificate, bpf_order order, std::uint32_t greatest) {
-        check_version();
+    Filter(const Bytes &image, const Bytes &certificate, bpf_order order, std::uint32_t greatest) {
         bpf_refusal why;
-        std::size_t size = bpf_loaded_size(image.size());
-        words_.resize(size + 1); /* some, also where no image has that length */
-        switch (bpf_load(image.data(), image.size(), order, certificate.data(), certificate.size(), greatest, words_.data(), size, &verdict_, &why)) {
-        case BPF_YES: break;
-        case BPF_NO: throw Refused(words_of(why));
-        case BPF_TOO_LONG:
+        std::int32_t answer;
+        if (bpf_version() != BPF_HOST_VERSION) throw std::logic_error("libbpf_host.a is of another version than bpf.h");
+        size_ = bpf_loaded_size(image.size());
+        words_.resize(size_ + 1); /* some, also where no image has that length */
+        answer = bpf_load(image.data(), image.size(), order, certificate.data(), certificate.size(), greatest, words_.data(), size_, &verdict_, &why);
+        if (answer == BPF_TOO_LONG)
             throw Refused("a run may take " + std::to_string(verdict_.bound) + " instructions, and this host pays for " +
                           std::to_string(greatest) + " at most");
-        case BPF_BAD_CALL: throw std::invalid_argument("no byte order");
-        default: throw std::bad_alloc();
-        }
+        expect_yes(answer, why);
     }
 
     /* What is promised of the filter. */
@@ -52,37 +69,55 @@ public:
     /* What the filter says of a context. Throws std::length_error if its length isn't one of the verdict's. */
     std::uint64_t run(const std::uint8_t *context, std::size_t len) const {
         std::uint64_t result = 0;
-        if (bpf_run_loaded(words_.data(), words_.size(), context, len, &result) != BPF_YES)
-            throw std::length_error("a context of another length than was judged");
+        std::int32_t answer = bpf_run_loaded(words_.data(), size_, context, len, &result);
+        if (answer == BPF_BAD_LENGTH) throw std::length_error("a context of another length than was judged");
+        if (answer != BPF_YES) throw std::invalid_argument(answer_text(answer));
         return result;
     }
 
 private:
-    static std::string words_of(const bpf_refusal &why) {
-        char text[128];
-        bpf_refusal_text(why.kind, why.number, text, sizeof text);
-        return std::string("refused by ") + static_cast<char>(why.kind) + std::to_string(why.number) +
-               (why.kind == BPF_CERTIFICATE ? " at line " : " at slot ") + std::to_string(why.place) + ": " + text;
-    }
-
     bpf_verdict verdict_;
+    std::size_t size_;
     std::vector<std::uint64_t> words_;
 };
 
-/* What is known of an image under a certificate, or why one of the two is refused: the words of `bpf explain`. Throws std::bad_alloc, and
- * std::logic_error where the library is of another version than its header. */
-inline std::string explain(const std::vector<std::uint8_t> &image, const std::vector<std::uint8_t> &certificate, bpf_order order) {
-    std::string text;
-    check_version();
-    for (;;) {
-        std::size_t wanted = 0;
-        switch (bpf_explain(image.data(), image.size(), order, certificate.data(), certificate.size(), nullptr, &text[0], text.size(), &wanted, nullptr)) {
-        case BPF_YES:
-        case BPF_NO: return text;
-        case BPF_TOO_SMALL: text.resize(wanted); break;
-        default: throw std::bad_alloc();
-        }
-    }
+/* What a call writes into room for so many bytes: `call` is given the room and where to tell how many it takes, and answers as the library
+ * does. Room that isn't written isn't filled either, so much of it costs little. */
+template <class Call> std::string written(std::size_t room, const bpf_refusal &why, Call call) {
+    std::unique_ptr<char[]> text(new char[room]);
+    std::size_t wanted = 0;
+    expect_yes(call(text.get(), room, &wanted), why);
+    return std::string(text.get(), wanted);
+}
+
+/* A certificate for an image, on contexts of `least` to `most` bytes, by the deep search unless `deep` is false. Throws Refused,
+ * std::invalid_argument, and std::bad_alloc. */
+inline Bytes infer(const Bytes &image, bpf_order order, std::uint32_t least, std::uint32_t most, bool deep = true) {
+    bpf_refusal why;
+    const std::string text = written(bpf_infer_size(image.size()), why, [&](char *at, std::size_t room, std::size_t *wanted) {
+        return bpf_infer(image.data(), image.size(), order, least, most, deep, at, room, wanted, &why);
+    });
+    return Bytes(text.begin(), text.end());
+}
+
+/* What an image is hardened to, for contexts of `size` bytes; `asked` as in bpf_harden. Throws Refused, std::invalid_argument, and
+ * std::bad_alloc. */
+inline Bytes harden(const Bytes &image, bpf_order order, std::uint32_t size, const bpf_hardening *asked = nullptr) {
+    bpf_refusal why;
+    const std::string made = written(BPF_IMAGE_MOST, why, [&](char *at, std::size_t room, std::size_t *wanted) {
+        return bpf_harden(image.data(), image.size(), order, size, asked, at, room, wanted, &why);
+    });
+    return Bytes(made.begin(), made.end());
+}
+
+/* What is known of an image under a certificate, or why one of the two is refused: the words of `bpf explain`. Throws
+ * std::invalid_argument and std::bad_alloc. */
+inline std::string explain(const Bytes &image, const Bytes &certificate, bpf_order order) {
+    std::size_t room = bpf_explain_size(image.size(), certificate.size(), 0);
+    return written(room, bpf_refusal(), [&](char *at, std::size_t len, std::size_t *wanted) {
+        std::int32_t answer = bpf_explain(image.data(), image.size(), order, certificate.data(), certificate.size(), nullptr, at, len, wanted, nullptr);
+        return answer == BPF_NO ? static_cast<std::int32_t>(BPF_YES) : answer;
+    });
 }
 
 } // namespace bpf

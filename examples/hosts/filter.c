@@ -76,18 +76,23 @@ static void say_refusal(const struct bpf_refusal *why) {
 static void load(struct filter *filter, const struct bytes *image, const struct bytes *certificate, uint32_t order) {
     struct bpf_verdict *verdict = &filter->verdict;
     struct bpf_refusal why;
+    char text[256];
+    int32_t answer;
     filter->order = order;
     filter->words_len = bpf_loaded_size(image->len);
     filter->words = calloc(filter->words_len + 1, sizeof *filter->words); /* some, also where no image has that length */
     if (!filter->words) fail("no memory for", "the program");
-    switch (bpf_load(image->at, image->len, order, certificate->at, certificate->len, GREATEST_BOUND, filter->words, filter->words_len, verdict, &why)) {
+    answer = bpf_load(image->at, image->len, order, certificate->at, certificate->len, GREATEST_BOUND, filter->words, filter->words_len, verdict, &why);
+    switch (answer) {
     case BPF_YES: break;
     case BPF_NO: say_refusal(&why); exit(1);
     case BPF_TOO_LONG:
         fprintf(stderr, "filter: a run may take %u instructions, and this host pays for %d at most\n", (unsigned)verdict->bound, GREATEST_BOUND);
         exit(1);
-    case BPF_NO_MEMORY: fprintf(stderr, "filter: no memory\n"); exit(3);
-    default: fprintf(stderr, "filter: a bad call of bpf_load\n"); exit(3);
+    default:
+        bpf_answer_text(answer, text, sizeof text);
+        fprintf(stderr, "filter: %s\n", text);
+        exit(3);
     }
     if (verdict->most < LENGTH_BYTES) {
         fprintf(stderr, "filter: a context of %u bytes has no room for the frame's length, %d bytes\n", (unsigned)verdict->most, LENGTH_BYTES);

@@ -3,7 +3,7 @@
 
 use bpf_answers::Failure;
 use bpf_command::{Progress, fail, respond};
-use bpf_places::FilePlaces;
+use bpf_places::{Cause, Fault, FilePlaces, Noted};
 use std::io::ErrorKind;
 use std::process::ExitCode;
 use std::rt::Env;
@@ -15,19 +15,24 @@ fn words_of(rt: &(impl Env + AllocGlobal)) -> io::Result<Vec<String>> {
 }
 
 fn main(rt: HostRuntime) -> ExitCode {
-    let mut out = rt.stdout();
+    let fault = Fault::new();
+    let mut out = Noted::new(rt.stdout(), &fault);
     let mut err = rt.stderr();
     let status = match words_of(&rt) {
         Ok(words) => respond(
             rt.alloc(),
             &words,
-            &mut FilePlaces::new(&rt, rt.alloc(), rt.stdin(), rt.stdout()),
+            &mut FilePlaces::new(&rt, &fault, rt.alloc(), rt.stdin(), rt.stdout()),
             &mut out,
             &mut err,
             &mut Progress::new(&rt, rt.stderr()),
         ),
-        Err(error) if error.kind() == ErrorKind::OutOfMemory => fail(Failure::NoMemory, &mut err),
-        Err(_) => fail(Failure::NotUtf8, &mut err),
+        Err(error) if error.kind() == ErrorKind::OutOfMemory => fail(
+            Failure::NoMemory,
+            Cause::Unknown,
+            &mut err,
+        ),
+        Err(_) => fail(Failure::NotUtf8, Cause::Unknown, &mut err),
     };
     ExitCode::from(status)
 }

@@ -29,6 +29,8 @@ use Rattle.bpf_follows.specs.declared.mismatch.Mismatch.{Mismatch}
 use Rattle.bpf_follows_law.specs.declared.notes.Bounds.{Bounds}
 use Rattle.bpf_follows_notes.specs.Refused.{refusal_number as notes_number, refusal_line as notes_line}
 use Rattle.bpf_follows_notes.specs.declared.error.NotesError.{NotesError}
+use Rattle.bpf_answers.specs.declared.certified.Certification.{Certification}
+use Rattle.bpf_answers.specs.declared.certified.Rewriting.{Rewriting}
 use Rattle.bpf_machine.specs.declared.outcome.Outcome.{Outcome}
 use Rattle.bpf_machine.specs.declared.outcome.Outcome.TheVariants.{Done as DoneRun, Fault as FaultRun, OutOfFuel}
 
@@ -45,6 +47,10 @@ pub data Answer : Type 0 where
   -- a program isn't hardened; or it is, and isn't shown to keep its meaning
   NotHardened : (error : HardenError) → Answer
   NotShown : (mismatch : Mismatch) → Answer
+  -- an image was written with its certificate; or its bound is too great; or the checker refuses what was found
+  Certified : (told : Certification) → Answer
+  TooDear : Answer
+  Uncertified : Answer
   -- notes show that one image's program keeps the meaning of another's, on these contexts and for these runs
   Follows : (bounds : Bounds) → Answer
   -- what is at the name of the old one or of the new one is no image, what is at the notes' name none; or they don't show it
@@ -65,6 +71,8 @@ pub data Answer : Type 0 where
   Annotates : (notes : Notes) → (order : Order) → (is : List Insn) → Answer
   -- what was asked for was written at a name
   Written : Answer
+  -- the same of a hardened image that is shown to keep the meaning of runs that leave so many bytes of each frame to r10, which nobody asked for
+  WrittenFor : (untouched : ℕ) → Answer
 
 -- ---- the status: 0 done, yes or written; 1 a refusal, a fault of the program, out of fuel
 
@@ -82,6 +90,9 @@ status_of (NotCertified refusal) = 1
 status_of (NotProposed error) = 1
 status_of (NotHardened error) = 1
 status_of (NotShown mismatch) = 1
+status_of (Certified told) = 0
+status_of TooDear = 1
+status_of Uncertified = 1
 status_of (Follows bounds) = 0
 status_of (NoOld error) = 1
 status_of (NoNew error) = 1
@@ -94,6 +105,7 @@ status_of (Occur groups) = 0
 status_of (Lists is) = 0
 status_of (Annotates notes order is) = 0
 status_of Written = 0
+status_of (WrittenFor untouched) = 0
 
 -- ---- the text
 
@@ -117,6 +129,13 @@ at_slot_of_new = codes " of NEW at slot "
 -- the number of the refusal of a hardened program that isn't shown to keep its meaning, behind those of hardening itself
 abbrev pub not_shown : ℕ
 not_shown = 13
+
+-- the number of the refusal of a bound that is too great, and of a certificate that the checker refuses
+abbrev pub too_dear : ℕ
+too_dear = 14
+
+abbrev pub uncertified : ℕ
+uncertified = 15
 
 -- `no A3 at line 2`, `no A6 at line 1 (E8 at slot 0)`
 abbrev pub text_refusal_line : TextError → List ℕ
@@ -173,6 +192,21 @@ follows_end padded = if padded then codes " padded\n" else codes "\n"
 abbrev pub follows_line : Bounds → List ℕ
 follows_line bounds = concat (codes "yes length " ∷ decimal bounds.length ∷ codes " turns " ∷ decimal bounds.turns ∷ (untouched_pieces bounds.untouched ++ (follows_end bounds.padded ∷ [])))
 
+-- where contexts are blocks
+abbrev pub padded_word : Bool → List ℕ
+padded_word padded = if padded then codes " padded" else []
+
+-- what isn't shown to keep the meaning is named last
+abbrev pub proved_end : Bool → List ℕ
+proved_end is_shown = if is_shown then codes "\n" else codes " unproved\n"
+
+-- `yes length 264 bound 13561`, or `yes length 264 bound 13561 hardened turns 264`, with ` padded`, ` untouched 32` and ` unproved` behind it
+abbrev pub certified_line : (length bound : ℕ) → Option Rewriting → List ℕ
+certified_line length bound None = concat (codes "yes length " ∷ decimal length ∷ codes " bound " ∷ decimal bound ∷ codes "\n" ∷ [])
+certified_line length bound (Some r) =
+    concat (codes "yes length " ∷ decimal length ∷ codes " bound " ∷ decimal bound ∷ codes " hardened turns " ∷ decimal r.turns ∷ padded_word r.padded
+    ∷ (untouched_pieces r.untouched ++ (proved_end r.is_shown ∷ [])))
+
 -- `no context of 3 bytes, want 16`
 abbrev pub no_context_line : ℕ → ℕ → ℕ → List ℕ
 no_context_line count least most = concat (codes "no context of " ∷ decimal count ∷ codes " bytes, want " ∷ (range_pieces least most ++ (codes "\n" ∷ [])))
@@ -191,6 +225,9 @@ text_of (NotCertified refusal) = refusal_line (codes "C") (check_number refusal)
 text_of (NotProposed error) = infer_refusal_line error
 text_of (NotHardened error) = refusal_line (codes "H") (harden_number error) at_slot (harden_slot error)
 text_of (NotShown mismatch) = refusal_line (codes "H") not_shown at_slot (mismatch_slot mismatch)
+text_of (Certified told) = certified_line told.length told.bound told.rewriting
+text_of TooDear = refusal_line (codes "H") too_dear at_slot 0
+text_of Uncertified = refusal_line (codes "H") uncertified at_slot 0
 text_of (Follows bounds) = follows_line bounds
 text_of (NoOld error) = refusal_line (codes "E") (decode_number error) at_slot_of_old (decode_slot error)
 text_of (NoNew error) = refusal_line (codes "E") (decode_number error) at_slot_of_new (decode_slot error)
@@ -203,6 +240,7 @@ text_of (Occur groups) = groups_line groups
 text_of (Lists is) = listing is
 text_of (Annotates notes order is) = annotated notes order is
 text_of Written = []
+text_of (WrittenFor untouched) = concat (codes "untouched " ∷ decimal untouched ∷ codes "\n" ∷ [])
 
 -- ---- both
 

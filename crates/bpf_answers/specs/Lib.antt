@@ -5,3 +5,4 @@ pub mod Notes
 pub mod Answer
 pub mod Lines
 pub mod Each
+pub mod Both

@@ -19,7 +19,7 @@ use Rattle.bpf_answers.specs.declared.context.ContextError.TheVariants.{TooLong}
 use Rattle.bpf_answers.specs.declared.bytes.BytesError.{BytesError}
 use Rattle.bpf_answers.specs.declared.bytes.BytesError.TheVariants.{Unreadable as Unread, TooLong as TooMany, Memory as NoSpace}
 use Rattle.bpf_answers.specs.declared.failure.Failure.{Failure}
-use Rattle.bpf_answers.specs.declared.failure.Failure.TheVariants.{CannotRead, BadContext}
+use Rattle.bpf_answers.specs.declared.failure.Failure.TheVariants.{CannotRead, BadContext, NotText}
 
 -- the name was opened, or couldn't be
 abbrev pub Tried : {S : Type 0} → Opening S → S → List ℕ → S → Type 0
@@ -81,6 +81,11 @@ ShortTextAt opening old name new says = TextAt opening old name new (λ text. (l
 abbrev pub TextFails : {S : Type 0} → Opening S → S → List ℕ → S → Failure → Type 0
 TextFails opening old input new (CannotRead name) = (name.now ≡ input) × (Unreadable opening old input new ⊎ TextAt opening old input new (λ text. (¬ (IsUtf8 text)) ⊎ (max_text < length text)))
 TextFails opening old input new failure = OutputFails failure
+
+-- the same where people are told of a text that isn't UTF-8
+abbrev pub ReadableFails : {S : Type 0} → Opening S → S → List ℕ → S → Failure → Type 0
+ReadableFails opening old input new (NotText name) = (name.now ≡ input) × TextAt opening old input new (λ text. ¬ (IsUtf8 text))
+ReadableFails opening old input new failure = TextFails opening old input new failure
 
 -- ---- certificates
 

@@ -1,16 +1,17 @@
 //! What ends a command before it has an answer, and the statuses.
 
-ghost use Rattle.std.specs.Prelude.{◌≡◌, ◌++◌, IfErr, OnOk, OnErr};
+ghost use Rattle.std.specs.Prelude.{◌≡◌, ◌++◌, IfErr, OnOk, OnErr, codes};
 ghost use Rattle.bpf_insn.specs.Written.{AppendsBeginning};
-ghost use Rattle.bpf_answers.specs.Told.{OutputFails, failure_line, failure_text, told_of, line_text, status_of_context, status_of_failure};
-ghost use Rattle.std.specs.Io.KnownBytes.{Appends};
+ghost use Rattle.bpf_answers.specs.Told.{OutputFails, cause_text, failure_line, failure_text, failure_words, is_closed, is_gone, is_of_name, is_of_writing, line_text, reason_of, status_of_context, status_of_failure, told_of};
+ghost use Rattle.std.specs.Io.KnownBytes.{Appends, Keeps};
 
 use crate::context::ContextError;
 use bpf_escape::write_escaped;
 use bpf_insn::written::write_bytes;
+use bpf_places::Cause;
 use itoa::Buffer;
 use std::alloc::AllocError;
-use std::io::{self, Write};
+use std::io::{self, ErrorKind, Write};
 
 /// Done, yes or written.
 pub const DONE: u8 = 0;
@@ -20,6 +21,8 @@ pub const REFUSED: u8 = 1;
 pub const BAD_WORDS: u8 = 2;
 /// Something outside failed: a file, the output or memory.
 pub const FAILED: u8 = 3;
+/// Whoever was to read what is written has gone: what a shell tells of a tool that the closed pipe's signal (13) ends.
+pub const CLOSED: u8 = 141;
 
 /// What outside of the command failed.
 #[derive(Clone, Copy, Debug)]
@@ -43,6 +46,8 @@ pub enum Failure<'a> {
     NotTogether,
     /// A word isn't UTF-8.
     NotUtf8,
+    /// What stands at a name isn't UTF-8.
+    NotText(&'a str),
 }
 
 impl ContextError {
@@ -75,6 +80,7 @@ impl<'a> Failure<'a> {
     {
         match self {
             Failure::CannotRead(_) | Failure::CannotWrite(_) | Failure::NoMemory => FAILED,
+            Failure::NotText(_) => FAILED,
             Failure::BadContext(error) | Failure::BadLine { error, .. } => error.status(),
             Failure::NoContext | Failure::ContextTwice => BAD_WORDS,
             Failure::MostBelowLeast | Failure::InputTwice => BAD_WORDS,
@@ -99,6 +105,83 @@ impl<'a> Failure<'a> {
             Failure::InputTwice => ("standard input twice", ""),
             Failure::NotTogether => ("words that don't go together", ""),
             Failure::NotUtf8 => ("words that aren't UTF-8", ""),
+            Failure::NotText(name) => ("not UTF-8: ", name),
+        }
+    }
+}
+
+/// What is told of a cause, behind a name.
+fn cause_text(cause: Cause) -> &'static str
+    ensures { result.now ≡ cause_text cause }
+{
+    match cause {
+        Cause::Unknown => "",
+        Cause::NotFound => ": No such file or directory",
+        Cause::Denied => ": Permission denied",
+        Cause::Folder => ": Is a directory",
+        Cause::NotFolder => ": Not a directory",
+        Cause::Loop => ": Too many levels of symbolic links",
+        Cause::LongName => ": File name too long",
+        Cause::Full => ": No space left",
+        Cause::ReadOnly => ": Read-only file system",
+        Cause::Closed => ": Broken pipe",
+    }
+}
+
+/// Whether whoever was to read what is written has gone.
+fn is_gone(cause: Cause) -> bool
+    ensures { result ≡ is_gone cause }
+{
+    match cause {
+        Cause::Closed => true,
+        Cause::Unknown | Cause::NotFound | Cause::Denied | Cause::Folder => false,
+        Cause::NotFolder | Cause::Loop | Cause::LongName | Cause::Full => false,
+        Cause::ReadOnly => false,
+    }
+}
+
+impl<'a> Failure<'a> {
+    /// Whether the system may have a reason for it: it is of a name or of standard output.
+    fn is_of_name(self) -> bool
+        ensures { result ≡ is_of_name self.entry }
+    {
+        match self {
+            Failure::CannotRead(_) | Failure::CannotWrite(_) => true,
+            Failure::NoMemory | Failure::BadContext(_) | Failure::BadLine { .. } => false,
+            Failure::NoContext | Failure::ContextTwice | Failure::MostBelowLeast => false,
+            Failure::InputTwice | Failure::NotTogether | Failure::NotUtf8 => false,
+            Failure::NotText(_) => false,
+        }
+    }
+
+    /// Whether something can't be written.
+    fn is_of_writing(self) -> bool
+        ensures { result ≡ is_of_writing self.entry }
+    {
+        match self {
+            Failure::CannotWrite(_) => true,
+            Failure::CannotRead(_) | Failure::NoMemory | Failure::BadContext(_) => false,
+            Failure::BadLine { .. } | Failure::NoContext | Failure::ContextTwice => false,
+            Failure::MostBelowLeast | Failure::InputTwice => false,
+            Failure::NotTogether | Failure::NotUtf8 | Failure::NotText(_) => false,
+        }
+    }
+
+    /// Whether it is a closed pipe that is written to, as behind `| head -1`: nobody needs to be told.
+    pub fn is_closed(self, cause: Cause) -> bool
+        ensures { result ≡ is_closed self.entry cause }
+    {
+        self.is_of_writing() && is_gone(cause)
+    }
+
+    /// The reason that is told of it.
+    fn reason(self, cause: Cause) -> &'static str
+        ensures { result.now ≡ reason_of self.entry cause }
+    {
+        if self.is_of_name() {
+            cause_text(cause)
+        } else {
+            ""
         }
     }
 }
@@ -132,7 +215,9 @@ fn write_what<W: Write>(err: &mut W, failure: Failure<'_>, what: &[u8]) -> io::R
     ensures err { OnErr result (AppendsBeginning (W.contents err.old) (W.contents err.new) (told_of failure.entry what.now)) }
 {
     match failure {
-        Failure::CannotRead(_) | Failure::CannotWrite(_) => write_escaped(err, what, false),
+        Failure::CannotRead(_) | Failure::CannotWrite(_) | Failure::NotText(_) => {
+            write_escaped(err, what, false)
+        }
         Failure::BadContext(_) | Failure::BadLine { .. } | Failure::NoMemory => {
             write_bytes(err, what)
         }
@@ -143,14 +228,47 @@ fn write_what<W: Write>(err: &mut W, failure: Failure<'_>, what: &[u8]) -> io::R
     }
 }
 
-/// Tells a failure on standard error in a line. Takes no memory.
-pub fn tell<W: Write>(failure: Failure<'_>, err: &mut W) -> io::Result<()>
-    ensures ok { OnOk result (Appends (W.contents err.old) (W.contents err.new) (failure_line failure.entry)) }
-    ensures err { OnErr result (AppendsBeginning (W.contents err.old) (W.contents err.new) (failure_line failure.entry)) }
+/// Writes a failure and what it is of.
+fn write_failure<W: Write>(err: &mut W, failure: Failure<'_>) -> io::Result<()>
+    ensures ok { OnOk result (Appends (W.contents err.old) (W.contents err.new) (failure_text failure.entry)) }
+    ensures err { OnErr result (AppendsBeginning (W.contents err.old) (W.contents err.new) (failure_text failure.entry)) }
 {
     let mut buffer = Buffer::new();
     let (text, name) = failure.text(&mut buffer);
     write_bytes(err, text.as_bytes())?;
-    write_what(err, failure, name.as_bytes())?;
-    write_bytes(err, b"\n")
+    write_what(err, failure, name.as_bytes())
+}
+
+/// Writes a failure, what it is of, and why.
+fn write_words<W: Write>(err: &mut W, failure: Failure<'_>, cause: Cause) -> io::Result<()>
+    ensures ok { OnOk result (Appends (W.contents err.old) (W.contents err.new) (failure_words failure.entry cause)) }
+    ensures err { OnErr result (AppendsBeginning (W.contents err.old) (W.contents err.new) (failure_words failure.entry cause)) }
+{
+    write_failure(err, failure)?;
+    write_bytes(err, failure.reason(cause).as_bytes())
+}
+
+/// Ends a line. Where that fails nothing was written.
+fn write_end<W: Write>(err: &mut W) -> io::Result<()>
+    ensures ok { OnOk result (Appends (W.contents err.old) (W.contents err.new) (codes "\n")) }
+    ensures err { OnErr result (Keeps (W.contents err.old) (W.contents err.new)) }
+{
+    let count = match err.write(b"\n") {
+        Ok(count) => count,
+        Err(error) => return Err(error),
+    };
+    if count == 0 {
+        return Err(io::Error::from(ErrorKind::WriteZero));
+    }
+    Ok(())
+}
+
+/// Tells a failure on standard error in a line, with the cause that the system told. Where that fails, standard error has a beginning
+/// of the line without its end. Takes no memory.
+pub fn tell<W: Write>(failure: Failure<'_>, cause: Cause, err: &mut W) -> io::Result<()>
+    ensures ok { OnOk result (Appends (W.contents err.old) (W.contents err.new) (failure_line failure.entry cause)) }
+    ensures err { OnErr result (AppendsBeginning (W.contents err.old) (W.contents err.new) (failure_words failure.entry cause)) }
+{
+    write_words(err, failure, cause)?;
+    write_end(err)
 }

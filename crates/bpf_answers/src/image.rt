@@ -84,8 +84,7 @@ pub fn refuse_old<'a, W: Write>(
     ensures begun { IfErr result (λ _. AppendsBeginning (W.contents out.old) (W.contents out.new) (text_of (NoOld error))) }
 {
     let slot = u64::from(error.slot());
-    let place = " of OLD at slot ";
-    refuse_at(alloc, out, "E", error.number(), place, slot)
+    refuse_at(alloc, out, "E", error.number(), " of OLD at slot ", slot)
 }
 
 /// Prints why of two images the new one is refused; where that fails, standard output has a beginning of the line.
@@ -99,6 +98,5 @@ pub fn refuse_new<'a, W: Write>(
     ensures begun { IfErr result (λ _. AppendsBeginning (W.contents out.old) (W.contents out.new) (text_of (NoNew error))) }
 {
     let slot = u64::from(error.slot());
-    let place = " of NEW at slot ";
-    refuse_at(alloc, out, "E", error.number(), place, slot)
+    refuse_at(alloc, out, "E", error.number(), " of NEW at slot ", slot)
 }

@@ -2,8 +2,10 @@
 //! refusal in its line, and what is told of failures.
 #![tactic(auto)]
 
+mod both;
 mod bytes;
 mod certificate;
+mod certified;
 mod context;
 mod each;
 mod failure;
@@ -14,13 +16,15 @@ mod refusal;
 mod text;
 mod whole;
 
+pub use both::put_both;
 pub use certificate::{certificate_at, refuse_certificate, refuse_program};
+pub use certified::{Certification, Rewriting, refuse_dear, refuse_uncertified, say_certified};
 pub use context::{ContextError, context_of};
 pub use each::{Runner, answered};
-pub use failure::{BAD_WORDS, DONE, FAILED, Failure, REFUSED, say, tell};
+pub use failure::{BAD_WORDS, CLOSED, DONE, FAILED, Failure, REFUSED, say, tell};
 pub use image::{image_at, program_at, refuse_image, refuse_new, refuse_old};
 pub use notes::{notes_at, refuse_match, refuse_notes, say_followed};
 pub use output::{Content, put};
 pub use refusal::refuse_at;
-pub use text::{refuse_text, text_at};
+pub use text::{readable_text_at, refuse_text, text_at};
 pub use whole::context_at;

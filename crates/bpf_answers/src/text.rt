@@ -1,11 +1,12 @@
 //! Texts at a name, and why they are refused.
 
-ghost use Rattle.std.specs.Prelude.{◌≡◌, IfOk, IfErr};
+ghost use Rattle.std.specs.Prelude.{◌≡◌, ◌⊎◌, IfOk, IfErr};
+ghost use Rattle.std.specs.Str.{IsUtf8};
 ghost use Rattle.std.specs.String.{string_bytes};
 ghost use Rattle.bpf_insn.specs.Written.{AppendsBeginning};
 ghost use Rattle.bpf_answers.specs.Answer.{Says, text_of};
 ghost use Rattle.bpf_answers.specs.Answer.Answer.{NoText};
-ghost use Rattle.bpf_answers.specs.Loaded.{ShortTextAt, TextFails, Tried};
+ghost use Rattle.bpf_answers.specs.Loaded.{ReadableFails, ShortTextAt, TextAt, TextFails, Tried};
 ghost use Rattle.bpf_answers.specs.Told.{IsQuiet, OutputFails};
 
 use crate::bytes::{BytesError, bytes_at};
@@ -18,6 +19,30 @@ use std::io::Write;
 /// The greatest length of a text that is read, in bytes.
 const MAX_TEXT: usize = 16_777_216;
 
+/// The text at a name. It can't be read where it is longer than that; where it isn't UTF-8 it is the failure that is given.
+fn text_or<'a, P: Places>(
+    alloc: Global,
+    places: &mut P,
+    name: &'a str,
+    other: Failure<'a>,
+) -> Result<String, Failure<'a>>
+    ensures ok { IfOk result (λ text. ShortTextAt P.opens places.old name.entry.now places.new (λ bytes. string_bytes text ≡ bytes)) }
+    ensures err { IfErr result (λ f. TextFails P.opens places.old name.entry.now places.new f
+        ⊎ ((f ≡ other.entry) × TextAt P.opens places.old name.entry.now places.new (λ text. ¬ (IsUtf8 text)))) }
+    ensures quiet { IfErr result (λ f. IsQuiet f ⊎ (f ≡ other.entry)) }
+    ensures names { Tried P.opens places.old name.entry.now places.new }
+{
+    let bytes = match bytes_at(alloc, places, name, MAX_TEXT) {
+        Ok(bytes) => bytes,
+        Err(BytesError::Unreadable | BytesError::TooLong) => return Err(Failure::CannotRead(name)),
+        Err(BytesError::Memory) => return Err(Failure::NoMemory),
+    };
+    let Ok(text) = String::from_utf8(bytes) else {
+        return Err(other);
+    };
+    Ok(text)
+}
+
 /// The text at a name. It can't be read where it isn't UTF-8, or is longer than that.
 pub fn text_at<'a, P: Places>(
     alloc: Global,
@@ -29,15 +54,21 @@ pub fn text_at<'a, P: Places>(
     ensures quiet { IfErr result IsQuiet }
     ensures names { Tried P.opens places.old name.entry.now places.new }
 {
-    let bytes = match bytes_at(alloc, places, name, MAX_TEXT) {
-        Ok(bytes) => bytes,
-        Err(BytesError::Unreadable | BytesError::TooLong) => return Err(Failure::CannotRead(name)),
-        Err(BytesError::Memory) => return Err(Failure::NoMemory),
-    };
-    let Ok(text) = String::from_utf8(bytes) else {
-        return Err(Failure::CannotRead(name));
-    };
-    Ok(text)
+    text_or(alloc, places, name, Failure::CannotRead(name))
+}
+
+/// The same for people: they are told of a text that isn't UTF-8.
+pub fn readable_text_at<'a, P: Places>(
+    alloc: Global,
+    places: &mut P,
+    name: &'a str,
+) -> Result<String, Failure<'a>>
+    ensures ok { IfOk result (λ text. ShortTextAt P.opens places.old name.entry.now places.new (λ bytes. string_bytes text ≡ bytes)) }
+    ensures err { IfErr result (ReadableFails P.opens places.old name.entry.now places.new) }
+    ensures quiet { IfErr result IsQuiet }
+    ensures names { Tried P.opens places.old name.entry.now places.new }
+{
+    text_or(alloc, places, name, Failure::NotText(name))
 }
 
 /// The line of a refusal.

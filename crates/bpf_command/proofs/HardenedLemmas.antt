@@ -5,16 +5,17 @@ use Rattle.bpf_insn.specs.Instruction.{Instructions}
 use Rattle.bpf_insn.specs.Image.{IsProgram, image}
 use Rattle.bpf_follows_law.specs.declared.notes.Place.{Place}
 use Rattle.bpf_follows_law.specs.Laws.{MatchingKeepsMeaning}
+use Rattle.bpf_follows_law.specs.Matching.{Matches}
 use Rattle.bpf_follows_notes.specs.NotesText.{notes_text}
 use Rattle.bpf_request.specs.declared.hardening.Hardening.{Hardening}
 use Rattle.bpf_places.specs.Opened.{Opening}
 use Rattle.bpf_places.specs.Made.{Making}
 use Rattle.bpf_answers.specs.Answer.{Answer, Answered, Says}
 use Rattle.bpf_answers.specs.Loaded.{LoadsImage}
-use Rattle.bpf_command.specs.Hardened.{BothStand, HardenFails, HardenSays, Hardens, IsLeft, MatchesLeaving, NotAllMade, NotBothPut, NotBothStand, Stands, Unput, bounds_of}
+use Rattle.bpf_command.specs.Hardened.{AllStand, BothStand, HardenFails, HardenSays, Hardens, IsLeft, IsLeftSaid, NotAllMade, NotBothPut, NotBothStand, Stands, Unput, bounds_of, said_answer}
 use Rattle.bpf_answers.specs.declared.failure.Failure.{Failure}
 use Rattle.bpf_answers.specs.declared.failure.Failure.TheVariants.{CannotRead, CannotWrite, NoMemory}
-use Rattle.bpf_answers.proofs.MadeLemmas.{put_says}
+use Rattle.bpf_answers.specs.Told.{OutputFails}
 
 -- ---- one name
 
@@ -61,41 +62,52 @@ other_fault making old h new name (inr never) = never.3
 -- ---- behind OUT
 
 -- what was made of the program at the name, with notes that match where they are to
-pub made_of : {S : Type 0} (opening : Opening S) (old : S) (h : Hardening) (new : S) (program made : Instructions) (notes : List (Option Place)) → MatchingKeepsMeaning
-    → LoadsImage opening h.order old h.input.now new program → IsProgram made.list → (h.unproved ≡ false → MatchesLeaving h program made notes) → Hardens opening old h new made notes
-made_of opening old h new program made notes law loads is_program matches =
-    record { program = program; loads = loads; is_program = is_program; matches = matches; keeps = λ asked. let m = matches asked in (m.0, m.1, law program made notes (bounds_of h m.0) loads.is_image.program m.2) }
+pub made_of : {S : Type 0} (opening : Opening S) (old : S) (h : Hardening) (untouched : ℕ) (new : S) (program made : Instructions) (notes : List (Option Place)) → MatchingKeepsMeaning
+    → LoadsImage opening h.order old h.input.now new program → IsProgram made.list → (h.unproved ≡ false → Matches program made notes (bounds_of h untouched)) → Hardens opening old h untouched new made notes
+made_of opening old h untouched new program made notes law loads is_program matches =
+    record { program = program; loads = loads; is_program = is_program; matches = matches; keeps = λ asked. law program made notes (bounds_of h untouched) loads.is_image.program (matches asked) }
 
-pub all_stand : {S E : Type 0} (result : Result ℕ E) (known : Option (List ℕ)) (opening : Opening S) (making : Making S) (old : S) (h : Hardening) (between put new : S) (made : Instructions) (notes : List (Option Place)) (text : List ℕ)
-    → Hardens opening old h between made notes → making between h.output.now (image made.order made.list) true put → IfSome h.notes (λ _. text ≡ notes_text notes)
-    → IfOk result (λ status. (status ≡ 0) × BothStand making put h text new) → IfOk result (λ status. (x : Answer) × Says x status known known × HardenSays opening making old h new x)
-all_stand result known opening making old h between put new made notes text hardens whole same stands =
-    put_says result known (BothStand making put h text new) (HardenSays opening making old h new) stands
-    (λ both. (between, put, made, notes, hardens, whole, (both.0, both.1, stands_as making put h.notes text (notes_text notes) both.0 same both.2, both.3)))
+pub all_stand : {S : Type 0} (opening : Opening S) (making : Making S) (old : S) (h : Hardening) (between put new : S) (made : Instructions) (notes : List (Option Place)) (untouched : ℕ) (said : Option ℕ) (text : List ℕ)
+    → IsLeftSaid h untouched said → Hardens opening old h untouched between made notes → making between h.output.now (image made.order made.list) true put → IfSome h.notes (λ _. text ≡ notes_text notes)
+    → BothStand making put h text new → AllStand opening making old h new said
+all_stand opening making old h between put new made notes untouched said text left hardens whole same both =
+    (between, put, made, notes, untouched, left, hardens, whole, (both.0, both.1, stands_as making put h.notes text (notes_text notes) both.0 same both.2, both.3))
 
-pub texts_fail : {S : Type 0} (result : Result ℕ Failure) (opening : Opening S) (making : Making S) (old : S) (h : Hardening) (between put new : S) (made : Instructions) (notes : List (Option Place))
-    → Hardens opening old h between made notes → making between h.output.now (image made.order made.list) true put
+-- so it is said
+pub all_said : {S : Type 0} (opening : Opening S) (making : Making S) (old : S) (h : Hardening) (new : S) (said : Option ℕ) → AllStand opening making old h new said → HardenSays opening making old h new (said_answer said)
+all_said opening making old h new None stands = stands
+all_said opening making old h new (Some untouched) stands = stands
+
+-- what is to be said isn't
+pub unsaid : {S A : Type 0} (result : Result A Failure) (opening : Opening S) (making : Making S) (old : S) (h : Hardening) (new : S) → IfErr result OutputFails → IfErr result (HardenFails opening making old h new)
+unsaid (Ok s) opening making old h new fails = tt
+unsaid (Err (CannotWrite name)) opening making old h new fails = inl fails
+unsaid (Err (CannotRead name)) opening making old h new fails = absurd fails
+unsaid (Err failure) opening making old h new fails = fails
+
+pub texts_fail : {S A : Type 0} (result : Result A Failure) (opening : Opening S) (making : Making S) (old : S) (h : Hardening) (between put new : S) (made : Instructions) (notes : List (Option Place)) (untouched : ℕ)
+    → Hardens opening old h untouched between made notes → making between h.output.now (image made.order made.list) true put
     → IfErr result (NotBothPut making put h new) → IfErr result (HardenFails opening making old h new)
-texts_fail (Ok s) opening making old h between put new made notes hardens whole fails = tt
-texts_fail (Err (CannotWrite name)) opening making old h between put new made notes hardens whole fails = inr (inr (between, put, made, notes, hardens, whole, fails))
-texts_fail (Err NoMemory) opening making old h between put new made notes hardens whole fails = tt
-texts_fail (Err (CannotRead name)) opening making old h between put new made notes hardens whole fails = absurd (other_fault making put h new name fails)
-texts_fail (Err failure) opening making old h between put new made notes hardens whole (inl never) = absurd never
-texts_fail (Err failure) opening making old h between put new made notes hardens whole (inr never) = absurd never.3
+texts_fail (Ok s) opening making old h between put new made notes untouched hardens whole fails = tt
+texts_fail (Err (CannotWrite name)) opening making old h between put new made notes untouched hardens whole fails = inr (inr (between, put, made, notes, untouched, hardens, whole, fails))
+texts_fail (Err NoMemory) opening making old h between put new made notes untouched hardens whole fails = tt
+texts_fail (Err (CannotRead name)) opening making old h between put new made notes untouched hardens whole fails = absurd (other_fault making put h new name fails)
+texts_fail (Err failure) opening making old h between put new made notes untouched hardens whole (inl never) = absurd never
+texts_fail (Err failure) opening making old h between put new made notes untouched hardens whole (inr never) = absurd never.3
 
-pub out_fails : {S A : Type 0} (result : Result A Failure) (opening : Opening S) (making : Making S) (old : S) (h : Hardening) (between new : S) (made : Instructions) (notes : List (Option Place))
-    → Hardens opening old h between made notes
+pub out_fails : {S A : Type 0} (result : Result A Failure) (opening : Opening S) (making : Making S) (old : S) (h : Hardening) (between new : S) (made : Instructions) (notes : List (Option Place)) (untouched : ℕ)
+    → Hardens opening old h untouched between made notes
     → IfErr result (λ f. ((f ≡ CannotWrite h.output) ⊎ (f ≡ NoMemory)) × making between h.output.now (image made.order made.list) false new) → IfErr result (HardenFails opening making old h new)
-out_fails (Ok s) opening making old h between new made notes hardens fails = tt
-out_fails (Err f) opening making old h between new made notes hardens (inl is, left) =
-    subst (HardenFails opening making old h new) (sym is) (inr (inl (refl, (between, made, notes, hardens, left))))
-out_fails (Err f) opening making old h between new made notes hardens (inr is, left) = subst (HardenFails opening making old h new) (sym is) tt
+out_fails (Ok s) opening making old h between new made notes untouched hardens fails = tt
+out_fails (Err f) opening making old h between new made notes untouched hardens (inl is, left) =
+    subst (HardenFails opening making old h new) (sym is) (inr (inl (refl, (between, made, notes, untouched, hardens, left))))
+out_fails (Err f) opening making old h between new made notes untouched hardens (inr is, left) = subst (HardenFails opening making old h new) (sym is) tt
 
-pub texts_left : {S A : Type 0} (result : Result A Failure) (opening : Opening S) (making : Making S) (old : S) (h : Hardening) (between put new : S) (made : Instructions) (notes : List (Option Place))
-    → Hardens opening old h between made notes → making between h.output.now (image made.order made.list) true put
+pub texts_left : {S A : Type 0} (result : Result A Failure) (opening : Opening S) (making : Making S) (old : S) (h : Hardening) (between put new : S) (made : Instructions) (notes : List (Option Place)) (untouched : ℕ)
+    → Hardens opening old h untouched between made notes → making between h.output.now (image made.order made.list) true put
     → IfErr result (λ _. NotBothStand making put h new) → IfErr result (λ _. NotAllMade opening making old h new)
-texts_left (Ok s) opening making old h between put new made notes hardens whole left = tt
-texts_left (Err f) opening making old h between put new made notes hardens whole left = inr (inr (between, put, made, notes, hardens, whole, left))
+texts_left (Ok s) opening making old h between put new made notes untouched hardens whole left = tt
+texts_left (Err f) opening making old h between put new made notes untouched hardens whole left = inr (inr (inl (between, put, made, notes, untouched, hardens, whole, left)))
 
 -- ---- what is answered
 

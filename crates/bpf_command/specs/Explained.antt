@@ -13,7 +13,7 @@ use Rattle.bpf_check.specs.declared.refusal.Refusal.{Refusal}
 use Rattle.bpf_check.specs.RefusalNumbers.{refusal_slot, refusal_number}
 use Rattle.bpf_infer_error.specs.RefusalNumbers.{infer_slot}
 use Rattle.bpf_places.specs.Opened.{Opening}
-use Rattle.bpf_answers.specs.Loaded.{ImageFails, ShortTextAt, TextFails, Tried}
+use Rattle.bpf_answers.specs.Loaded.{ImageFails, ReadableFails, ShortTextAt, Tried}
 use Rattle.bpf_answers.specs.Answer.{Answer, status_of}
 use Rattle.bpf_answers.specs.Answer.Answer.{NoText, NotCertified, NotProposed, Lists, Written}
 use Rattle.bpf_answers.specs.Told.{OutputFails}
@@ -59,7 +59,7 @@ ExplainSays o order old input (Misfit clash) new = λ status. ⊥
 
 abbrev pub ExplainFails : {S : Type 0} → Opening S → Order → S → List ℕ → Subject → S → Failure → Type 0
 ExplainFails o order old input Image new = ImageFails o old input new
-ExplainFails o order old input Text new = TextFails o old input new
+ExplainFails o order old input Text new = ReadableFails o old input new
 ExplainFails o order old input (Certified certificate) new = LoadedFails o order old input certificate.now new
 ExplainFails o order old input (Slot certificate slot) new = LoadedFails o order old input certificate.now new
 ExplainFails o order old input (Inferred least most deep aspect) new = ImageFails o old input new

@@ -1,9 +1,8 @@
 -- What is hardened, and what is put at the names of the answer.
-use Rattle.std.specs.Prelude.{◌≡◌, ◌⊎◌, ◌<◌, ◌≤◌, ℕ, List, true, false, Option, Some, None, IsSomeAnd, ⊤}
+use Rattle.std.specs.Prelude.{◌≡◌, ◌⊎◌, ◌<◌, ℕ, List, true, false, Option, Some, None, IfSome, IsSomeAnd, unwrap_or, ⊤}
 use Rattle.std.specs.Borrow.{Bor}
 use Rattle.bpf_insn.specs.Instruction.{Instructions, slots}
 use Rattle.bpf_insn.specs.Image.{IsProgram, image}
-use Rattle.bpf_insn.specs.Limits.{frame_bytes}
 use Rattle.bpf_follows_law.specs.declared.notes.Bounds.{Bounds}
 use Rattle.bpf_follows_law.specs.declared.notes.Place.{Place}
 use Rattle.bpf_follows_law.specs.Matching.{Matches}
@@ -16,7 +15,7 @@ use Rattle.bpf_places.specs.Opened.{Opening}
 use Rattle.bpf_answers.specs.Loaded.{ImageFails, ImageRefused, LoadsImage, Tried}
 use Rattle.bpf_places.specs.Made.{Making}
 use Rattle.bpf_answers.specs.Answer.{Answer}
-use Rattle.bpf_answers.specs.Answer.Answer.{NoImage, NotHardened, NotShown, Written}
+use Rattle.bpf_answers.specs.Answer.Answer.{NoImage, NotHardened, NotShown, Written, WrittenFor}
 use Rattle.bpf_command.specs.declared.commands.harden.Unshown.{Unshown}
 use Rattle.bpf_command.specs.declared.commands.harden.Unshown.TheVariants.{Memory as NoSpace, Differs}
 use Rattle.bpf_answers.specs.Told.{OutputFails}
@@ -57,51 +56,67 @@ NotBothStand {S} making old h new =
 
 -- ---- both behind OUT
 
--- the contexts and the turns for which it is hardened, and how many of the lowest bytes of each frame the old program has to leave to r10
+-- the contexts and the turns for which it is hardened, and how many of the lowest bytes of each frame the old program leaves to r10
 abbrev pub bounds_of : Hardening → ℕ → Bounds
 bounds_of h untouched = record { length = h.length; padded = h.padded; turns = h.turns; untouched = untouched }
 
--- the notes match, and what was made keeps the meaning of the program, where so many of these bytes are left
-abbrev pub MatchesLeaving : Hardening → Instructions → Instructions → List (Option Place) → Type 0
-MatchesLeaving h program made notes = (untouched : ℕ) × (untouched ≤ frame_bytes) × Matches program made notes (bounds_of h untouched)
+-- how many are asked for: none, unless it is said
+abbrev pub asked_bytes : Hardening → ℕ
+asked_bytes h = unwrap_or h.untouched 0
 
-abbrev pub KeepsLeaving : Hardening → Instructions → Instructions → Type 0
-KeepsLeaving h program made = (untouched : ℕ) × (untouched ≤ frame_bytes) × KeepsMeaning program made (bounds_of h untouched)
+-- so many are those that are asked for, where that is said
+abbrev pub AreLeft : Hardening → ℕ → Type 0
+AreLeft h untouched = IfSome h.untouched (λ m. untouched ≡ m)
 
--- What was made isn't shown to keep the meaning: for want of memory, or, without `--unproved`, since notes don't match, whatever bytes runs leave.
+-- what is said of them: nothing of those that are asked for, else their number
+abbrev pub IsLeftSaid : Hardening → ℕ → Option ℕ → Type 0
+IsLeftSaid h untouched None = untouched ≡ asked_bytes h
+IsLeftSaid h untouched (Some m) = (h.untouched ≡ None) × (m ≡ untouched)
+
+abbrev pub said_answer : Option ℕ → Answer
+said_answer None = Written
+said_answer (Some untouched) = WrittenFor untouched
+
+-- What was made isn't shown to keep the meaning: for want of memory, or, without `--unproved`, since notes don't match.
 abbrev pub IsUnshown : Instructions → Instructions → Hardening → Unshown → Type 0
 IsUnshown program made h NoSpace = ⊤
-IsUnshown program made h (Differs m) = (h.unproved ≡ false) × ((notes : List (Option Place)) × IsMismatch program made notes (bounds_of h 0) m)
+IsUnshown program made h (Differs m) = (h.unproved ≡ false) × ((notes : List (Option Place)) × IsMismatch program made notes (bounds_of h (asked_bytes h)) m)
 
--- The image is a program's, and what was made of it is a program; without `--unproved` it keeps the meaning, since the notes match.
-pub record Hardens {S : Type 0} (opening : Opening S) (old : S) (h : Hardening) (new : S) (made : Instructions) (notes : List (Option Place)) : Type 0 where
+-- The image is a program's, and what was made of it is a program; without `--unproved` it keeps the meaning, since the notes match: on the
+-- contexts and for the turns that were asked for, where runs leave so many bytes to r10.
+pub record Hardens {S : Type 0} (opening : Opening S) (old : S) (h : Hardening) (untouched : ℕ) (new : S) (made : Instructions) (notes : List (Option Place)) : Type 0 where
   pub program : Instructions
   pub loads : LoadsImage opening h.order old h.input.now new program
   pub is_program : IsProgram made.list
-  pub matches : h.unproved ≡ false → MatchesLeaving h program made notes
-  pub keeps : h.unproved ≡ false → KeepsLeaving h program made
+  pub matches : h.unproved ≡ false → Matches program made notes (bounds_of h untouched)
+  pub keeps : h.unproved ≡ false → KeepsMeaning program made (bounds_of h untouched)
 
--- OUT holds the image of the program that was made, and the texts stand at their names; or none of them is opened
+-- OUT holds the image of the program that was made, and the texts stand at their names
+abbrev pub AllStand : {S : Type 0} → Opening S → Making S → S → Hardening → S → Option ℕ → Type 0
+AllStand {S} opening making old h new said =
+    (between put : S) × (made : Instructions) × (notes : List (Option Place)) × (untouched : ℕ) × IsLeftSaid h untouched said × Hardens opening old h untouched between made notes
+    × making between h.output.now (image made.order made.list) true put × BothStand making put h (notes_text notes) new
+
+-- all stand, or none of them is opened
 abbrev pub HardenSays : {S : Type 0} → Opening S → Making S → S → Hardening → S → Answer → Type 0
 HardenSays opening making old h new (NoImage e) = ImageRefused opening h.order old h.input.now new e
 HardenSays opening making old h new (NotHardened e) = (p : Instructions) × LoadsImage opening h.order old h.input.now new p × (harden_slot e < slots p.list)
 HardenSays opening making old h new (NotShown m) =
     (p : Instructions) × (made : Instructions) × LoadsImage opening h.order old h.input.now new p × IsProgram made.list × IsUnshown p made h (Differs m)
-HardenSays {S} opening making old h new Written =
-    (between put : S) × (made : Instructions) × (notes : List (Option Place)) × Hardens opening old h between made notes
-    × making between h.output.now (image made.order made.list) true put × BothStand making put h (notes_text notes) new
+HardenSays opening making old h new Written = AllStand opening making old h new None
+HardenSays opening making old h new (WrittenFor untouched) = AllStand opening making old h new (Some untouched)
 HardenSays opening making old h new answer = ⊥
 
 -- the image can't be put at OUT
 abbrev pub NoOut : {S : Type 0} → Opening S → Making S → S → Hardening → S → Type 0
 NoOut {S} opening making old h new =
-    (between : S) × (made : Instructions) × (notes : List (Option Place)) × Hardens opening old h between made notes
+    (between : S) × (made : Instructions) × (notes : List (Option Place)) × (untouched : ℕ) × Hardens opening old h untouched between made notes
     × making between h.output.now (image made.order made.list) false new
 
 -- it stands at OUT, and of the texts this holds
 abbrev pub BehindOut : {S : Type 0} → Opening S → Making S → S → Hardening → (S → Type 0) → Type 0
 BehindOut {S} opening making old h holds =
-    (between put : S) × (made : Instructions) × (notes : List (Option Place)) × Hardens opening old h between made notes
+    (between put : S) × (made : Instructions) × (notes : List (Option Place)) × (untouched : ℕ) × Hardens opening old h untouched between made notes
     × making between h.output.now (image made.order made.list) true put × holds put
 
 -- the texts are written when OUT stands
@@ -113,9 +128,11 @@ HardenFails opening making old h new (CannotWrite name) =
     ⊎ BehindOut opening making old h (λ put. NotBothPut making put h new (CannotWrite name))
 HardenFails opening making old h new failure = OutputFails failure
 
--- where that fails, the input was opened, or couldn't be, and nothing came to stand at OUT; or OUT stands, and not both texts do
+-- where that fails, the input was opened, or couldn't be, and nothing came to stand at OUT; or OUT stands, and not both texts do; or all
+-- stand, and what is to be said of them isn't
 abbrev pub NotAllMade : {S : Type 0} → Opening S → Making S → S → Hardening → S → Type 0
 NotAllMade opening making old h new =
     Tried opening old h.input.now new
     ⊎ NoOut opening making old h new
     ⊎ BehindOut opening making old h (λ put. NotBothStand making put h new)
+    ⊎ ((said : Option ℕ) × AllStand opening making old h new said)

@@ -1,10 +1,10 @@
 -- What the command answers to its words, whatever they ask for.
-use Rattle.std.specs.Prelude.{◌≡◌, ◌≢◌, ◌⊎◌, ◌&&◌, ⊤, List, [], ◌∷◌, ℕ, Option, Some, None, nat_lt, codes, option_map, unwrap_or, if◌then◌else◌}
+use Rattle.std.specs.Prelude.{◌≡◌, ◌≢◌, ◌⊎◌, ◌&&◌, ◌||◌, ⊤, Bool, true, false, List, [], ◌∷◌, ℕ, Option, Some, None, nat_lt, codes, option_map, unwrap_or, if◌then◌else◌}
 use Rattle.std.specs.Option.{option_or}
 use Rattle.std.specs.Borrow.{Bor}
 use Rattle.std.specs.Io.KnownBytes.{Keeps}
 use Rattle.clap.specs.Words.{Text, subcommand_of}
-use Rattle.bpf_request.specs.CommandLine.{IsAsked, bpf, faults_in, name_of}
+use Rattle.bpf_request.specs.CommandLine.{IsAsked, bpf, faults_in, hardening_of, name_of}
 use Rattle.bpf_places.specs.Opened.{Opening}
 use Rattle.bpf_places.specs.Made.{Making}
 use Rattle.bpf_answers.specs.Loaded.{ImageFails, OpensFirst}
@@ -12,6 +12,8 @@ use Rattle.bpf_answers.specs.Answer.{Answered, Unfinished}
 use Rattle.bpf_command_core.specs.Printed.{LoadedFails, ImageSays, GroupsSay, ListSays, notes_of, AsmSays, AsmFails, NotAssembled, MigrateSays, MigrateFails, NotMigrated, CheckSays}
 use Rattle.bpf_command.specs.Inferred.{InferSays, InferFails, NotInferred}
 use Rattle.bpf_command.specs.Hardened.{HardenFails, HardenSays, NotAllMade}
+use Rattle.bpf_answers.specs.Both.{Pairing}
+use Rattle.bpf_command.specs.Certified.{CertifyWithFails, CertifyWithSays, NotCertifiedWith}
 use Rattle.bpf_command_core.specs.Followed.{FollowsFails, FollowsSays}
 use Rattle.bpf_command_core.specs.Given.{CheckedFails, CheckedLeaves, CheckedSays, RunFails, RunLeaves, RunSays}
 use Rattle.bpf_command_core.specs.Names.{names_checked, names_run}
@@ -19,8 +21,10 @@ use Rattle.bpf_command.specs.Names.{behind_lines, names_explained}
 use Rattle.bpf_command.specs.Explained.{ExplainWithFails, ExplainWithSays}
 use Rattle.bpf_answers.specs.Told.{IsTold}
 use Rattle.std.specs.Str.{bytes_eq}
+use Rattle.bpf_request.specs.declared.certifying.Certifying.{Certifying}
+use Rattle.bpf_request.specs.declared.hardening.Hardening.{Hardening}
 use Rattle.bpf_request.specs.declared.words.Request.{Request}
-use Rattle.bpf_request.specs.declared.words.Request.TheVariants.{Groups, Asm, List as ListOf, Run, Check, RunChecked, Infer, Harden, Follows, Migrate, Explain}
+use Rattle.bpf_request.specs.declared.words.Request.TheVariants.{Groups, Asm, List as ListOf, Run, Check, RunChecked, Infer, Harden, Certify, Follows, Migrate, Explain}
 use Rattle.bpf_request.specs.declared.subject.Aspect.{Aspect}
 use Rattle.bpf_request.specs.declared.subject.Aspect.TheVariants.{Listing, Slot as OneSlot, Graph as Drawn}
 use Rattle.bpf_request.specs.declared.subject.Subject.{Subject}
@@ -70,6 +74,22 @@ same_names (Some first) second = same_name first.now second
 abbrev pub written_twice : List ℕ → (notes changes : Option (Bor (List ℕ))) → Option Failure
 written_twice output notes changes = option_or (option_or (same_name output notes) (same_name output changes)) (same_names notes changes)
 
+-- standard output for a file, where it takes the line
+abbrev pub dashed : List ℕ → Option Failure
+dashed name = if bytes_eq name (codes "-") then Some NotTogether else None
+
+abbrev pub dashed_if : Option (Bor (List ℕ)) → Option Failure
+dashed_if None = None
+dashed_if (Some name) = dashed name.now
+
+-- of what is certified: standard output or one name for two things that are written, or standard input for two that are read
+abbrev pub certify_conflict : Certifying → Option Failure
+certify_conflict c =
+    option_or
+    (option_or (option_or (option_or (option_or (dashed c.output.now) (dashed c.certificate.now)) (dashed_if c.notes)) (dashed_if c.changes))
+    (option_or (option_or (written_twice c.output.now c.notes c.changes) (written_twice c.certificate.now c.notes c.changes)) (same_name c.output.now (Some c.certificate))))
+    (twice c.input.now (name_given c.lines))
+
 -- what can't be explained of this input
 abbrev pub conflict_with : List ℕ → Option (Bor (List ℕ)) → Subject → Option Failure
 conflict_with input lines Image = misplaced lines
@@ -90,74 +110,146 @@ conflict_of (Check input certificate work order) = twice input.now certificate.n
 conflict_of (RunChecked input certificate contexts order) = thrice input.now certificate.now (name_of contexts)
 conflict_of (Infer input least most deep output order) = out_of_order least most
 conflict_of (Harden h) = written_twice h.output.now h.notes h.changes
+conflict_of (Certify c) = certify_conflict c
 conflict_of (Follows f) = thrice f.original.now f.rewritten.now f.notes.now
 conflict_of (Migrate certificate output) = None
 conflict_of (Explain input subject lines order) = conflict_with input.now lines subject
 
+-- ---- names that lead to one file
+
+-- From places and two names to whether what is written for the one comes to stand in the place of what is written for the other.
+abbrev pub Meeting : Type 0 → Type 1
+Meeting S = S → List ℕ → List ℕ → Bool → Type 0
+
+-- the same of a name that may be left out
+abbrev pub MeetsOne : {S : Type 0} → Meeting S → S → List ℕ → Option (Bor (List ℕ)) → Bool → Type 0
+MeetsOne meets s first None one = one ≡ false
+MeetsOne meets s first (Some second) one = meets s first second.now one
+
+abbrev pub MeetEither : {S : Type 0} → Meeting S → S → (first second : Option (Bor (List ℕ))) → Bool → Type 0
+MeetEither meets s None second one = one ≡ false
+MeetEither meets s (Some first) second one = MeetsOne meets s first.now second one
+
+-- What a hardening writes has places of its own, and its notes and changes don't come in the place of the image that is hardened; or some
+-- of this isn't so.
+abbrev pub IsInTheWay : {S : Type 0} → Meeting S → S → Hardening → Bool → Type 0
+IsInTheWay meets s h one =
+    (notes changes both image source : Bool)
+    × MeetsOne meets s h.output.now h.notes notes × MeetsOne meets s h.output.now h.changes changes × MeetEither meets s h.notes h.changes both
+    × MeetsOne meets s h.input.now h.notes image × MeetsOne meets s h.input.now h.changes source × (one ≡ (notes || changes || both || image || source))
+
+-- a certificate doesn't come in the place of other things that are written, or of the image; or some of this isn't so
+abbrev pub IsCertificateInTheWay : {S : Type 0} → Meeting S → S → Certifying → Bool → Type 0
+IsCertificateInTheWay meets s c one =
+    (output notes changes image : Bool)
+    × meets s c.certificate.now c.output.now output × MeetsOne meets s c.certificate.now c.notes notes × MeetsOne meets s c.certificate.now c.changes changes
+    × meets s c.input.now c.certificate.now image × (one ≡ (output || notes || changes || image))
+
+-- nothing that is written comes in the place of the lines of the source; or something does
+abbrev pub AreLinesInTheWay : {S : Type 0} → Meeting S → S → Certifying → Bool → Type 0
+AreLinesInTheWay meets s c one =
+    (output certificate notes changes : Bool)
+    × MeetsOne meets s c.output.now c.lines output × MeetsOne meets s c.certificate.now c.lines certificate
+    × MeetEither meets s c.notes c.lines notes × MeetEither meets s c.changes c.lines changes × (one ≡ (output || certificate || notes || changes))
+
+-- what a certification writes has places of its own, as what a hardening writes has
+abbrev pub IsAnyInTheWay : {S : Type 0} → Meeting S → S → Certifying → Bool → Type 0
+IsAnyInTheWay meets s c one =
+    (hardened certificate lines : Bool)
+    × IsInTheWay meets s (hardening_of c) hardened × IsCertificateInTheWay meets s c certificate × AreLinesInTheWay meets s c lines
+    × (one ≡ (hardened || certificate || lines))
+
+abbrev pub Obstructs : {S : Type 0} → Meeting S → S → Request → Bool → Type 0
+Obstructs meets s (Groups input order) one = one ≡ false
+Obstructs meets s (Asm input output order) one = one ≡ false
+Obstructs meets s (ListOf input slots bytes order) one = one ≡ false
+Obstructs meets s (Run input contexts steps trace order) one = one ≡ false
+Obstructs meets s (Check input certificate work order) one = one ≡ false
+Obstructs meets s (RunChecked input certificate contexts order) one = one ≡ false
+Obstructs meets s (Infer input least most deep output order) one = one ≡ false
+Obstructs meets s (Explain input subject lines order) one = one ≡ false
+Obstructs meets s (Harden h) one = IsInTheWay meets s h one
+Obstructs meets s (Certify c) one = IsAnyInTheWay meets s c one
+Obstructs meets s (Follows f) one = one ≡ false
+Obstructs meets s (Migrate certificate output) one = one ≡ false
+
 -- ---- what is done, and why not
 
 -- The answer to a request, which was printed with its status; what stood at the names that were read, and what was put at OUT.
-abbrev pub Does : {S : Type 0} → Opening S → Making S → S → S → Option (List ℕ) → Option (List ℕ) → Request → ℕ → Type 0
-Does o m old new before after (Groups input order) = Answered (ImageSays o order old input.now new GroupsSay) before after
-Does o m old new before after (Asm input output order) = Answered (AsmSays o m order old input.now output.now new) before after
-Does o m old new before after (ListOf input slots bytes order) = Answered (ImageSays o order old input.now new (ListSays (notes_of slots bytes))) before after
-Does o m old new before after (Run input contexts steps trace order) = λ status. RunSays o order old input.now contexts steps new before after status
-Does o m old new before after (Check input certificate work order) = Answered (CheckSays o order old input.now certificate.now new work) before after
-Does o m old new before after (RunChecked input certificate contexts order) = λ status. CheckedSays o order old input.now certificate.now contexts new before after status
-Does o m old new before after (Infer input least most deep output order) = Answered (InferSays o m order old input.now least most output.now new) before after
-Does o m old new before after (Explain input subject lines order) = ExplainWithSays o order old input.now subject lines new
-Does o m old new before after (Harden h) = Answered (HardenSays o m old h new) before after
-Does o m old new before after (Follows f) = Answered (FollowsSays o old f new) before after
-Does o m old new before after (Migrate certificate output) = Answered (MigrateSays o m old certificate.now output.now new) before after
+abbrev pub Does : {S : Type 0} → Opening S → Making S → Pairing S → S → S → Option (List ℕ) → Option (List ℕ) → Request → ℕ → Type 0
+Does o m b old new before after (Groups input order) = Answered (ImageSays o order old input.now new GroupsSay) before after
+Does o m b old new before after (Asm input output order) = Answered (AsmSays o m order old input.now output.now new) before after
+Does o m b old new before after (ListOf input slots bytes order) = Answered (ImageSays o order old input.now new (ListSays (notes_of slots bytes))) before after
+Does o m b old new before after (Run input contexts steps trace order) = λ status. RunSays o order old input.now contexts steps new before after status
+Does o m b old new before after (Check input certificate work order) = Answered (CheckSays o order old input.now certificate.now new work) before after
+Does o m b old new before after (RunChecked input certificate contexts order) = λ status. CheckedSays o order old input.now certificate.now contexts new before after status
+Does o m b old new before after (Infer input least most deep output order) = Answered (InferSays o m order old input.now least most output.now new) before after
+Does o m b old new before after (Explain input subject lines order) = ExplainWithSays o order old input.now subject lines new
+Does o m b old new before after (Harden h) = Answered (HardenSays o m old h new) before after
+Does o m b old new before after (Certify c) = Answered (CertifyWithSays o m b old c new) before after
+Does o m b old new before after (Follows f) = Answered (FollowsSays o old f new) before after
+Does o m b old new before after (Migrate certificate output) = Answered (MigrateSays o m old certificate.now output.now new) before after
 
 -- What failed of a request without a conflict; what was answered before stands on standard output.
-abbrev pub Misses : {S : Type 0} → Opening S → Making S → S → S → Option (List ℕ) → Option (List ℕ) → Request → Failure → Type 0
-Misses o m old new before after (Groups input order) = ImageFails o old input.now new
-Misses o m old new before after (Asm input output order) = AsmFails o m order old input.now output.now new
-Misses o m old new before after (ListOf input slots bytes order) = ImageFails o old input.now new
-Misses o m old new before after (Run input contexts steps trace order) = RunFails o order old input.now contexts steps new before after
-Misses o m old new before after (Check input certificate work order) = LoadedFails o order old input.now certificate.now new
-Misses o m old new before after (RunChecked input certificate contexts order) = CheckedFails o order old input.now certificate.now contexts new before after
-Misses o m old new before after (Infer input least most deep output order) = InferFails o m order old input.now least most output.now new
-Misses o m old new before after (Explain input subject lines order) = ExplainWithFails o order old input.now subject lines new
-Misses o m old new before after (Harden h) = HardenFails o m old h new
-Misses o m old new before after (Follows f) = FollowsFails o old f new
-Misses o m old new before after (Migrate certificate output) = MigrateFails o m old certificate.now output.now new
+abbrev pub Misses : {S : Type 0} → Opening S → Making S → Pairing S → S → S → Option (List ℕ) → Option (List ℕ) → Request → Failure → Type 0
+Misses o m b old new before after (Groups input order) = ImageFails o old input.now new
+Misses o m b old new before after (Asm input output order) = AsmFails o m order old input.now output.now new
+Misses o m b old new before after (ListOf input slots bytes order) = ImageFails o old input.now new
+Misses o m b old new before after (Run input contexts steps trace order) = RunFails o order old input.now contexts steps new before after
+Misses o m b old new before after (Check input certificate work order) = LoadedFails o order old input.now certificate.now new
+Misses o m b old new before after (RunChecked input certificate contexts order) = CheckedFails o order old input.now certificate.now contexts new before after
+Misses o m b old new before after (Infer input least most deep output order) = InferFails o m order old input.now least most output.now new
+Misses o m b old new before after (Explain input subject lines order) = ExplainWithFails o order old input.now subject lines new
+Misses o m b old new before after (Harden h) = HardenFails o m old h new
+Misses o m b old new before after (Certify c) = CertifyWithFails o m b old c new
+Misses o m b old new before after (Follows f) = FollowsFails o old f new
+Misses o m b old new before after (Migrate certificate output) = MigrateFails o m old certificate.now output.now new
 
 -- What stands on standard output where a request without a conflict failed: nothing new, or a beginning of its answer; behind the answers to
 -- the lines before, where contexts are in lines. Of the words of `explain` nothing is said.
-abbrev pub Leaves : {S : Type 0} → Opening S → Making S → S → S → Option (List ℕ) → Option (List ℕ) → Request → Type 0
-Leaves o m old new before after (Groups input order) = Unfinished (ImageSays o order old input.now new GroupsSay) before after
-Leaves o m old new before after (Asm input output order) = Unfinished (AsmSays o m order old input.now output.now new) before after
-Leaves o m old new before after (ListOf input slots bytes order) = Unfinished (ImageSays o order old input.now new (ListSays (notes_of slots bytes))) before after
-Leaves o m old new before after (Run input contexts steps trace order) = RunLeaves o order old input.now contexts steps new before after
-Leaves o m old new before after (Check input certificate work order) = Unfinished (CheckSays o order old input.now certificate.now new work) before after
-Leaves o m old new before after (RunChecked input certificate contexts order) = CheckedLeaves o order old input.now certificate.now contexts new before after
-Leaves o m old new before after (Infer input least most deep output order) = Unfinished (InferSays o m order old input.now least most output.now new) before after
-Leaves o m old new before after (Explain input subject lines order) = ⊤
-Leaves o m old new before after (Harden h) = Unfinished (HardenSays o m old h new) before after
-Leaves o m old new before after (Follows f) = Unfinished (FollowsSays o old f new) before after
-Leaves o m old new before after (Migrate certificate output) = Unfinished (MigrateSays o m old certificate.now output.now new) before after
+abbrev pub Leaves : {S : Type 0} → Opening S → Making S → Pairing S → S → S → Option (List ℕ) → Option (List ℕ) → Request → Type 0
+Leaves o m b old new before after (Groups input order) = Unfinished (ImageSays o order old input.now new GroupsSay) before after
+Leaves o m b old new before after (Asm input output order) = Unfinished (AsmSays o m order old input.now output.now new) before after
+Leaves o m b old new before after (ListOf input slots bytes order) = Unfinished (ImageSays o order old input.now new (ListSays (notes_of slots bytes))) before after
+Leaves o m b old new before after (Run input contexts steps trace order) = RunLeaves o order old input.now contexts steps new before after
+Leaves o m b old new before after (Check input certificate work order) = Unfinished (CheckSays o order old input.now certificate.now new work) before after
+Leaves o m b old new before after (RunChecked input certificate contexts order) = CheckedLeaves o order old input.now certificate.now contexts new before after
+Leaves o m b old new before after (Infer input least most deep output order) = Unfinished (InferSays o m order old input.now least most output.now new) before after
+Leaves o m b old new before after (Explain input subject lines order) = ⊤
+Leaves o m b old new before after (Harden h) = Unfinished (HardenSays o m old h new) before after
+Leaves o m b old new before after (Certify c) = Unfinished (CertifyWithSays o m b old c new) before after
+Leaves o m b old new before after (Follows f) = Unfinished (FollowsSays o old f new) before after
+Leaves o m b old new before after (Migrate certificate output) = Unfinished (MigrateSays o m old certificate.now output.now new) before after
 
 -- What was done at the names of a request that failed: those that it reads were opened in their order, up to one; what it makes isn't there.
-abbrev pub NotMade : {S : Type 0} → Opening S → Making S → S → S → Request → Type 0
-NotMade o m old new (Groups input order) = OpensFirst o (input.now ∷ []) old new
-NotMade o m old new (Asm input output order) = NotAssembled o m order old input.now output.now new
-NotMade o m old new (ListOf input slots bytes order) = OpensFirst o (input.now ∷ []) old new
-NotMade o m old new (Run input contexts steps trace order) = OpensFirst o (names_run input.now contexts) old new
-NotMade o m old new (Check input certificate work order) = OpensFirst o (input.now ∷ certificate.now ∷ []) old new
-NotMade o m old new (RunChecked input certificate contexts order) = OpensFirst o (names_checked input.now certificate.now contexts) old new
-NotMade o m old new (Infer input least most deep output order) = NotInferred o m order old input.now least most output.now new
-NotMade o m old new (Explain input subject lines order) = OpensFirst o (behind_lines lines (names_explained input.now subject)) old new
-NotMade o m old new (Harden h) = NotAllMade o m old h new
-NotMade o m old new (Follows f) = OpensFirst o (f.original.now ∷ f.rewritten.now ∷ f.notes.now ∷ []) old new
-NotMade o m old new (Migrate certificate output) = NotMigrated o m old certificate.now output.now new
+abbrev pub NotMade : {S : Type 0} → Opening S → Making S → Pairing S → S → S → Request → Type 0
+NotMade o m b old new (Groups input order) = OpensFirst o (input.now ∷ []) old new
+NotMade o m b old new (Asm input output order) = NotAssembled o m order old input.now output.now new
+NotMade o m b old new (ListOf input slots bytes order) = OpensFirst o (input.now ∷ []) old new
+NotMade o m b old new (Run input contexts steps trace order) = OpensFirst o (names_run input.now contexts) old new
+NotMade o m b old new (Check input certificate work order) = OpensFirst o (input.now ∷ certificate.now ∷ []) old new
+NotMade o m b old new (RunChecked input certificate contexts order) = OpensFirst o (names_checked input.now certificate.now contexts) old new
+NotMade o m b old new (Infer input least most deep output order) = NotInferred o m order old input.now least most output.now new
+NotMade o m b old new (Explain input subject lines order) = OpensFirst o (behind_lines lines (names_explained input.now subject)) old new
+NotMade o m b old new (Harden h) = NotAllMade o m old h new
+NotMade o m b old new (Certify c) = NotCertifiedWith o m b old c new
+NotMade o m b old new (Follows f) = OpensFirst o (f.original.now ∷ f.rewritten.now ∷ f.notes.now ∷ []) old new
+NotMade o m b old new (Migrate certificate output) = NotMigrated o m old certificate.now output.now new
 
--- A request is in conflict, before any name is opened or anything is printed; or something of it failed.
-abbrev pub Fails : {S : Type 0} → Opening S → Making S → S → S → Option (List ℕ) → Option (List ℕ) → Request → Failure → Type 0
-Fails o m old new before after request failure =
-    ((conflict_of request ≡ Some failure) × (new ≡ old) × Keeps before after)
-    ⊎ ((conflict_of request ≡ None) × Misses o m old new before after request failure × Leaves o m old new before after request × NotMade o m old new request)
+-- why nothing is tried: words that can't stand together, names that lead to one file, or no memory to tell that
+abbrev pub IsStopped : {S : Type 0} → Meeting S → S → Request → Failure → Type 0
+IsStopped meets s request failure =
+    (conflict_of request ≡ Some failure) ⊎ ((failure ≡ NotTogether) × Obstructs meets s request true) ⊎ (failure ≡ NoMemory)
+
+-- A request is stopped, before any name is opened or anything is printed; or something of it failed.
+abbrev pub Fails : {S : Type 0} → Meeting S → Opening S → Making S → Pairing S → S → S → Option (List ℕ) → Option (List ℕ) → Request → Failure → Type 0
+Fails meets o m b old new before after request failure =
+    (IsStopped meets old request failure × (new ≡ old) × Keeps before after)
+    ⊎ ((conflict_of request ≡ None) × Misses o m b old new before after request failure × Leaves o m b old new before after request × NotMade o m b old new request)
+
+-- what is done of a request with nothing in its way
+abbrev pub Serves : {S : Type 0} → Meeting S → Opening S → Making S → Pairing S → S → S → Option (List ℕ) → Option (List ℕ) → Request → ℕ → Type 0
+Serves meets o m b old new before after request status = Obstructs meets old request false × Does o m b old new before after request status
 
 -- ---- the answer and its status
 

@@ -1,22 +1,29 @@
 //! One line that helps behind a refusal or a failure, on a terminal. Elsewhere nothing is told.
 
-use crate::aside::Aside;
+ghost use Rattle.std.specs.Prelude.{◌≡◌, IfOk};
+ghost use Rattle.std.specs.String.{string_bytes};
+ghost use Rattle.bpf_follows_law.specs.Matching.{Matches};
+ghost use Rattle.bpf_follows.specs.Mismatches.{IsMismatch};
+ghost use Rattle.bpf_command.specs.Advice.{kept_text};
+
+use crate::aside::Terminal;
 use crate::shown::Line;
 use bpf_answers::{ContextError, Failure};
 use bpf_explain::may_be_found;
 use bpf_follows::Mismatch;
+use bpf_follows_law::{Bounds, Place};
 use bpf_harden::HardenError;
 use bpf_infer::{Condition, InferError, Wanted};
 use bpf_insn::{MAX_CONTEXT, Order, Program};
 use bpf_packets::HEAD_BYTES;
 use bpf_request::{Clash, Contexts, Hardening, Request, Subject};
+use std::alloc::{AllocError, Global};
 use std::fmt::{self, Display};
 use std::io::Write;
 
 /// Tells a line on a terminal. Whether it can be written makes no difference.
-fn tell_line<H: Aside, D: Display + Drop>(aside: &H, line: D) {
-    if aside.is_terminal() {
-        let mut terminal = aside.stream();
+fn tell_line<H: Terminal, D: Display + Drop>(aside: &H, line: D) {
+    if let Some(mut terminal) = aside.terminal() {
         let _ = write!(Line::new(&mut terminal), "{line}");
         let _ = write!(terminal, "\n");
     }
@@ -40,7 +47,7 @@ fn order_word(order: Order) -> &'static str {
 // ---- a refusal of an image, a text or a certificate
 
 /// Names the command that tells why a request was refused, if one tells it of all its refusals. A search tells of its own.
-pub(crate) fn after_refusal<H: Aside>(aside: &H, request: Request<'_>) {
+pub(crate) fn after_refusal<H: Terminal>(aside: &H, request: Request<'_>) {
     let (flags, order, input, certificate) = match request {
         Request::Groups { input, order } | Request::List { input, order, .. } => {
             ("", order, input, None)
@@ -65,7 +72,7 @@ pub(crate) fn after_refusal<H: Aside>(aside: &H, request: Request<'_>) {
 }
 
 /// Names the command that tells why an image was refused.
-pub(crate) fn after_image<H: Aside>(aside: &H, input: &str, order: Order) {
+pub(crate) fn after_image<H: Terminal>(aside: &H, input: &str, order: Order) {
     let order = order_word(order);
     tell!(aside, "`bpf explain {order}{input}` tells why")
 }
@@ -128,7 +135,7 @@ fn may_be_hardened(error: InferError) -> bool {
 
 /// Names what may help where no certificate was found: the deep search, hardening, the words of the search. Only contexts of one
 /// length are hardened for.
-pub(crate) fn after_search<H: Aside>(
+pub(crate) fn after_search<H: Terminal>(
     aside: &H,
     program: &Program,
     sought: Sought<'_>,
@@ -184,7 +191,7 @@ fn showing<'a>(asked: Hardening<'a>, slot: u32) -> Explaining<'a> {
 }
 
 /// Names the command that shows the instruction for which a program isn't hardened.
-pub(crate) fn after_hardening<H: Aside>(aside: &H, asked: Hardening<'_>, error: HardenError) {
+pub(crate) fn after_hardening<H: Terminal>(aside: &H, asked: Hardening<'_>, error: HardenError) {
     if let HardenError::Memory = error {
         return;
     }
@@ -194,22 +201,49 @@ pub(crate) fn after_hardening<H: Aside>(aside: &H, asked: Hardening<'_>, error: 
 
 // ---- what a hardened program is shown to keep
 
-/// Tells that notes show that a hardened program keeps the meaning, and of which runs.
-pub(crate) fn after_proof<H: Aside>(aside: &H, turns: u32, untouched: u32) {
+/// Notes of a hardened program, and the contexts and runs for which they were judged.
+#[derive(Clone, Copy)]
+pub(crate) struct Judged<'a> {
+    pub old: &'a Program,
+    pub new: &'a Program,
+    pub notes: &'a [Option<Place>],
+    pub bounds: Bounds,
+}
+
+/// What is told of runs whose meaning is kept.
+fn kept_line(alloc: Global, bounds: Bounds) -> Result<String, AllocError>
+    ensures { IfOk result (λ line. string_bytes line ≡ kept_text bounds) }
+{
+    let Bounds {
+        turns,
+        untouched,
+        ..
+    } = bounds;
     if untouched == 0 {
-        return tell!(
-            aside,
+        format!(in alloc;
             "shown to keep the meaning of runs that come to no instruction more than {turns} times"
-        );
+        )
+    } else {
+        format!(in alloc;
+            "shown to keep the meaning of runs that come to no instruction more than {turns} times, and to the lowest {untouched} bytes of a frame by r10 alone"
+        )
     }
-    tell!(
-        aside,
-        "shown to keep the meaning of runs that come to no instruction more than {turns} times, and to the lowest {untouched} bytes of a frame by r10 alone"
-    )
+}
+
+/// Tells that notes show that a hardened program keeps the meaning, and of which runs.
+pub(crate) fn after_proof<H: Terminal>(alloc: Global, aside: &H, judged: Judged<'_>)
+    requires { Matches judged.old.now judged.new.now judged.notes.now judged.bounds }
+{
+    if let Ok(line) = kept_line(alloc, judged.bounds) {
+        tell_line(aside, line);
+    }
 }
 
 /// Tells what of the notes of a hardened program fails.
-pub(crate) fn after_mismatch<H: Aside>(aside: &H, mismatch: Mismatch) {
+pub(crate) fn after_mismatch<H: Terminal>(aside: &H, judged: Judged<'_>, mismatch: Mismatch)
+    requires { IsMismatch judged.old.now judged.new.now judged.notes.now judged.bounds mismatch }
+{
+    let _bounds = judged.bounds;
     let (number, slot) = (mismatch.number(), mismatch.slot());
     tell!(
         aside,
@@ -218,7 +252,7 @@ pub(crate) fn after_mismatch<H: Aside>(aside: &H, mismatch: Mismatch) {
 }
 
 /// Tells what fails of the notes of a program that isn't written for that, and names the command that shows where.
-pub(crate) fn after_unshown<H: Aside>(aside: &H, asked: Hardening<'_>, mismatch: Mismatch) {
+pub(crate) fn after_unshown<H: Terminal>(aside: &H, asked: Hardening<'_>, mismatch: Mismatch) {
     let (number, showing) = (mismatch.number(), showing(asked, mismatch.slot()));
     tell!(
         aside,
@@ -253,7 +287,12 @@ fn misfit_text(request: Request<'_>) -> Option<&'static str> {
         Request::Explain { lines: Some(_), .. } => Some(
             "--lines goes with CERT or --infer, and not with --dot",
         ),
-        Request::Harden(_) => Some("OUT, --notes and --changes are names of their own"),
+        Request::Certify(_) => Some(
+            "OUT, CERT, --notes and --changes lead to files of their own; CERT, --notes and --changes not to IN, and none of them to --lines",
+        ),
+        Request::Harden(_) => Some(
+            "OUT, --notes and --changes lead to files of their own, and neither --notes nor --changes to IN",
+        ),
         _ => None,
     }
 }
@@ -274,7 +313,7 @@ fn context_word<'a>(request: Request<'a>) -> Option<&'a str> {
 }
 
 /// Tells more of a failure that lies in the words: the word that spells no bytes, or which words don't go together.
-pub(crate) fn after_failure<H: Aside>(aside: &H, request: Request<'_>, failure: Failure<'_>) {
+pub(crate) fn after_failure<H: Terminal>(aside: &H, request: Request<'_>, failure: Failure<'_>) {
     match failure {
         Failure::BadContext(ContextError::BadHex) => {
             if let Some(word) = context_word(request) {

@@ -3,25 +3,30 @@
 use bpf_infer::{Unwatched, Watch};
 use std::io::{Sink, Write, sink};
 
-/// Tells people what no answer depends on: how far a search is, the steps of a run, what may help.
-pub trait Aside: Watch {
+/// Where people read at once.
+pub trait Terminal {
     type Stream: Write + Drop;
 
-    /// Where it is told.
-    fn stream(&self) -> Self::Stream;
+    /// The terminal; None where standard error is a file or a pipe, and nobody is told what helps.
+    fn terminal(&self) -> Option<Self::Stream>;
+}
 
-    /// Whether that is a terminal, and no file and no pipe.
-    fn is_terminal(&self) -> bool;
+/// Tells people what no answer depends on: how far a search is, what may help, and the steps of a run.
+pub trait Aside: Watch + Terminal {
+    /// Where the steps of a run are told, whatever that is.
+    fn stream(&self) -> Self::Stream;
+}
+
+impl Terminal for Unwatched {
+    type Stream = Sink;
+
+    fn terminal(&self) -> Option<Sink> {
+        None
+    }
 }
 
 impl Aside for Unwatched {
-    type Stream = Sink;
-
     fn stream(&self) -> Sink {
         sink()
-    }
-
-    fn is_terminal(&self) -> bool {
-        false
     }
 }

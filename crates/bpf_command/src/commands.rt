@@ -1,11 +1,13 @@
-//! The commands that search, harden and explain, each a function from places to a status; and what is told of runs.
+//! The commands that search, harden, certify and explain, each a function from places to a status; and what is told of runs.
 
+mod certify;
 mod changes;
 mod explain;
 mod harden;
 mod infer;
 mod trace;
 
+pub use certify::certified;
 pub use explain::explained;
 pub use harden::hardened;
 pub use infer::inferred;

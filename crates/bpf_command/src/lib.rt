@@ -6,8 +6,9 @@ mod aside;
 mod commands;
 mod progress;
 mod response;
+mod sentences;
 mod shown;
 
-pub use aside::Aside;
+pub use aside::{Aside, Terminal};
 pub use progress::Progress;
 pub use response::{fail, respond};

@@ -2,7 +2,7 @@
 
 ghost use Rattle.std.specs.Prelude.{◌≡◌, false};
 
-use crate::aside::Aside;
+use crate::aside::{Aside, Terminal};
 use bpf_infer::Watch;
 use std::io::{IsTerminal, Write};
 use std::rt::Clock;
@@ -75,14 +75,20 @@ impl<'a, C: Clock, E: Write + IsTerminal + Drop> Watch for Progress<'a, C, E> {
     }
 }
 
-impl<'a, C: Clock, E: Write + IsTerminal + Copy + Drop> Aside for Progress<'a, C, E> {
+impl<'a, C: Clock, E: Write + IsTerminal + Copy + Drop> Terminal for Progress<'a, C, E> {
     type Stream = E;
 
+    fn terminal(&self) -> Option<E> {
+        if self.terminal.is_terminal() {
+            Some(self.terminal)
+        } else {
+            None
+        }
+    }
+}
+
+impl<'a, C: Clock, E: Write + IsTerminal + Copy + Drop> Aside for Progress<'a, C, E> {
     fn stream(&self) -> E {
         self.terminal
-    }
-
-    fn is_terminal(&self) -> bool {
-        self.terminal.is_terminal()
     }
 }

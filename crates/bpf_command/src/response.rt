@@ -4,21 +4,22 @@ ghost use Rattle.std.specs.Prelude.{◌≡◌, IfOk, IfErr, None, map};
 ghost use Rattle.std.specs.Io.KnownBytes.{Keeps};
 ghost use Rattle.std.specs.String.{string_bytes};
 ghost use Rattle.bpf_places.specs.Made.{making};
-ghost use Rattle.bpf_command.specs.Response.{Does, Fails, Leaves, Misses, NotMade, Responds, conflict_of, conflict_with, misplaced, misplaced_in, name_given, out_of_order, same_name, same_names, thrice, twice, written_twice};
-ghost use Rattle.bpf_answers.specs.Told.{IsTold};
+ghost use Rattle.bpf_answers.specs.Both.{pairing};
+ghost use Rattle.bpf_command.specs.Response.{Does, Fails, IsAnyInTheWay, IsCertificateInTheWay, IsInTheWay, AreLinesInTheWay, Leaves, MeetEither, MeetsOne, Misses, NotMade, Obstructs, Responds, Serves, certify_conflict, conflict_of, conflict_with, dashed, dashed_if, misplaced, misplaced_in, name_given, out_of_order, same_name, same_names, thrice, twice, written_twice};
+ghost use Rattle.bpf_answers.specs.Told.{IsTold, Tells};
 
 use crate::advice::{after_failure, after_refusal};
 use crate::aside::Aside;
-use crate::commands::{Trace, explained, hardened, inferred};
+use crate::commands::{Trace, certified, explained, hardened, inferred};
 use crate::shown::tell_mistake;
-use bpf_answers::{BAD_WORDS, FAILED, Failure, REFUSED, tell};
+use bpf_answers::{BAD_WORDS, CLOSED, FAILED, Failure, REFUSED, tell};
 use bpf_command_core::{
     assembled, checked, followed, grouped, listed, migrated, ran_checked_on, ran_on,
 };
-use bpf_places::Places;
-use bpf_request::{Aspect, Request, Subject, request_of};
+use bpf_places::{Cause, Places};
+use bpf_request::{Aspect, Certifying, Hardening, Request, Subject, request_of};
 use clap::error::ErrorKind;
-use std::alloc::Global;
+use std::alloc::{AllocError, Global};
 use std::io::Write;
 
 /// Standard input can be read once.
@@ -112,6 +113,42 @@ fn written_twice(
         .or(same_names(notes, changes))
 }
 
+/// Standard output takes the line, and no file.
+fn dashed(name: &str) -> Option<Failure<'static>>
+    ensures { result ≡ dashed name.now }
+{
+    if name == "-" {
+        Some(Failure::NotTogether)
+    } else {
+        None
+    }
+}
+
+/// The same of a name that may be left out.
+fn dashed_if(name: Option<&str>) -> Option<Failure<'static>>
+    ensures { result ≡ dashed_if name.entry }
+{
+    match name {
+        Some(name) => dashed(name),
+        None => None,
+    }
+}
+
+/// What is certified is written to files of its own, and standard input is read once.
+fn certify_conflict(asked: Certifying<'_>) -> Option<Failure<'static>>
+    ensures { result ≡ certify_conflict asked.entry }
+{
+    let dashes = dashed(asked.output)
+        .or(dashed(asked.certificate))
+        .or(dashed_if(asked.notes))
+        .or(dashed_if(asked.changes));
+    let twice_written = written_twice(asked.output, asked.notes, asked.changes)
+        .or(written_twice(asked.certificate, asked.notes, asked.changes))
+        .or(same_name(asked.output, Some(asked.certificate)));
+    let twice_read = twice(asked.input, name_given(asked.lines));
+    dashes.or(twice_written).or(twice_read)
+}
+
 /// What can't be explained of this input.
 fn conflict_with(input: &str, lines: Option<&str>, subject: Subject<'_>) -> Option<Failure<'static>>
     ensures { result ≡ conflict_with input.now lines.entry subject.entry }
@@ -166,7 +203,93 @@ fn conflict_in(request: Request<'_>) -> Option<Failure<'static>>
         } => thrice(input, certificate, contexts.name()),
         Request::Infer { least, most, .. } => out_of_order(least, most),
         Request::Harden(asked) => written_twice(asked.output, asked.notes, asked.changes),
+        Request::Certify(asked) => certify_conflict(asked),
         Request::Follows(asked) => thrice(asked.original, asked.rewritten, asked.notes),
+    }
+}
+
+/// Whether what is written for a name, if it is given, comes to stand in the place of what is written for another one.
+fn meets_one<P: Places>(places: &P, first: &str, second: Option<&str>) -> Result<bool, AllocError>
+    ensures { IfOk result (MeetsOne P.meets places.now first.now second.entry) }
+{
+    match second {
+        Some(second) => places.lead_to_one(first, second),
+        None => Ok(false),
+    }
+}
+
+/// The same where neither may be given.
+fn meet_either<P: Places>(
+    places: &P,
+    first: Option<&str>,
+    second: Option<&str>,
+) -> Result<bool, AllocError>
+    ensures { IfOk result (MeetEither P.meets places.now first.entry second.entry) }
+{
+    match first {
+        Some(first) => meets_one(places, first, second),
+        None => Ok(false),
+    }
+}
+
+/// Whether what is written of a hardening would come in the place of other things that are, or of the image.
+fn is_in_the_way<P: Places>(places: &P, asked: Hardening<'_>) -> Result<bool, AllocError>
+    ensures { IfOk result (IsInTheWay P.meets places.now asked.entry) }
+{
+    let notes = meets_one(places, asked.output, asked.notes)?;
+    let changes = meets_one(places, asked.output, asked.changes)?;
+    let both = meet_either(places, asked.notes, asked.changes)?;
+    let image = meets_one(places, asked.input, asked.notes)?;
+    let source = meets_one(places, asked.input, asked.changes)?;
+    Ok(notes || changes || both || image || source)
+}
+
+/// Whether a certificate would come in the place of other things that are written, or of the image.
+fn is_certificate_in_the_way<P: Places>(
+    places: &P,
+    asked: Certifying<'_>,
+) -> Result<bool, AllocError>
+    ensures { IfOk result (IsCertificateInTheWay P.meets places.now asked.entry) }
+{
+    let output = places.lead_to_one(asked.certificate, asked.output)?;
+    let notes = meets_one(places, asked.certificate, asked.notes)?;
+    let changes = meets_one(places, asked.certificate, asked.changes)?;
+    let image = places.lead_to_one(asked.input, asked.certificate)?;
+    Ok(output || notes || changes || image)
+}
+
+/// Whether something that is written would come in the place of the lines of the source.
+fn are_lines_in_the_way<P: Places>(places: &P, asked: Certifying<'_>) -> Result<bool, AllocError>
+    ensures { IfOk result (AreLinesInTheWay P.meets places.now asked.entry) }
+{
+    let output = meets_one(places, asked.output, asked.lines)?;
+    let certificate = meets_one(places, asked.certificate, asked.lines)?;
+    let notes = meet_either(places, asked.notes, asked.lines)?;
+    let changes = meet_either(places, asked.changes, asked.lines)?;
+    Ok(output || certificate || notes || changes)
+}
+
+/// Whether what is written of a certification would come in the place of other things that are, or of what is read.
+fn is_any_in_the_way<P: Places>(places: &P, asked: Certifying<'_>) -> Result<bool, AllocError>
+    ensures { IfOk result (IsAnyInTheWay P.meets places.now asked.entry) }
+{
+    let hardened = is_in_the_way(places, asked.hardening())?;
+    let certificate = is_certificate_in_the_way(places, asked)?;
+    let lines = are_lines_in_the_way(places, asked)?;
+    Ok(hardened || certificate || lines)
+}
+
+/// Whether names of a request lead to one file where they may not.
+fn obstructs<P: Places>(places: &P, request: Request<'_>) -> Result<bool, AllocError>
+    ensures { IfOk result (Obstructs P.meets places.now request.entry) }
+{
+    match request {
+        Request::Harden(asked) => is_in_the_way(places, asked),
+        Request::Certify(asked) => is_any_in_the_way(places, asked),
+        Request::Groups { .. } | Request::Asm { .. } | Request::List { .. } => Ok(false),
+        Request::Run { .. } | Request::Check { .. } | Request::RunChecked { .. } => Ok(false),
+        Request::Infer { .. } | Request::Explain { .. } => Ok(false),
+        Request::Follows(_) | Request::Migrate { .. } => Ok(false),
     }
 }
 
@@ -178,13 +301,13 @@ fn carry_out<'a, P: Places, W: Write, H: Aside>(
     out: &mut W,
     aside: &mut H,
 ) -> Result<u8, Failure<'a>>
-    ensures ok { IfOk result (Does P.opens (making P.creates P.ends P.Writer.contents) places.old places.new
+    ensures ok { IfOk result (Does P.opens (making P.creates P.ends P.Writer.contents) (pairing P.creates P.ends P.Writer.contents) places.old places.new
         (W.contents out.old) (W.contents out.new) request.entry) }
-    ensures err { IfErr result (Misses P.opens (making P.creates P.ends P.Writer.contents) places.old places.new
+    ensures err { IfErr result (Misses P.opens (making P.creates P.ends P.Writer.contents) (pairing P.creates P.ends P.Writer.contents) places.old places.new
         (W.contents out.old) (W.contents out.new) request.entry) }
-    ensures begun { IfErr result (λ _. Leaves P.opens (making P.creates P.ends P.Writer.contents) places.old places.new
+    ensures begun { IfErr result (λ _. Leaves P.opens (making P.creates P.ends P.Writer.contents) (pairing P.creates P.ends P.Writer.contents) places.old places.new
         (W.contents out.old) (W.contents out.new) request.entry) }
-    ensures names { IfErr result (λ _. NotMade P.opens (making P.creates P.ends P.Writer.contents) places.old places.new request.entry) }
+    ensures names { IfErr result (λ _. NotMade P.opens (making P.creates P.ends P.Writer.contents) (pairing P.creates P.ends P.Writer.contents) places.old places.new request.entry) }
 {
     match request {
         Request::Groups { input, order } => grouped(alloc, places, out, input, order),
@@ -235,6 +358,7 @@ fn carry_out<'a, P: Places, W: Write, H: Aside>(
             alloc, places, out, aside, input, least, most, deep, output, order,
         ),
         Request::Harden(asked) => hardened(alloc, places, out, &*aside, asked),
+        Request::Certify(asked) => certified(alloc, places, out, &*aside, asked),
         Request::Follows(asked) => followed(alloc, places, out, asked),
         Request::Explain {
             input,
@@ -249,7 +373,7 @@ fn carry_out<'a, P: Places, W: Write, H: Aside>(
     }
 }
 
-/// Does what is asked for, unless two words can't stand together.
+/// Does what is asked for, unless two words can't stand together or two names lead to one file.
 fn perform<'a, P: Places, W: Write, H: Aside>(
     alloc: Global,
     request: Request<'a>,
@@ -257,30 +381,39 @@ fn perform<'a, P: Places, W: Write, H: Aside>(
     out: &mut W,
     aside: &mut H,
 ) -> Result<u8, Failure<'a>>
-    ensures ok { IfOk result (λ status. (conflict_of request.entry ≡ None) × Does P.opens (making P.creates P.ends P.Writer.contents) places.old
-        places.new (W.contents out.old) (W.contents out.new) request.entry status) }
-    ensures err { IfErr result (Fails P.opens (making P.creates P.ends P.Writer.contents) places.old places.new
+    ensures ok { IfOk result (λ status. (conflict_of request.entry ≡ None) × Serves P.meets P.opens (making P.creates P.ends P.Writer.contents) (pairing P.creates P.ends P.Writer.contents)
+        places.old places.new (W.contents out.old) (W.contents out.new) request.entry status) }
+    ensures err { IfErr result (Fails P.meets P.opens (making P.creates P.ends P.Writer.contents) (pairing P.creates P.ends P.Writer.contents) places.old places.new
         (W.contents out.old) (W.contents out.new) request.entry) }
 {
     match conflict_in(request) {
         Some(conflict) => Err(conflict),
-        None => carry_out(alloc, request, places, out, aside),
+        None => match obstructs(&*places, request) {
+            Ok(false) => carry_out(alloc, request, places, out, aside),
+            Ok(true) => Err(Failure::NotTogether),
+            Err(_no_memory) => Err(Failure::NoMemory),
+        },
     }
 }
 
-/// Tells a failure, and answers its status; 3 where standard error fails as well, for there is nowhere left to tell that.
-pub fn fail<E: Write>(failure: Failure<'_>, err: &mut E) -> u8
-    ensures { IsTold failure.entry result (E.contents err.old) (E.contents err.new) }
+/// Tells a failure with its cause, and answers its status; 3 where standard error fails as well, for there is nowhere left to tell that.
+/// Of a closed pipe, as before `head -1`, nothing is told.
+pub fn fail<E: Write>(failure: Failure<'_>, cause: Cause, err: &mut E) -> u8
+    ensures exact { Tells failure.entry cause result (E.contents err.old) (E.contents err.new) }
+    ensures told { IsTold failure.entry result (E.contents err.old) (E.contents err.new) }
 {
-    match tell(failure, err) {
+    if failure.is_closed(cause) {
+        return CLOSED;
+    }
+    match tell(failure, cause, err) {
         Ok(()) => failure.status(),
         Err(_) => FAILED,
     }
 }
 
 /// Does what the words ask for, the command's own name first, and answers the status: 0 done, 1 refused, 2 words that are
-/// not understood, 3 where a file, the output or memory failed. On the side people are told how far a search is, and the steps
-/// of a run.
+/// not understood, 3 where a file, the output or memory failed, 141 where whoever was to read the answer has gone. On the side people are
+/// told how far a search is, and the steps of a run.
 pub fn respond<P: Places, W: Write, E: Write, H: Aside>(
     alloc: Global,
     words: &[String],
@@ -289,15 +422,15 @@ pub fn respond<P: Places, W: Write, E: Write, H: Aside>(
     err: &mut E,
     aside: &mut H,
 ) -> u8
-    ensures { Responds (Does P.opens (making P.creates P.ends P.Writer.contents) places.old places.new (W.contents out.old) (W.contents out.new))
-        (Fails P.opens (making P.creates P.ends P.Writer.contents) places.old places.new (W.contents out.old) (W.contents out.new))
+    ensures { Responds (Serves P.meets P.opens (making P.creates P.ends P.Writer.contents) (pairing P.creates P.ends P.Writer.contents) places.old places.new (W.contents out.old) (W.contents out.new))
+        (Fails P.meets P.opens (making P.creates P.ends P.Writer.contents) (pairing P.creates P.ends P.Writer.contents) places.old places.new (W.contents out.old) (W.contents out.new))
         ((places.new ≡ places.old) × Keeps (W.contents out.old) (W.contents out.new)) (map (λ s. string_bytes s) words.now) result
         (E.contents err.old) (E.contents err.new) }
 {
     let request = match request_of(alloc, words) {
         Ok(request) => request,
         Err(error) if error.kind() == ErrorKind::OutOfMemory => {
-            return fail(Failure::NoMemory, err);
+            return fail(Failure::NoMemory, Cause::Unknown, err);
         }
         Err(error) => {
             tell_mistake(alloc, words, &error, err);
@@ -312,7 +445,7 @@ pub fn respond<P: Places, W: Write, E: Write, H: Aside>(
             status
         }
         Err(failure) => {
-            let status = fail(failure, err);
+            let status = fail(failure, places.cause(), err);
             after_failure(&*aside, request, failure);
             status
         }

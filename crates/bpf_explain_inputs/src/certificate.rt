@@ -176,6 +176,11 @@ fn tell_syntax<'a, W: Tell>(out: &mut W, found: LineAt<'a>) {
     let (line, follows) = (Line(found.line), followers(before));
     if !found.is_there {
         write!(out, "the text ends here without `end`: {follows}\n");
+    } else if before == Kind::End && matches!(found.line, [0]) {
+        write!(
+            out,
+            "a byte 0 behind the last line: a certificate's length doesn't count the one that ends a string of C\n"
+        );
     } else if before == Kind::End {
         write!(out, "{line}: {follows}\n");
     } else if found.line.contains(&b'\r') {

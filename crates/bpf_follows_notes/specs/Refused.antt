@@ -1,5 +1,5 @@
 -- Why a text is none of notes: the first line that isn't one.
-use Rattle.std.specs.Prelude.{◌≡◌, ◌≢◌, ◌⊎◌, ℕ, ◌+◌, List, [], ◌++◌, length, Option}
+use Rattle.std.specs.Prelude.{◌≡◌, ◌≢◌, ◌⊎◌, ℕ, ◌+◌, List, [], ◌∷◌, ◌++◌, length, codes, Option}
 use Rattle.bpf_follows_law.specs.declared.notes.Place.{Place}
 use Rattle.bpf_follows_notes.specs.declared.error.NotesError.{NotesError}
 use Rattle.bpf_follows_notes.specs.declared.error.NotesError.TheVariants.{Form, Memory}
@@ -32,3 +32,16 @@ IsRefused text (Form line) =
     ((line ≡ 1) × ((rest : List ℕ) → text ≢ head_line ++ rest))
     ⊎ ((rest : List ℕ) × (text ≡ head_line ++ rest) × StopsAt 0 rest line)
 IsRefused text Memory = Unit {0}
+
+-- what of notes fails, by the number of the mismatch, from M1 to M7; there is no number 0
+abbrev pub mismatch_texts : List (List ℕ)
+mismatch_texts =
+    [] ∷
+    codes "the byte orders differ" ∷
+    codes "the new program doesn't begin with what stands for the old one's start" ∷
+    codes "what stands in front of the instruction isn't known, or isn't what the notes say" ∷
+    codes "another instruction stands for it" ∷
+    codes "the instruction reads what may be something else in the new program" ∷
+    codes "the next instruction doesn't stand behind it, or the notes ask for more there" ∷
+    codes "the instruction leads elsewhere, or the notes ask for more there" ∷
+    []

@@ -7,6 +7,7 @@ ghost use Rattle.bpf_harden_notes.specs.RefusalNumbers.{harden_slot};
 
 use crate::judge::{Verdict, verdict_of};
 use crate::rounds::{certified, guard_all, guarded_everywhere};
+use bpf_cert::Certificate;
 use bpf_harden_notes::{HardenError, Hardened, Options};
 use bpf_harden_plan::{Old, Plan};
 use bpf_infer::infer;
@@ -30,9 +31,14 @@ fn slots_of(alloc: Global, program: &Program) -> Result<Vec<Option<u32>>, AllocE
 }
 
 /// A program that comes out as it is.
-fn unchanged(alloc: Global, program: &Program) -> Result<Hardened, HardenError> {
+fn unchanged(
+    alloc: Global,
+    program: &Program,
+    certificate: Certificate,
+) -> Result<Hardened, HardenError> {
     Ok(Hardened {
         program: copy_of(alloc, program)?,
+        certificate: Some(certificate),
         slots: slots_of(alloc, program)?,
         functions: Vec::new(alloc),
         notes: Vec::new(alloc),
@@ -40,28 +46,30 @@ fn unchanged(alloc: Global, program: &Program) -> Result<Hardened, HardenError> 
 }
 
 /// How much of a program of so many slots may be gone over, in slots, in all rounds together.
-fn work_for(slots: u32) -> u64 {
+pub fn work_for(slots: u32) -> u64 {
     u64::from(slots)
         .saturating_mul(500)
         .saturating_add(DEEP_WORK)
 }
 
-/// Whether the deep search has a certificate for a program as it stands; the states that it found are taken.
-fn is_certified<W: Watch>(
+/// What the deep search finds for a program as it stands; the states that it found are taken.
+fn found_for<W: Watch>(
     alloc: Global,
     quest: Quest<'_>,
     old: &mut Old,
     meter: &mut Meter<'_, W>,
-) -> Result<bool, HardenError>
+) -> Result<Option<Certificate>, HardenError>
     requires { quest.least ≤ quest.most }
 {
     let draft = old.survey.draft.take();
-    let verdict = verdict_of(Task::whole(alloc, quest, &old.cfg), draft, meter)?;
-    Ok(matches!(verdict, Verdict::Yes))
+    match verdict_of(Task::whole(alloc, quest, &old.cfg), draft, meter)? {
+        Verdict::Yes(certificate) => Ok(Some(certificate)),
+        Verdict::Faults | Verdict::Uncounted(_) | Verdict::TooGreat => Ok(None),
+    }
 }
 
 /// The lengths that the old program is given: of a block the packet's.
-fn lengths(length: u32, options: &Options) -> Result<(u32, u32), HardenError>
+pub fn lengths(length: u32, options: &Options) -> Result<(u32, u32), HardenError>
     ensures { IfOk result (λ lengths. lengths.0 ≤ lengths.1) }
 {
     if !options.padded {
@@ -82,8 +90,10 @@ fn hardened(
     requires { length ≤ max_context }
 {
     let is_asked = options.padded || options.everywhere;
-    if !is_asked && infer(alloc, program, length, length).is_ok() {
-        return unchanged(alloc, program);
+    if !is_asked {
+        if let Ok(certificate) = infer(alloc, program, length, length) {
+            return unchanged(alloc, program, certificate);
+        }
     }
     let (least, most) = lengths(length, options)?;
     let quest = Quest {
@@ -94,8 +104,10 @@ fn hardened(
     let mut unwatched = Unwatched;
     let mut meter = Meter::new(&mut unwatched, DEEP_WORK);
     let mut old = Old::of(alloc, quest, &mut meter)?;
-    if !is_asked && is_certified(alloc, quest, &mut old, &mut meter)? {
-        return unchanged(alloc, program);
+    if !is_asked {
+        if let Some(certificate) = found_for(alloc, quest, &mut old, &mut meter)? {
+            return unchanged(alloc, program, certificate);
+        }
     }
     let mut plan = Plan::new(alloc, *options, length, program.slots(), old.count())?;
     if options.padded {

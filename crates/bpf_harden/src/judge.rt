@@ -15,8 +15,8 @@ use std::alloc::Global;
 /// What the deep search says of a program's loops.
 #[derive(Drop)]
 pub enum Verdict {
-    /// There is a certificate.
-    Yes,
+    /// This is a certificate.
+    Yes(Certificate),
     /// Instructions are refused.
     Faults,
     /// Nothing counts the loops whose lowest labels these are.
@@ -52,7 +52,7 @@ pub fn verdict_of<W: Watch>(
     match ranked(task, functions, meter) {
         Ok(found) => {
             match Certificate::new(2, task.least, task.most, found.steps, found.functions) {
-                Ok(_) => Ok(Verdict::Yes),
+                Ok(certificate) => Ok(Verdict::Yes(certificate)),
                 Err(_) => Ok(Verdict::TooGreat),
             }
         }
@@ -60,6 +60,16 @@ pub fn verdict_of<W: Watch>(
             InferError::NoBudget { .. } => Ok(Verdict::TooGreat),
             error => Err(refusal(error)),
         },
+    }
+}
+
+impl Verdict {
+    /// The greatest number of steps of a run, if there is a certificate.
+    pub fn bound(&self) -> Option<u32> {
+        match self {
+            Verdict::Yes(certificate) => Some(certificate.steps()),
+            Verdict::Faults | Verdict::Uncounted(_) | Verdict::TooGreat => None,
+        }
     }
 }
 

@@ -6,11 +6,14 @@ mod hardener;
 mod heads;
 mod judge;
 mod mend;
+mod pay;
 mod record;
 mod rounds;
 mod slim;
 mod sums;
+mod turns;
 mod wide;
 
 pub use bpf_harden_notes::{Change, FunctionNote, HardenError, Hardened, Note, Options};
 pub use hardener::harden;
+pub use turns::{Fitted, Unfit, fit};

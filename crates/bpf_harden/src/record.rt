@@ -1,5 +1,6 @@
 //! Notes of what was done.
 
+use bpf_cert::Certificate;
 use bpf_harden_notes::{FunctionNote, HardenError, Hardened, Note};
 use bpf_harden_plan::{Old, Rooms};
 use bpf_harden_text::Draft;
@@ -30,7 +31,7 @@ fn function_note(old: &Old, rooms: &Rooms, draft: &Draft, function: usize) -> Op
     Some(FunctionNote {
         old: uses.first,
         new,
-        depth: room.frame,
+        depth: room.reach,
         base: room.base,
         end: room.end,
         handed: if function > 0 { room.handed } else { None },
@@ -44,12 +45,14 @@ pub fn recorded(
     old: &Old,
     rooms: &Rooms,
     draft: Draft,
+    certificate: Option<Certificate>,
 ) -> Result<Hardened, HardenError> {
     let note_of = |function| function_note(old, rooms, &draft, function);
     let functions = (0..old.count()).filter_map(note_of).collect(alloc)?;
     let notes = notes_of(alloc, &draft)?;
     Ok(Hardened {
         program: draft.program,
+        certificate,
         slots: draft.starts,
         functions,
         notes,

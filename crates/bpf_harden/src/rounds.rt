@@ -3,6 +3,7 @@
 use crate::heads::heads_of;
 use crate::judge::{Trial, Verdict};
 use crate::mend::Mender;
+use crate::pay::Payer;
 use crate::record::recorded;
 use crate::slim::slim;
 use crate::wide::widen_all;
@@ -17,6 +18,12 @@ const ROUNDS: u32 = 48;
 
 /// How often a text that has a certificate is trimmed at most.
 const TRIMS: u32 = 4;
+
+/// How many loops are tried one by one with a counter though they have one of their own.
+const MOST_DEAR: usize = 8;
+
+/// How many times operations are tried as 32-bit ones again.
+const NARROWINGS: u32 = 32;
 
 /// A plan, and whether its operations were made wider.
 #[derive(Drop)]
@@ -33,7 +40,7 @@ impl<'a> Rounds<'a> {
     /// Changes the plan by what is said of its text. The refusal where nothing helps.
     fn change(&mut self, trial: &Trial) -> Result<(), HardenError> {
         let is_changed = match &trial.verdict {
-            Verdict::Yes => true,
+            Verdict::Yes(_) => true,
             Verdict::Faults => self.mend(trial)?,
             Verdict::Uncounted(loops) => self.count(trial, loops)? || self.share(trial, loops),
             Verdict::TooGreat => count_all(self.old, &mut self.plan),
@@ -110,7 +117,7 @@ impl<'a> Rounds<'a> {
     fn run<W: Watch>(&mut self, meter: &mut Meter<'_, W>) -> Result<Trial, HardenError> {
         for _ in 0..ROUNDS {
             let trial = Trial::of(self.alloc, self.old, &self.plan, meter)?;
-            if let Verdict::Yes = trial.verdict {
+            if trial.verdict.bound().is_some() {
                 return Ok(trial);
             }
             self.change(&trial)?;
@@ -140,11 +147,153 @@ impl<'a> Rounds<'a> {
                 break;
             }
             match Trial::of(self.alloc, self.old, &self.plan, meter) {
-                Ok(slimmer) if matches!(slimmer.verdict, Verdict::Yes) => trial = slimmer,
+                Ok(slimmer) if slimmer.verdict.bound().is_some() => trial = slimmer,
                 _ => break,
             }
         }
         Ok(trial)
+    }
+}
+
+impl<'a> Rounds<'a> {
+    /// The text of the plan, if it has a certificate with a bound of at most so much.
+    fn within<W: Watch>(&self, most: u32, meter: &mut Meter<'_, W>) -> Option<Trial> {
+        let trial = Trial::of(self.alloc, self.old, &self.plan, meter).ok()?;
+        (trial.verdict.bound()? <= most).then_some(trial)
+    }
+
+    /// Counts the turns of loops too whose own numbers give them greater budgets: of all, and then not of those without whose counters the bound
+    /// is smaller; or else of each for which that gives a smaller bound.
+    fn paid<W: Watch>(
+        &mut self,
+        mut trial: Trial,
+        meter: &mut Meter<'_, W>,
+    ) -> Result<Trial, HardenError> {
+        let payer = Payer {
+            old: self.old,
+            plan: &self.plan,
+            trial: &trial,
+        };
+        let dear = payer.dear(self.alloc)?;
+        if dear.is_empty() {
+            return Ok(trial);
+        }
+        let are_counted = match self.counted(&trial, &dear, true, meter) {
+            Some(cheaper) => {
+                trial = cheaper;
+                true
+            }
+            None => false,
+        };
+        for slot in dear.iter().take(MOST_DEAR) {
+            if let Some(cheaper) = self.counted(&trial, &[*slot], !are_counted, meter) {
+                trial = cheaper;
+            }
+        }
+        Ok(trial)
+    }
+
+    /// Puts counters at these slots, or takes them away.
+    fn put_counters(&mut self, slots: &[u32], are_there: bool) {
+        for slot in slots {
+            if are_there {
+                self.plan.count(*slot);
+            } else {
+                self.plan.uncount(*slot);
+            }
+        }
+    }
+
+    /// The text with counters at these slots, or without them, if it has a smaller bound; else the plan stays.
+    fn counted<W: Watch>(
+        &mut self,
+        trial: &Trial,
+        slots: &[u32],
+        are_there: bool,
+        meter: &mut Meter<'_, W>,
+    ) -> Option<Trial> {
+        let less = trial.verdict.bound()?.checked_sub(1)?;
+        self.put_counters(slots, are_there);
+        let cheaper = self.within(less, meter);
+        if cheaper.is_none() {
+            self.put_counters(slots, !are_there);
+        }
+        cheaper
+    }
+
+    /// The old slots of the operations that were made wider.
+    fn widened(&self) -> Result<Vec<u32>, AllocError> {
+        (0..self.old.program.slots())
+            .filter(|slot| self.plan.at(*slot).widens)
+            .collect(self.alloc)
+    }
+
+    /// Leaves operations 32-bit ones that no counter needs as 64-bit ones: all of them, else of each half those that can be. What comes out
+    /// has a certificate whose bound is no greater.
+    fn narrowed<W: Watch>(
+        &mut self,
+        mut trial: Trial,
+        meter: &mut Meter<'_, W>,
+    ) -> Result<Trial, HardenError> {
+        let wide = self.widened()?;
+        let mut halves = vec![in self.alloc; Half::all(&wide)]?;
+        for _ in 0..NARROWINGS {
+            let (Some(half), Some(bound)) = (halves.pop(), trial.verdict.bound()) else {
+                break;
+            };
+            for slot in half.of(&wide) {
+                self.plan.narrow(*slot);
+            }
+            match self.within(bound, meter) {
+                Some(narrower) => trial = narrower,
+                None => {
+                    for slot in half.of(&wide) {
+                        self.plan.widen(*slot);
+                    }
+                    half.split(&mut halves)?;
+                }
+            }
+        }
+        Ok(trial)
+    }
+}
+
+/// Some of the operations that were made wider, one behind the other.
+#[derive(Clone, Copy)]
+struct Half {
+    first: usize,
+    end: usize,
+}
+
+impl Half {
+    /// All of them.
+    fn all(wide: &[u32]) -> Half {
+        Half {
+            first: 0,
+            end: wide.len(),
+        }
+    }
+
+    /// Their slots.
+    fn of<'a>(&self, wide: &'a [u32]) -> &'a [u32] {
+        wide.get(self.first..self.end).unwrap_or(&[])
+    }
+
+    /// Puts its halves to others, if it has more than one.
+    fn split(&self, halves: &mut Vec<Half>) -> Result<(), AllocError> {
+        let count = self.end.saturating_sub(self.first);
+        if count > 1 {
+            let middle = self.first.saturating_add(count / 2);
+            halves.push(Half {
+                first: self.first,
+                end: middle,
+            })?;
+            halves.push(Half {
+                first: middle,
+                end: self.end,
+            })?;
+        }
+        Ok(())
     }
 }
 
@@ -171,9 +320,20 @@ pub fn certified<W: Watch>(
         heads: vec![in alloc; None; old.program.slots() as usize]?,
     };
     let trial = rounds.run(meter)?;
+    let trial = rounds.paid(trial, meter)?;
     let trial = rounds.trimmed(trial, meter)?;
-    let Trial { draft, rooms, .. } = trial;
-    recorded(alloc, old, &rooms, draft)
+    let trial = rounds.narrowed(trial, meter)?;
+    let Trial {
+        draft,
+        rooms,
+        verdict,
+        ..
+    } = trial;
+    let certificate = match verdict {
+        Verdict::Yes(certificate) => Some(certificate),
+        Verdict::Faults | Verdict::Uncounted(_) | Verdict::TooGreat => None,
+    };
+    recorded(alloc, old, &rooms, draft, certificate)
 }
 
 /// Plans a counter of turns in front of each target of a jump backward in a function. Whether one is new.
@@ -235,5 +395,5 @@ pub fn guarded_everywhere(
     count_all(old, &mut plan);
     let rooms = Rooms::of(alloc, old, &plan)?;
     let draft = emitted(alloc, old, &plan, &rooms)?;
-    recorded(alloc, old, &rooms, draft)
+    recorded(alloc, old, &rooms, draft, None)
 }

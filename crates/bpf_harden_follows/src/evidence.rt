@@ -5,7 +5,7 @@ ghost use Rattle.std.specs.Prelude.{◌≡◌, ◌≤◌, IfOk, IfSome, MatchOpt
 ghost use Rattle.bpf_follows_law.specs.Matching.{Matches};
 ghost use Rattle.bpf_follows.specs.Mismatches.{IsMismatch};
 
-use crate::places::places_of;
+use crate::places::{MOST_LOOKS, places_within};
 use bpf_follows::{Mismatch, follows};
 use bpf_follows_law::{Bounds, Place};
 use bpf_harden_notes::Hardened;
@@ -32,23 +32,38 @@ fn taken(new: &Hardened) -> u32
     (FRAME_BYTES as u32).saturating_sub(deepest)
 }
 
-/// Notes for these runs.
+/// Notes for these runs. What is looked at is taken from what is left.
 fn judged(
     alloc: Global,
     old: &Program,
     new: &Hardened,
     bounds: Bounds,
+    left: &mut u32,
 ) -> Result<Evidence, AllocError>
     ensures of { IfOk result (λ found. found.untouched ≡ bounds.untouched) }
     ensures exact { IfOk result (λ found. MatchOption found.mismatch (Matches old.now new.now.program found.notes.items bounds) (IsMismatch old.now new.now.program found.notes.items bounds)) }
 {
-    let notes = places_of(alloc, old, new, bounds)?;
+    let notes = places_within(alloc, old, new, bounds, left)?;
     let mismatch = follows(old, &new.program, &notes, bounds).err();
     Ok(Evidence {
         notes,
         untouched: bounds.untouched,
         mismatch,
     })
+}
+
+/// Notes of a hardened program for just these runs, and what of them fails, if something does.
+pub fn evidence_for(
+    alloc: Global,
+    old: &Program,
+    new: &Hardened,
+    runs: Bounds,
+) -> Result<Evidence, AllocError>
+    ensures of { IfOk result (λ found. found.untouched ≡ runs.untouched) }
+    ensures exact { IfOk result (λ found. MatchOption found.mismatch (Matches old.now new.now.program found.notes.items runs) (IsMismatch old.now new.now.program found.notes.items runs)) }
+{
+    let mut left = MOST_LOOKS;
+    judged(alloc, old, new, runs, &mut left)
 }
 
 /// Notes of a hardened program for these contexts and turns. They are for each run if such ones show that it keeps the meaning, else for
@@ -72,11 +87,12 @@ pub fn evidence_of(
         untouched: taken(new),
         ..runs
     };
-    let first = judged(alloc, old, new, each)?;
+    let mut left = MOST_LOOKS;
+    let first = judged(alloc, old, new, each, &mut left)?;
     if first.mismatch.is_none() || fewer.untouched == 0 {
         return Ok(first);
     }
-    let second = judged(alloc, old, new, fewer)?;
+    let second = judged(alloc, old, new, fewer, &mut left)?;
     if second.mismatch.is_none() {
         Ok(second)
     } else {

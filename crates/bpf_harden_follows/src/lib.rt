@@ -9,5 +9,5 @@ mod facts;
 mod places;
 mod returns;
 
-pub use evidence::{Evidence, evidence_of};
+pub use evidence::{Evidence, evidence_for, evidence_of};
 pub use places::places_of;

@@ -18,6 +18,9 @@ const MOST_EXTRA: u32 = 128;
 /// How often each slot is looked at, in the mean. What isn't stable by then isn't shown.
 const LOOKS: u32 = 96;
 
+/// How many slots are looked at at most, in all searches for one program's notes together.
+pub(crate) const MOST_LOOKS: u32 = 4_000_000;
+
 /// How often calls of which no EXIT is found are taken to give back anything.
 const ROUNDS: u32 = 96;
 
@@ -102,13 +105,14 @@ fn put_stop(stops: &mut Vec<u32>, stop: u32) -> Result<(), AllocError> {
 }
 
 impl<'a> Finder<'a> {
-    /// Nothing is found.
+    /// Nothing is found, and so many slots may be looked at.
     fn new(
         alloc: Global,
         old: &'a Program,
         new: &'a Hardened,
         length: u32,
         frames: Frames,
+        left: u32,
     ) -> Result<Finder<'a>, AllocError> {
         let mut changes = vec![in alloc; None; new.program.slots() as usize]?;
         for note in &new.notes {
@@ -125,7 +129,7 @@ impl<'a> Finder<'a> {
             entries,
             facts: vec![in alloc; None; old.slots() as usize]?,
             waiting: SlotSet::none(),
-            looks: old.slots().saturating_mul(LOOKS),
+            looks: old.slots().saturating_mul(LOOKS).min(left),
             length,
             frames,
             times: vec![in alloc; 0; old.slots() as usize]?,
@@ -419,20 +423,22 @@ impl<'a> Finder<'a> {
     }
 }
 
-/// What is found where functions leave the frames of others alone, or don't.
+/// What is found where functions leave the frames of others alone, or don't. What is looked at is taken from what is left.
 fn found<'a>(
     alloc: Global,
     old: &'a Program,
     new: &'a Hardened,
     bounds: Bounds,
     are_alone: bool,
+    left: &mut u32,
 ) -> Result<Finder<'a>, AllocError> {
     let untouched = bounds.untouched;
     let frames = Frames {
         are_alone,
         untouched,
     };
-    let mut finder = Finder::new(alloc, old, new, bounds.length, frames)?;
+    let mut finder = Finder::new(alloc, old, new, bounds.length, frames, *left)?;
+    let most = finder.looks;
     finder.enter(0, &Facts::start(bounds, are_alone));
     for _ in 0..ROUNDS {
         finder.settle();
@@ -440,7 +446,31 @@ fn found<'a>(
             break;
         }
     }
+    let looked = most.saturating_sub(finder.looks);
+    *left = left.saturating_sub(looked);
     Ok(finder)
+}
+
+/// As `places_of`; what is looked at is taken from what is left.
+pub(crate) fn places_within(
+    alloc: Global,
+    old: &Program,
+    new: &Hardened,
+    bounds: Bounds,
+    left: &mut u32,
+) -> Result<Vec<Option<Place>>, AllocError> {
+    let mut finder = found(alloc, old, new, bounds, true, left)?;
+    if finder.is_reaching() {
+        finder = found(alloc, old, new, bounds, false, left)?;
+    }
+    let mut places = Vec::new(alloc);
+    for slot in 0..old.slots() {
+        places.push(finder.place(slot))?;
+    }
+    if let Some(place) = finder.beyond() {
+        places.push(Some(place))?;
+    }
+    Ok(places)
 }
 
 /// By the slots of a program, what stands in the one that it was hardened to, for contexts of so many bytes and runs that leave so many of
@@ -452,16 +482,6 @@ pub fn places_of(
     new: &Hardened,
     bounds: Bounds,
 ) -> Result<Vec<Option<Place>>, AllocError> {
-    let mut finder = found(alloc, old, new, bounds, true)?;
-    if finder.is_reaching() {
-        finder = found(alloc, old, new, bounds, false)?;
-    }
-    let mut places = Vec::new(alloc);
-    for slot in 0..old.slots() {
-        places.push(finder.place(slot))?;
-    }
-    if let Some(place) = finder.beyond() {
-        places.push(Some(place))?;
-    }
-    Ok(places)
+    let mut left = MOST_LOOKS;
+    places_within(alloc, old, new, bounds, &mut left)
 }

@@ -55,7 +55,7 @@ pub struct FunctionNote {
     /// Its first slot in the old program, and in the new one.
     pub old: u32,
     pub new: u32,
-    /// How many bytes of its frame its own accesses may reach.
+    /// How many bytes of its frame registers other than r10 may reach.
     pub depth: u32,
     /// Where the pointer to the context's start is kept.
     pub base: Option<Place>,

@@ -9,7 +9,7 @@ use bpf_harden_notes::HardenError;
 use bpf_infer_base::{Cfg, Flow, Meter, PlaceSet, Quest, Task, Watch, get_or};
 use bpf_infer_error::InferError;
 use bpf_infer_states::{Survey, surveyed};
-use bpf_insn::{Access, Insn, Program, Reg};
+use bpf_insn::{Access, AluOp, Insn, Operand, Program, Reg, Width};
 use bpf_state::Place;
 use std::alloc::{AllocError, Global};
 
@@ -32,6 +32,19 @@ pub fn refusal(error: InferError) -> HardenError {
         InferError::Recursion { slot } => HardenError::Recursion { slot },
         InferError::Fault { slot, condition } => HardenError::Fault { slot, condition },
         InferError::Memory => HardenError::Memory,
+    }
+}
+
+/// The register to which an instruction adds a constant, and that.
+fn move_of(insn: &Insn) -> Option<(Reg, i64)> {
+    match *insn {
+        Insn::Alu {
+            op: AluOp::Add,
+            width: Width::W64,
+            dst,
+            src: Operand::Imm(imm),
+        } => Some((dst, i64::from(imm))),
+        _ => None,
     }
 }
 
@@ -99,6 +112,9 @@ impl<'a> Old<'a> {
                 let registers = PlaceSet::read_by(insn).union(PlaceSet::written_by(insn));
                 uses.registers = uses.registers.union(registers);
                 uses.calls = uses.calls || matches!(insn, Insn::CallLocal { .. });
+                if let Some((moved, distance)) = move_of(insn) {
+                    uses.add_move(self.survey.register(slot, moved), distance);
+                }
                 if let Some(access) = insn.access() {
                     uses.add_access(access, self.survey.register(slot, access.base));
                 }

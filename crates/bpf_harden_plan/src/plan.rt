@@ -215,6 +215,13 @@ impl Plan {
             .is_some_and(|planned| plan_on(&mut planned.widens))
     }
 
+    /// Leaves the operation at a slot a 32-bit one.
+    pub fn narrow(&mut self, slot: u32) {
+        if let Some(planned) = self.at_mut(slot) {
+            planned.widens = false;
+        }
+    }
+
     /// The access at a slot always leaves its region. Whether that is new.
     pub fn give_up(&mut self, slot: u32) -> bool {
         self.at_mut(slot)

@@ -33,6 +33,8 @@ pub struct Room {
     pub end: Option<Place>,
     /// How many bytes of its frame its own accesses may reach.
     pub frame: u32,
+    /// How many of these registers other than r10 may reach.
+    pub reach: u32,
     /// The number of the frame's slot in which a register is saved for a while.
     pub scratch: Option<u8>,
     /// The register in which it is given the pointer to the context's start.
@@ -215,6 +217,7 @@ impl Rooms {
         self.place_counters(old, plan, room.sharing > 0, &mut space)?;
         room.scratch = space.scratch();
         room.frame = space.frame();
+        room.reach = uses.reach_of(room.frame);
         room.taken = space.taken;
         room.spare = self.spare(old, function);
         put(&mut self.rooms, function, room);

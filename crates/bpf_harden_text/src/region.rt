@@ -33,7 +33,7 @@ impl Region {
             }
             Kind::Frame if plan.frames => {
                 let end = i64::from(FRAME_END);
-                let depth = i64::from(room.frame).min(end);
+                let depth = i64::from(room.reach).min(end);
                 Some(Region {
                     start: end.saturating_sub(depth),
                     bytes: depth,

@@ -2,21 +2,23 @@
 //! over no pointer that is null. Each is one call of `bpf_host_runs` or `bpf_host_advice`, and promises what that one does.
 #![tactic(auto)]
 
-ghost use Rattle.std.specs.Prelude.{◌≡◌, ◌≢◌, ◌++◌, ◌⊎◌, ◌↔◌, ◌<◌, ◌≤◌, ◌+◌, ◌*◌, ◌%◌, List, length, take, drop};
-ghost use Rattle.bpf_insn.specs.Limits.{max_context, max_slots};
+ghost use Rattle.std.specs.Prelude.{◌≡◌, ◌≢◌, ◌==◌, ◌++◌, ◌⊎◌, ◌↔◌, ◌<◌, ◌≤◌, ◌+◌, ◌*◌, ◌%◌, List, length, take, drop};
+ghost use Rattle.bpf_insn.specs.Limits.{max_context, max_slots, frame_bytes};
 ghost use Rattle.bpf_insn.specs.Laws.{IsImageOfProgram};
 ghost use Rattle.bpf_insn.specs.declared.instruction.Insn.{Insn as Instruction};
 ghost use Rattle.bpf_cert.specs.View.{CertificateView};
 ghost use Rattle.bpf_check.specs.Verdicts.{Verified, Promises, Certifies};
 ghost use Rattle.bpf_host_runs.specs.Told.{order_named, IsVerdictOf};
-ghost use Rattle.bpf_host_runs.specs.Prepared.{IsPrepared, IsMarked, prepared_head, version};
-ghost use Rattle.bpf_host_runs.specs.Loaded.{handle_head, IsLoaded, IsMarkedHandle, HoldsLoaded, EndsAsLoaded, loaded_least, loaded_most};
+ghost use Rattle.bpf_host_runs.specs.Prepared.{IsPrepared, IsMarked, IsWhole, prepared_head, version};
+ghost use Rattle.bpf_host_runs.specs.Loaded.{handle_head, IsLoaded, IsMarkedHandle, IsWholeHandle, HoldsLoaded, EndsAsLoaded, loaded_least, loaded_most};
 ghost use Rattle.bpf_host_runs.specs.Answers.{IsRefusedAsTold, IsNoImage, RanImage, IsUnrun, MayRun, EndsAsPrepared};
 ghost use Rattle.bpf_host_advice.specs.Explained.{IsSomeImage};
-ghost use Rattle.bpf_host_advice.specs.Texts.{refusal_text, IsNumbered};
+ghost use Rattle.bpf_host_advice.specs.Sizes.{infer_size, explain_size};
+ghost use Rattle.bpf_host_advice.specs.Texts.{refusal_text, answer_text, IsNumbered};
 ghost use Rattle.bpf_host_advice.specs.Proposals.{GivesProposal, WantsRoom, IsNotProposed};
-ghost use Rattle.bpf_host_advice.specs.Hardened.{GivesImage, WantsImageRoom, IsNotHardened};
-ghost use Rattle.bpf_host_runs.specs.declared.answers.TheConstants.{YES, NO, NO_MEMORY, BAD_CALL, TOO_SMALL, TOO_LONG};
+ghost use Rattle.bpf_host_advice.specs.Hardened.{bounds_of, GivesHardened, WantsHardenedRoom, IsNotHardened};
+ghost use Rattle.bpf_host_advice.specs.Followed.{IsFollowed, IsNotFollowed};
+ghost use Rattle.bpf_host_runs.specs.declared.answers.TheConstants.{YES, NO, NO_MEMORY, BAD_CALL, TOO_SMALL, TOO_LONG, BAD_LENGTH, BAD_WORDS};
 
 mod explaining;
 
@@ -66,9 +68,10 @@ pub extern "C" fn bpf_host_run(
 ) -> i32
     ensures ran { result ≡ YES → RanImage (order_named order) image.now context.now fuel outcome.new }
     ensures refused { result ≡ NO → IsUnrun (order_named order) image.now outcome.new }
-    ensures call { (result ≡ BAD_CALL) ↔ ((1 < order) ⊎ (max_context < length context.now)) }
-    ensures answers { (result ≡ YES) ⊎ (result ≡ NO) ⊎ (result ≡ BAD_CALL) }
-    ensures kept { result ≡ BAD_CALL → outcome.new ≡ outcome.old }
+    ensures call { (result ≡ BAD_CALL) ↔ (1 < order) }
+    ensures long { (result ≡ BAD_LENGTH) ↔ ((order ≤ 1) × (max_context < length context.now)) }
+    ensures answers { (result ≡ YES) ⊎ (result ≡ NO) ⊎ (result ≡ BAD_CALL) ⊎ (result ≡ BAD_LENGTH) }
+    ensures kept { (result ≡ YES) ⊎ (result ≡ NO) ⊎ (outcome.new ≡ outcome.old) }
 {
     bpf_host_runs::run(image, order, context, fuel, outcome)
 }
@@ -101,10 +104,10 @@ pub extern "C" fn bpf_host_prepare(image: &[u8], order: u32, memory: &mut [u8]) 
 #[unsafe(no_mangle)]
 pub extern "C" fn bpf_host_run_checked(memory: &[u8], context: &[u8], value: &mut u64) -> i32
     requires head { prepared_head ≤ length memory.now }
-    requires may { IsMarked memory.now → MayRun memory.now context.now }
+    requires may { IsMarked memory.now → IsWhole memory.now → MayRun memory.now context.now }
     ensures ends { result ≡ YES → EndsAsPrepared memory.now context.now value.new }
-    ensures runs { (result ≡ YES) ↔ IsMarked memory.now }
-    ensures answers { (result ≡ YES) ⊎ (result ≡ BAD_CALL) }
+    ensures runs { (result ≡ YES) ↔ (IsMarked memory.now × IsWhole memory.now) }
+    ensures answers { (result ≡ YES) ⊎ (result ≡ BAD_WORDS) }
     ensures kept { (result ≡ YES) ⊎ (value.new ≡ value.old) }
 {
     bpf_host_runs::run_checked(memory, context, value)
@@ -165,13 +168,34 @@ pub extern "C" fn bpf_host_load(
 #[unsafe(no_mangle)]
 pub extern "C" fn bpf_host_run_loaded(memory: &[u8], context: &[u8], value: &mut u64) -> i32
     requires head { handle_head ≤ length memory.now }
-    requires holds { IsMarkedHandle memory.now → HoldsLoaded memory.now }
+    requires holds { IsMarkedHandle memory.now → IsWholeHandle memory.now → HoldsLoaded memory.now }
     ensures ends { result ≡ YES → EndsAsLoaded memory.now context.now value.new }
-    ensures runs { (result ≡ YES) ↔ (IsMarkedHandle memory.now × (loaded_least memory.now ≤ length context.now) × (length context.now ≤ loaded_most memory.now)) }
-    ensures answers { (result ≡ YES) ⊎ (result ≡ BAD_CALL) }
+    ensures words { (result ≢ BAD_WORDS) ↔ (IsMarkedHandle memory.now × IsWholeHandle memory.now) }
+    ensures runs { result ≢ BAD_WORDS → ((result ≡ YES) ↔ ((loaded_least memory.now ≤ length context.now) × (length context.now ≤ loaded_most memory.now))) }
+    ensures answers { (result ≡ YES) ⊎ (result ≡ BAD_LENGTH) ⊎ (result ≡ BAD_WORDS) }
     ensures kept { (result ≡ YES) ⊎ (value.new ≡ value.old) }
 {
     bpf_host_runs::run_loaded(memory, context, value)
+}
+
+/// `infer_size` of `bpf_host_advice`, for C.
+#[unsafe(no_mangle)]
+pub extern "C" fn bpf_host_infer_size(image_len: usize) -> usize
+    ensures { result ≡ infer_size image_len }
+{
+    bpf_host_advice::infer_size(image_len)
+}
+
+/// `explain_size` of `bpf_host_advice`, for C.
+#[unsafe(no_mangle)]
+pub extern "C" fn bpf_host_explain_size(
+    image_len: usize,
+    certificate_len: usize,
+    lines_len: usize,
+) -> usize
+    ensures { result ≡ explain_size image_len certificate_len lines_len }
+{
+    bpf_host_advice::explain_size(image_len, certificate_len, lines_len)
 }
 
 /// `infer` of `bpf_host_advice`, for C.
@@ -212,22 +236,49 @@ pub extern "C" fn bpf_host_harden(
     turns: u32,
     otherwise: u64,
     padded: u32,
+    unproved: u32,
+    untouched: u32,
     text: &mut [u8],
     wanted: &mut usize,
     refusal: &mut BpfRefusal,
 ) -> i32
-    ensures given { result ≡ YES → GivesImage wanted.new text.old text.new }
-    ensures small { result ≡ TOO_SMALL → WantsImageRoom wanted.new text.old }
-    ensures image { (result ≡ YES) ⊎ (result ≡ TOO_SMALL) → IsSomeImage (order_named order) image.now }
-    ensures refused { result ≡ NO → IsNotHardened (order_named order) image.now refusal.new }
-    ensures call { (result ≡ BAD_CALL) ↔ ((1 < order) ⊎ ((max_context < size) ⊎ (1 < padded))) }
+    ensures given { result ≡ YES → GivesHardened (order_named order) image.now (bounds_of size padded turns untouched) (unproved == 1) wanted.new text.old text.new }
+    ensures small { result ≡ TOO_SMALL → WantsHardenedRoom (order_named order) image.now (bounds_of size padded turns untouched) (unproved == 1) wanted.new text.old }
+    ensures refused { result ≡ NO → IsNotHardened (order_named order) image.now (bounds_of size padded turns untouched) (unproved == 1) refusal.new }
+    ensures call { (result ≡ BAD_CALL) ↔ ((1 < order) ⊎ ((max_context < size) ⊎ ((1 < padded) ⊎ ((1 < unproved) ⊎ (frame_bytes < untouched))))) }
     ensures answers { (result ≡ YES) ⊎ (result ≡ NO) ⊎ (result ≡ NO_MEMORY) ⊎ (result ≡ BAD_CALL) ⊎ (result ≡ TOO_SMALL) }
     ensures text_kept { (result ≡ YES) ⊎ (text.new ≡ text.old) }
     ensures wanted_kept { (result ≡ YES) ⊎ (result ≡ TOO_SMALL) ⊎ (wanted.new ≡ wanted.old) }
     ensures refusal_kept { (result ≡ NO) ⊎ (refusal.new ≡ refusal.old) }
 {
     bpf_host_advice::harden(
-        alloc, image, order, size, turns, otherwise, padded, text, wanted, refusal,
+        alloc, image, order, size, turns, otherwise, padded, unproved, untouched, text, wanted,
+        refusal,
+    )
+}
+
+/// `follows` of `bpf_host_advice`, for C.
+#[unsafe(no_mangle)]
+pub extern "C" fn bpf_host_follows(
+    alloc: Global,
+    old: &[u8],
+    new: &[u8],
+    order: u32,
+    notes: &[u8],
+    size: u32,
+    turns: u32,
+    padded: u32,
+    untouched: u32,
+    refusal: &mut BpfRefusal,
+) -> i32
+    ensures yes { result ≡ YES → IsFollowed (order_named order) old.now new.now (bounds_of size padded turns untouched) }
+    ensures no { result ≡ NO → IsNotFollowed (order_named order) old.now new.now notes.now (bounds_of size padded turns untouched) refusal.new }
+    ensures call { (result ≡ BAD_CALL) ↔ ((1 < order) ⊎ ((max_context < size) ⊎ ((1 < padded) ⊎ (frame_bytes < untouched)))) }
+    ensures answers { (result ≡ YES) ⊎ (result ≡ NO) ⊎ (result ≡ NO_MEMORY) ⊎ (result ≡ BAD_CALL) }
+    ensures refusal_kept { (result ≡ NO) ⊎ (refusal.new ≡ refusal.old) }
+{
+    bpf_host_advice::follows(
+        alloc, old, new, order, notes, size, turns, padded, untouched, refusal,
     )
 }
 
@@ -239,4 +290,13 @@ pub extern "C" fn bpf_host_refusal_text(kind: u32, number: u32, text: &mut [u8])
     ensures given { text.new ≡ take (length text.old) (refusal_text kind number) ++ drop result text.old }
 {
     bpf_host_advice::refusal_text(kind, number, text)
+}
+
+/// `answer_text` of `bpf_host_advice`, for C.
+#[unsafe(no_mangle)]
+pub extern "C" fn bpf_host_answer_text(answer: i32, text: &mut [u8]) -> usize
+    ensures length { result ≡ length (answer_text answer) }
+    ensures given { text.new ≡ take (length text.old) (answer_text answer) ++ drop result text.old }
+{
+    bpf_host_advice::answer_text(answer, text)
 }

@@ -1,1 +1,2 @@
 pub mod ExplainedLemmas
+pub mod FollowedLemmas

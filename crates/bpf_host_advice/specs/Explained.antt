@@ -14,9 +14,19 @@ use Rattle.bpf_check.specs.declared.refusal.Refusal.{Refusal}
 use Rattle.bpf_host_runs.specs.Told.{TellsImage, TellsCheck}
 use Rattle.bpf_host_runs.specs.Answers.{IsRefusedAsTold}
 use Rattle.bpf_host_advice.specs.Proposals.{IsNotProposed}
+use Rattle.bpf_explain_program.specs.declared.shown.Shown.{Shown}
+use Rattle.bpf_explain_program.specs.declared.shown.Shown.TheVariants.{Listing, Slot, Graph}
 use Rattle.bpf_host_runs.specs.declared.answers.BpfRefusal.{BpfRefusal}
 use Rattle.bpf_host_advice.specs.declared.explanation.Judged.{Judged}
 use Rattle.bpf_host_advice.specs.declared.explanation.Judged.TheVariants.{Accepted, Refused}
+
+-- ---- what is asked for
+
+-- by the number of the aspect: the listing, the instruction at a slot, or the graph, with lines of the source
+abbrev pub Asks : (aspect slot : ℕ) → List ℕ → Shown → Type 0
+Asks aspect slot lines (Listing given) = (aspect ≡ 0) × (given.now ≡ lines)
+Asks aspect slot lines (Slot at given) = (aspect ≡ 1) × (at ≡ slot) × (given.now ≡ lines)
+Asks aspect slot lines Graph = aspect ≡ 2
 
 -- ---- by itself
 

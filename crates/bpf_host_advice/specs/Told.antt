@@ -1,11 +1,17 @@
 -- What the numbers that C sees tell of searches and hardenings.
-use Rattle.std.specs.Prelude.{◌≡◌, ℕ}
+use Rattle.std.specs.Prelude.{◌≡◌, ◌≢◌, ℕ}
 use Rattle.bpf_infer_error.specs.RefusalNumbers.{condition_number, infer_number, infer_slot}
 use Rattle.bpf_infer_error.specs.declared.error.InferError.{InferError}
 use Rattle.bpf_infer_error.specs.declared.error.InferError.TheVariants.{Unstable, NoBudget, Recursion, Fault as Refused, Memory}
 use Rattle.bpf_harden_notes.specs.RefusalNumbers.{harden_number, harden_slot}
 use Rattle.bpf_harden_notes.specs.declared.error.HardenError.{HardenError}
-use Rattle.bpf_harden_notes.specs.declared.error.HardenError.TheVariants.{Fault as Unmended}
+use Rattle.bpf_harden_notes.specs.declared.error.HardenError.TheVariants.{Fault as Unmended, Memory as NoRoomLeft}
+use Rattle.bpf_follows.specs.Mismatches.{mismatch_number, mismatch_slot}
+use Rattle.bpf_follows.specs.declared.mismatch.Mismatch.{Mismatch}
+use Rattle.bpf_follows_notes.specs.declared.error.NotesError.{NotesError}
+use Rattle.bpf_follows_notes.specs.declared.error.NotesError.TheVariants.{Form, Memory as NoNotesMemory}
+use Rattle.bpf_insn.specs.RefusalNumbers.{decode_number, decode_slot}
+use Rattle.bpf_insn.specs.declared.refusal.DecodeError.{DecodeError}
 use Rattle.bpf_host_runs.specs.declared.answers.BpfRefusal.{BpfRefusal}
 use Rattle.bpf_host_advice.specs.declared.refusals.Unmade.{Unmade}
 use Rattle.bpf_host_advice.specs.declared.refusals.Unmade.TheVariants.{Memory as NoMemory, Refused as RefusedAs}
@@ -35,3 +41,29 @@ TellsHardening e r = r ≡ record { kind = 72; number = harden_number e; place =
 abbrev pub IsTold : (BpfRefusal → Type 0) → Unmade → Type 0
 IsTold Tells NoMemory = Unit {0}
 IsTold Tells (RefusedAs told) = Tells told
+
+-- of a hardened program that isn't shown to keep the meaning: H13, the slot of the old program at which notes fail, and the number of what fails, from 1 to 7
+abbrev pub TellsUnshown : Mismatch → BpfRefusal → Type 0
+TellsUnshown m r = r ≡ record { kind = 72; number = 13; place = mismatch_slot m; condition = mismatch_number m }
+
+-- what is told of a search's refusal, and of a hardening's
+abbrev pub TellsSearch : InferError → Unmade → Type 0
+TellsSearch e NoMemory = e ≡ Memory
+TellsSearch e (RefusedAs told) = (e ≢ Memory) × TellsInference e told
+
+abbrev pub TellsHarden : HardenError → Unmade → Type 0
+TellsHarden e NoMemory = e ≡ NoRoomLeft
+TellsHarden e (RefusedAs told) = (e ≢ NoRoomLeft) × TellsHardening e told
+
+-- of two images: E (69) of the new one, with 1 in the place of a condition
+abbrev pub TellsNewImage : DecodeError → BpfRefusal → Type 0
+TellsNewImage e r = r ≡ record { kind = 69; number = decode_number e; place = decode_slot e; condition = 1 }
+
+-- N (78) of a text that is none of notes, and its line
+abbrev pub TellsNotes : NotesError → Unmade → Type 0
+TellsNotes (Form line) u = u ≡ RefusedAs (record { kind = 78; number = 1; place = line; condition = 0 })
+TellsNotes NoNotesMemory u = u ≡ NoMemory
+
+-- M (77) of notes that don't show it, and the slot of the old program
+abbrev pub TellsMatch : Mismatch → BpfRefusal → Type 0
+TellsMatch m r = r ≡ record { kind = 77; number = mismatch_number m; place = mismatch_slot m; condition = 0 }

@@ -1,6 +1,6 @@
 //! The calls that explain.
 
-ghost use Rattle.std.specs.Prelude.{◌≡◌, ◌⊎◌, ◌↔◌, ◌<◌, ◌≤◌, Some, length};
+ghost use Rattle.std.specs.Prelude.{◌≡◌, ◌⊎◌, ◌↔◌, ◌<◌, ◌≤◌, Some, None, length};
 ghost use Rattle.bpf_insn.specs.Limits.{max_context};
 ghost use Rattle.bpf_host_runs.specs.Told.{order_named};
 ghost use Rattle.bpf_host_runs.specs.Answers.{IsRefusedAsTold};
@@ -26,6 +26,7 @@ fn answer(
 ) -> i32
     ensures yes { result ≡ YES → judged ≡ Some Accepted }
     ensures no { result ≡ NO → judged ≡ Some (Refused refusal.new) }
+    ensures memory { (result ≡ NO_MEMORY) ↔ (judged ≡ None) }
     ensures given { (result ≡ YES) ⊎ (result ≡ NO) → GivesWords wanted.new text.old text.new }
     ensures small { result ≡ TOO_SMALL → length text.old < wanted.new }
     ensures answers { (result ≡ YES) ⊎ (result ≡ NO) ⊎ (result ≡ NO_MEMORY) ⊎ (result ≡ TOO_SMALL) }

@@ -10,7 +10,7 @@ ghost use Rattle.bpf_check.specs.CheckedProgram.{IsCertifiedBy};
 ghost use Rattle.bpf_check.specs.RefusalNumbers.{refusal_number, refusal_slot};
 ghost use Rattle.bpf_infer_error.specs.RefusalNumbers.{infer_slot};
 ghost use Rattle.bpf_host_runs.specs.Told.{TellsCertificate, TellsCheck};
-ghost use Rattle.bpf_host_advice.specs.Explained.{IsReadAs, IsCheckedAs, IsSearchedAs, IsRefusedImage};
+ghost use Rattle.bpf_host_advice.specs.Explained.{Asks, IsReadAs, IsCheckedAs, IsSearchedAs, IsRefusedImage};
 ghost use Rattle.bpf_host_runs.specs.declared.answers.BpfRefusal.{BpfRefusal as Told};
 ghost use Rattle.bpf_host_advice.specs.declared.explanation.Judged.TheVariants.{Accepted, Refused};
 
@@ -42,7 +42,7 @@ pub(crate) struct Given<'a> {
 /// What is shown of a program by the number of the aspect, with a table of the lines of its source: 0 the listing, 1 the instruction
 /// at a slot, 2 the graph. None where there is no such aspect, or the table isn't one; an empty one is.
 pub(crate) fn shown_of(aspect: u32, slot: u32, lines: &[u8]) -> Option<Shown<'_>>
-    ensures some { IfSome result (λ _. aspect ≤ 2) }
+    ensures some { IfSome result (λ shown. Asks aspect slot lines.now shown) }
     ensures none { IfNone result ((2 < aspect) ⊎ (0 < length lines.now)) }
 {
     if !lines.is_empty() && !is_table(lines) {

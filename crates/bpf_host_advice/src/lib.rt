@@ -2,32 +2,37 @@
 //! refusals in words. `bpf_host` exports them under C's names.
 #![tactic(auto)]
 
-ghost use Rattle.std.specs.Prelude.{◌≡◌, ◌++◌, ◌⊎◌, ◌↔◌, ◌<◌, length, take, drop};
-ghost use Rattle.bpf_insn.specs.Limits.{max_context};
+ghost use Rattle.std.specs.Prelude.{◌≡◌, ◌==◌, ◌++◌, ◌⊎◌, ◌↔◌, ◌<◌, length, take, drop};
+ghost use Rattle.bpf_insn.specs.Limits.{max_context, frame_bytes};
 ghost use Rattle.bpf_host_runs.specs.Told.{order_named};
 ghost use Rattle.bpf_host_advice.specs.Explained.{IsSomeImage};
-ghost use Rattle.bpf_host_advice.specs.Texts.{refusal_text, IsNumbered};
+ghost use Rattle.bpf_host_advice.specs.Texts.{refusal_text, answer_text, IsNumbered};
 ghost use Rattle.bpf_host_advice.specs.Proposals.{GivesProposal, WantsRoom, IsNotProposed};
-ghost use Rattle.bpf_host_advice.specs.Hardened.{GivesImage, WantsImageRoom, IsNotHardened};
+ghost use Rattle.bpf_host_advice.specs.Hardened.{bounds_of, GivesHardened, WantsHardenedRoom, IsNotHardened};
 ghost use Rattle.bpf_host_runs.specs.declared.answers.TheConstants.{YES, NO, NO_MEMORY, BAD_CALL, TOO_SMALL};
 
 mod explaining;
 mod explanation;
+mod following;
 mod hardening;
 mod proposal;
 mod refusals;
+mod sizes;
 mod texts;
 
-use bpf_harden::Options;
+use bpf_follows_law::Bounds;
 use bpf_host_runs::{BAD_CALL, BpfRefusal, NO, NO_MEMORY, order_of};
 use bpf_infer::Wanted;
-use bpf_insn::MAX_CONTEXT;
+use bpf_insn::{FRAME_BYTES, MAX_CONTEXT};
 pub use explaining::{explain, explain_image, explain_search};
-use hardening::hardened;
+use explanation::Given;
+pub use following::follows;
+use hardening::{Asked, hardened};
 use proposal::{give, proposal};
 use refusals::Unmade;
+pub use sizes::{explain_size, infer_size};
 use std::alloc::Global;
-use texts::{give_beginning, text_of};
+use texts::{answer_words, give_beginning, text_of};
 
 /// Proposes a certificate for the program of an image, on contexts of `least` to `most` bytes: 1, and its text stands in the
 /// first `wanted` bytes of `text`. 0: none is proposed, and `refusal` says why, by E or I. -1: memory ran out. -2: the order
@@ -77,10 +82,12 @@ pub fn infer(
 
 /// Hardens an image for contexts of exactly `size` bytes: loops that nothing counts turn at most `turns` times, and where a
 /// trap ends the program, r0 is `otherwise`. With `padded` 1 the context is a block: eight bytes that say how long the packet is,
-/// the packet, and padding. 1: the new image stands in the first `wanted` bytes of `text`. 0: the image is refused, or its
-/// program isn't hardened, and `refusal` says why. -1: memory ran out. -2: the order or `padded` is neither 0 nor 1, or
-/// `size` is above 4,096. -3: `text` has less than `wanted` bytes. What isn't answered stays as it was. Nobody relies on it:
-/// a certificate of the new image has to be found and judged.
+/// the packet, and padding. 1: the new image stands in the first `wanted` bytes of `text`; with `unproved` 0, and not 1, it is shown to keep the
+/// meaning of the old one, for runs that come to no instruction more than `turns` times and leave the lowest `untouched` bytes of each frame
+/// to r10. 0: the image is refused, or its program isn't hardened, or isn't shown to be, and `refusal` says why, by E or H. -1:
+/// memory ran out. -2: the order, `padded` or `unproved` is neither 0 nor 1, `size` is above 4,096 or `untouched` above 512. -3: `text` has less
+/// than `wanted` bytes. What isn't answered stays as it was. For safety nobody relies on it: a certificate of the new image has to be found
+/// and judged.
 pub fn harden(
     alloc: Global,
     image: &[u8],
@@ -89,15 +96,16 @@ pub fn harden(
     turns: u32,
     otherwise: u64,
     padded: u32,
+    unproved: u32,
+    untouched: u32,
     text: &mut [u8],
     wanted: &mut usize,
     refusal: &mut BpfRefusal,
 ) -> i32
-    ensures given { result ≡ YES → GivesImage wanted.new text.old text.new }
-    ensures small { result ≡ TOO_SMALL → WantsImageRoom wanted.new text.old }
-    ensures image { (result ≡ YES) ⊎ (result ≡ TOO_SMALL) → IsSomeImage (order_named order) image.now }
-    ensures refused { result ≡ NO → IsNotHardened (order_named order) image.now refusal.new }
-    ensures call { (result ≡ BAD_CALL) ↔ ((1 < order) ⊎ ((max_context < size) ⊎ (1 < padded))) }
+    ensures given { result ≡ YES → GivesHardened (order_named order) image.now (bounds_of size padded turns untouched) (unproved == 1) wanted.new text.old text.new }
+    ensures small { result ≡ TOO_SMALL → WantsHardenedRoom (order_named order) image.now (bounds_of size padded turns untouched) (unproved == 1) wanted.new text.old }
+    ensures refused { result ≡ NO → IsNotHardened (order_named order) image.now (bounds_of size padded turns untouched) (unproved == 1) refusal.new }
+    ensures call { (result ≡ BAD_CALL) ↔ ((1 < order) ⊎ ((max_context < size) ⊎ ((1 < padded) ⊎ ((1 < unproved) ⊎ (frame_bytes < untouched))))) }
     ensures answers { (result ≡ YES) ⊎ (result ≡ NO) ⊎ (result ≡ NO_MEMORY) ⊎ (result ≡ BAD_CALL) ⊎ (result ≡ TOO_SMALL) }
     ensures text_kept { (result ≡ YES) ⊎ (text.new ≡ text.old) }
     ensures wanted_kept { (result ≡ YES) ⊎ (result ≡ TOO_SMALL) ⊎ (wanted.new ≡ wanted.old) }
@@ -106,16 +114,21 @@ pub fn harden(
     let Some(order) = order_of(u64::from(order)) else {
         return BAD_CALL;
     };
-    if size > MAX_CONTEXT as u32 || padded > 1 {
+    if size > MAX_CONTEXT as u32 || padded > 1 || unproved > 1 || untouched > FRAME_BYTES as u32 {
         return BAD_CALL;
     }
-    let options = Options {
-        turns,
-        otherwise,
+    let bounds = Bounds {
+        length: size,
         padded: padded == 1,
-        everywhere: false,
+        turns,
+        untouched,
     };
-    match hardened(alloc, image, order, size, &options) {
+    let asked = Asked {
+        bounds,
+        otherwise,
+        unproved: unproved == 1,
+    };
+    match hardened(alloc, Given { image, order }, asked) {
         Ok(bytes) => give(&bytes, text, wanted),
         Err(Unmade::Memory) => NO_MEMORY,
         Err(Unmade::Refused(told)) => {
@@ -125,7 +138,7 @@ pub fn harden(
     }
 }
 
-/// What a refusal or a fault says in English, without an end of line: the kind is the letter C, E, F, H, I or K. The answer is
+/// What a refusal or a fault says in English, without an end of line: the kind is the letter C, E, F, H, I, K, M or N. The answer is
 /// how many bytes that is, 0 where there is no such refusal; as many as have room stand in `text`.
 pub fn refusal_text(kind: u32, number: u32, text: &mut [u8]) -> usize
     ensures numbered { (0 < result) ↔ IsNumbered kind number }
@@ -139,4 +152,15 @@ pub fn refusal_text(kind: u32, number: u32, text: &mut [u8]) -> usize
         }
         None => 0,
     }
+}
+
+/// What an answer below 0 says in English, without an end of line. The answer is how many bytes that is, 0 for any other; as many
+/// as have room stand in `text`.
+pub fn answer_text(answer: i32, text: &mut [u8]) -> usize
+    ensures length { result ≡ length (answer_text answer) }
+    ensures given { text.new ≡ take (length text.old) (answer_text answer) ++ drop result text.old }
+{
+    let words = answer_words(answer);
+    give_beginning(words, text);
+    words.len()
 }

@@ -8,10 +8,10 @@ ghost use Rattle.bpf_host_advice.specs.Proposals.{IsProposal, IsNotProposed};
 ghost use Rattle.bpf_host_advice.specs.Told.{IsTold};
 ghost use Rattle.bpf_host_runs.specs.declared.answers.TheConstants.{YES, TOO_SMALL};
 
-use crate::refusals::{Unmade, of_inference};
+use crate::refusals::{Unmade, of_search};
 use bpf_cert::{Certificate, write};
 use bpf_host_runs::{TOO_SMALL, YES, of_image};
-use bpf_infer::{InferError, Unwatched, Wanted, propose};
+use bpf_infer::{Unwatched, Wanted, propose};
 use bpf_insn::{DecodeError, Order, decode};
 use std::alloc::Global;
 
@@ -44,10 +44,9 @@ pub(crate) fn proposal(
         Err(DecodeError::Memory) => return Err(Unmade::Memory),
         Err(error) => return Err(Unmade::Refused(of_image(error))),
     };
-    let certificate = match propose(alloc, &program, wanted, &mut Unwatched) {
+    let certificate = match of_search(propose(alloc, &program, wanted, &mut Unwatched)) {
         Ok(certificate) => certificate,
-        Err(InferError::Memory) => return Err(Unmade::Memory),
-        Err(error) => return Err(Unmade::Refused(of_inference(error))),
+        Err(unmade) => return Err(unmade),
     };
     match text_of(alloc, &certificate) {
         Some(text) => Ok(text),

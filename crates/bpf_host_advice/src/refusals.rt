@@ -1,11 +1,17 @@
-//! Refusals of searches and hardenings, as C sees them.
+//! Refusals of searches and hardenings, as C sees them. What was answered is an argument, so that the clauses can say that nothing else is
+//! told.
 
-ghost use Rattle.std.specs.Prelude.{◌≡◌};
-ghost use Rattle.bpf_host_advice.specs.Told.{TellsInference, TellsHardening, condition_of, unhardened_condition};
+ghost use Rattle.std.specs.Prelude.{◌≡◌, Ok, IsErrAnd, MatchResult};
+ghost use Rattle.bpf_host_advice.specs.Told.{TellsInference, TellsHardening, TellsUnshown, TellsSearch, TellsHarden, condition_of, unhardened_condition};
 
-use bpf_harden::HardenError;
+use bpf_cert::Certificate;
+use bpf_follows::Mismatch;
+use bpf_harden::{HardenError, Hardened};
 use bpf_host_runs::{BpfRefusal, letter};
 use bpf_infer::InferError;
+
+/// The number of the refusal of a hardened program that isn't shown to keep the meaning, behind those of hardening itself.
+pub(crate) const UNSHOWN: u32 = 13;
 
 /// Why nothing is made of an image: no certificate for its program, or no hardened image.
 #[derive(Clone, Copy)]
@@ -56,7 +62,7 @@ fn unhardened_condition(error: &HardenError) -> u64
 }
 
 /// Why a program isn't hardened.
-pub(crate) fn of_hardening(error: HardenError) -> BpfRefusal
+fn unhardened(error: HardenError) -> BpfRefusal
     ensures { TellsHardening error result }
 {
     BpfRefusal {
@@ -64,5 +70,39 @@ pub(crate) fn of_hardening(error: HardenError) -> BpfRefusal
         number: u32::from(error.number()),
         place: u64::from(error.slot()),
         condition: unhardened_condition(&error),
+    }
+}
+
+/// Why a hardened program isn't shown to keep the meaning.
+pub(crate) fn of_mismatch(mismatch: Mismatch) -> BpfRefusal
+    ensures { TellsUnshown mismatch result }
+{
+    BpfRefusal {
+        kind: letter(b'H'),
+        number: UNSHOWN,
+        place: u64::from(mismatch.slot()),
+        condition: u64::from(mismatch.number()),
+    }
+}
+
+/// What a search answered, its refusal as it is told.
+pub(crate) fn of_search(found: Result<Certificate, InferError>) -> Result<Certificate, Unmade>
+    ensures { MatchResult found (λ certificate. result ≡ Ok certificate) (λ error. IsErrAnd result (TellsSearch error)) }
+{
+    match found {
+        Ok(certificate) => Ok(certificate),
+        Err(InferError::Memory) => Err(Unmade::Memory),
+        Err(error) => Err(Unmade::Refused(of_inference(error))),
+    }
+}
+
+/// What a hardening answered, its refusal as it is told.
+pub(crate) fn of_hardening(made: Result<Hardened, HardenError>) -> Result<Hardened, Unmade>
+    ensures { MatchResult made (λ hardened. result ≡ Ok hardened) (λ error. IsErrAnd result (TellsHarden error)) }
+{
+    match made {
+        Ok(hardened) => Ok(hardened),
+        Err(HardenError::Memory) => Err(Unmade::Memory),
+        Err(error) => Err(Unmade::Refused(unhardened(error))),
     }
 }

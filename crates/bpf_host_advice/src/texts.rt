@@ -1,14 +1,29 @@
 //! What the refusals and faults say, in words.
 
-ghost use Rattle.std.specs.Prelude.{◌≡◌, ◌<◌, ◌≤◌, ◌↔◌, ◌++◌, [], IsSome, IfSome, MatchOption, length, take, drop};
-ghost use Rattle.bpf_host_advice.specs.Texts.{refusal_text, IsNumbered};
+ghost use Rattle.std.specs.Prelude.{◌≡◌, ◌<◌, ◌≤◌, ◌↔◌, ◌++◌, [], IsSome, IfSome, MatchOption, get_or, length, take, drop};
+ghost use Rattle.bpf_host_advice.specs.Texts.{refusal_text, answer_text, notes_texts, IsNumbered};
 
+use crate::refusals::UNSHOWN;
 use bpf_cert::CertError;
+use bpf_follows_notes::mismatch_text;
 use bpf_harden_notes::HardenError;
 use bpf_infer::InferError;
 use bpf_insn::DecodeError;
 use bpf_semantics::Reason;
 use bpf_state::Condition;
+
+/// Why a text is none of notes.
+fn notes_text(number: u32) -> Option<&'static str>
+    ensures numbered { IsSome result ↔ ((1 ≤ number) × (number ≤ 2)) }
+    ensures said { IfSome result (λ text. 0 < length text.now) }
+    ensures words { MatchOption result (get_or notes_texts number [] ≡ []) (λ text. text.now ≡ get_or notes_texts number []) }
+{
+    match number {
+        1 => Some("the line has no form of a line of notes"),
+        2 => Some("out of memory"),
+        _ => None,
+    }
+}
 
 /// What a refusal or a fault says.
 fn sentence(kind: u32, number: u32) -> Option<&'static str>
@@ -20,9 +35,12 @@ fn sentence(kind: u32, number: u32) -> Option<&'static str>
         67 => Condition::text_numbered(number),
         69 => DecodeError::text_numbered(number),
         70 => Reason::text_numbered(number),
+        72 if number == UNSHOWN => Some("the hardened program isn't shown to keep the meaning"),
         72 => HardenError::text_numbered(number),
         73 => InferError::text_numbered(number),
         75 => CertError::text_numbered(number),
+        77 => mismatch_text(number),
+        78 => notes_text(number),
         _ => None,
     }
 }
@@ -37,6 +55,25 @@ pub(crate) fn text_of(kind: u32, number: u32) -> Option<&'static [u8]>
         Some(text) => Some(text.as_bytes()),
         None => None,
     }
+}
+
+/// What an answer below 0 says; nothing of another one.
+pub(crate) fn answer_words(answer: i32) -> &'static [u8]
+    ensures { result.now ≡ answer_text answer }
+{
+    let text = match answer {
+        -1 => "out of memory",
+        -2 =>
+            "a number is none that the call takes: the order, a length, a switch of 0 or 1, or the aspect; or the source lines are no table",
+        -3 => "the memory for the answer is too small",
+        -4 => "a run may take more instructions than are paid for",
+        -5 => "the context has a length for which the image isn't run",
+        -6 => "the words are not those that this version of the library wrote, or not all of them",
+        -7 =>
+            "a pointer is null or not aligned, or an answer would be written over what is read or written beside it",
+        _ => "",
+    };
+    text.as_bytes()
 }
 
 /// Gives as much of a text as there is room for.

@@ -3,7 +3,7 @@ use Rattle.std.specs.Prelude.{◌≡◌, ◌≤◌, ◌<◌, ◌^◌, ◌+◌, �
 use Rattle.byteorder.specs.Endian.{little_number}
 use Rattle.bpf_insn.specs.declared.order.Order.{Order}
 use Rattle.bpf_check.specs.Verdicts.{Verified}
-use Rattle.bpf_host_runs.specs.Prepared.{IsPrepared, IsMarked}
+use Rattle.bpf_host_runs.specs.Prepared.{IsPrepared, IsMarked, IsWhole}
 use Rattle.bpf_host_runs.specs.Answers.{EndsOn}
 
 -- the numbers of a handle, each of eight bytes: how many bytes a context has at least and at most, and how many instructions a run takes
@@ -35,6 +35,10 @@ pub record IsLoaded (order : Order) (image : List ℕ) (least most bound : ℕ) 
 -- this version's mark stands in a handle
 abbrev pub IsMarkedHandle : List ℕ → Type 0
 IsMarkedHandle memory = IsMarked (drop 24 memory)
+
+-- and there is as much of it as its numbers say
+abbrev pub IsWholeHandle : List ℕ → Type 0
+IsWholeHandle memory = IsWhole (drop 24 memory)
 
 -- What the caller's duty is: memory is as a load left it, so its numbers are those of a verdict on its image.
 pub record HoldsLoaded (memory : List ℕ) : Type 0 where

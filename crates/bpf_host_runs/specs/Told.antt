@@ -10,6 +10,7 @@ use Rattle.bpf_cert.specs.View.{CertificateView}
 use Rattle.bpf_cert.specs.declared.error.CertError.{CertError}
 use Rattle.bpf_check.specs.RefusalNumbers.{refusal_number as check_number, refusal_slot}
 use Rattle.bpf_check.specs.declared.refusal.Refusal.{Refusal}
+use Rattle.bpf_check.specs.declared.verifier.Verdict.{Verdict}
 use Rattle.bpf_check.specs.declared.verifier.VerifyError.{VerifyError}
 use Rattle.bpf_check.specs.declared.verifier.VerifyError.TheVariants.{Image as InImage, Cert as InCert, Check as InCheck}
 use Rattle.bpf_machine.specs.declared.outcome.Outcome.{Outcome}
@@ -26,6 +27,10 @@ order_named (suc n) = Big
 -- a verdict says what a certificate claims
 abbrev pub IsVerdictOf : CertificateView → BpfVerdict → Type 0
 IsVerdictOf c verdict = (verdict.least ≡ c.least) × (verdict.most ≡ c.most) × (verdict.bound ≡ c.steps)
+
+-- and is what was judged
+abbrev pub TellsVerdict : Verdict → BpfVerdict → Type 0
+TellsVerdict v told = told ≡ record { least = v.least; most = v.most; bound = v.bound }
 
 -- a refusal of an image: E (69), its number and its slot
 abbrev pub TellsImage : DecodeError → BpfRefusal → Type 0

@@ -2,10 +2,10 @@
 
 ghost use Rattle.std.specs.Prelude.{◌≡◌, ◌<◌, ◌≤◌, IfSome, IfNone};
 ghost use Rattle.bpf_check.specs.Verdicts.{IsUnread};
-ghost use Rattle.bpf_host_runs.specs.Told.{TellsRefusal, order_named, TellsImage, TellsCertificate, TellsCheck, TellsOutcome, TellsUnrun};
+ghost use Rattle.bpf_host_runs.specs.Told.{TellsRefusal, order_named, TellsImage, TellsCertificate, TellsCheck, TellsVerdict, TellsOutcome, TellsUnrun};
 
 use bpf_cert::CertError;
-use bpf_check::{Refusal, VerifyError};
+use bpf_check::{Refusal, Verdict, VerifyError};
 use bpf_insn::{DecodeError, Order};
 use bpf_machine::Outcome;
 
@@ -15,12 +15,16 @@ pub const YES: i32 = 1;
 pub const NO: i32 = 0;
 /// Memory ran out.
 pub const NO_MEMORY: i32 = -1;
-/// An argument is none that the call takes.
+/// A number is none that the call takes, or a table of lines is none.
 pub const BAD_CALL: i32 = -2;
 /// The memory for the answer is too small.
 pub const TOO_SMALL: i32 = -3;
 /// A run may take more instructions than are paid for.
 pub const TOO_LONG: i32 = -4;
+/// A context's length is none that was judged.
+pub const BAD_LENGTH: i32 = -5;
+/// Words aren't what this version of the library wrote, or there are fewer than it wrote.
+pub const BAD_WORDS: i32 = -6;
 
 /// What is promised of an image: on every context of `least` to `most` bytes it ends within `bound` instructions.
 #[repr(C)]
@@ -131,6 +135,17 @@ pub fn of_verify(error: VerifyError) -> Option<BpfRefusal>
         VerifyError::Cert(error) => Some(of_certificate(error)),
         VerifyError::Image(error) => Some(of_image(error)),
         VerifyError::Check(error) => Some(of_check(error)),
+    }
+}
+
+/// What is promised of an image.
+pub(crate) fn of_verdict(verdict: Verdict) -> BpfVerdict
+    ensures { TellsVerdict verdict result }
+{
+    BpfVerdict {
+        least: verdict.least,
+        most: verdict.most,
+        bound: verdict.bound,
     }
 }
 

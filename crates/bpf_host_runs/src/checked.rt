@@ -2,7 +2,7 @@
 
 ghost use Rattle.std.specs.Prelude.{◌≤◌, ◌↔◌, IsSome, IfSome, length};
 ghost use Rattle.bpf_host_runs.specs.Answers.{IsVerifiedFor, MayRun, EndsAsVerified, EndsAsPrepared};
-ghost use Rattle.bpf_host_runs.specs.Prepared.{IsMarked, prepared_head};
+ghost use Rattle.bpf_host_runs.specs.Prepared.{IsMarked, IsWhole, prepared_head};
 ghost use Rattle.bpf_host_runs.specs.Told.{order_named};
 
 use crate::ordered::Ordered;
@@ -24,7 +24,7 @@ fn end_in<const ORDER: u32>(image: &[u8], context: &[u8]) -> u64
 }
 
 /// The number with which the program of a verified image ends on a context.
-fn end_of_image(image: &[u8], order: Order, context: &[u8]) -> u64
+pub(crate) fn end_of_image(image: &[u8], order: Order, context: &[u8]) -> u64
     requires { IsVerifiedFor order image.now context.now }
     ensures { EndsAsVerified order image.now context.now result }
 {
@@ -34,12 +34,12 @@ fn end_of_image(image: &[u8], order: Order, context: &[u8]) -> u64
     }
 }
 
-/// The number with which a prepared program ends on a context; None where another version prepared it.
+/// The number with which a prepared program ends on a context; None where another version prepared it, or words of it aren't there.
 pub(crate) fn end_of(memory: &[u8], context: &[u8]) -> Option<u64>
     requires head { prepared_head ≤ length memory.now }
-    requires may { IsMarked memory.now → MayRun memory.now context.now }
+    requires may { IsMarked memory.now → IsWhole memory.now → MayRun memory.now context.now }
     ensures ends { IfSome result (EndsAsPrepared memory.now context.now) }
-    ensures known { IsSome result ↔ IsMarked memory.now }
+    ensures known { IsSome result ↔ (IsMarked memory.now × IsWhole memory.now) }
 {
     let found = found_in(memory)?;
     Some(end_of_image(found.image, found.order, context))

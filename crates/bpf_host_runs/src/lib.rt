@@ -9,32 +9,34 @@ ghost use Rattle.bpf_insn.specs.declared.instruction.Insn.{Insn as Instruction};
 ghost use Rattle.bpf_cert.specs.View.{CertificateView};
 ghost use Rattle.bpf_check.specs.Verdicts.{Verified, Promises, Certifies};
 ghost use Rattle.bpf_host_runs.specs.Told.{order_named, IsVerdictOf};
-ghost use Rattle.bpf_host_runs.specs.Prepared.{IsPrepared, IsMarked, prepared_head, version};
-ghost use Rattle.bpf_host_runs.specs.Loaded.{handle_head, IsLoaded, IsMarkedHandle, HoldsLoaded, EndsAsLoaded, loaded_least, loaded_most};
+ghost use Rattle.bpf_host_runs.specs.Prepared.{IsPrepared, IsMarked, IsWhole, prepared_head, version};
+ghost use Rattle.bpf_host_runs.specs.Loaded.{handle_head, IsLoaded, IsMarkedHandle, IsWholeHandle, HoldsLoaded, EndsAsLoaded, loaded_least, loaded_most};
 ghost use Rattle.bpf_host_runs.specs.Answers.{IsRefusedAsTold, IsNoImage, RanImage, IsUnrun, MayRun, EndsAsPrepared};
-ghost use Rattle.bpf_host_runs.specs.declared.answers.TheConstants.{YES, NO, NO_MEMORY, BAD_CALL, TOO_SMALL, TOO_LONG};
+ghost use Rattle.bpf_host_runs.specs.declared.answers.TheConstants.{YES, NO, NO_MEMORY, BAD_CALL, TOO_SMALL, TOO_LONG, BAD_LENGTH, BAD_WORDS};
 
 mod answers;
 mod checked;
+mod judged;
 mod loaded;
 mod ordered;
 mod prepared;
 mod runs;
 
 pub use answers::{
-    BAD_CALL, BpfOutcome, BpfRefusal, BpfVerdict, NO, NO_MEMORY, TOO_LONG, TOO_SMALL, YES, letter,
-    of_check, of_image, of_verify, order_of,
+    BAD_CALL, BAD_LENGTH, BAD_WORDS, BpfOutcome, BpfRefusal, BpfVerdict, NO, NO_MEMORY, TOO_LONG,
+    TOO_SMALL, YES, letter, of_check, of_image, of_verify, order_of,
 };
 use answers::{of_outcome, unrun};
 use bpf_insn::{MAX_CONTEXT, MAX_IMAGE, ProgramView};
-use checked::end_of;
-use loaded::{end_of_loaded, handle_size, has_handle_room, put_loaded, takes};
+use checked::{end_of, end_of_image};
+use judged::{Given, kept, told};
+use loaded::{found_loaded, handle_size, takes};
 use prepared::{has_room, put, size_for};
 use runs::outcome_of;
 use std::alloc::Global;
 
-/// Version 0.1.0.
-const VERSION: u32 = 100;
+/// Version 0.2.0.
+const VERSION: u32 = 200;
 
 /// The library's version as one number: 10,000 times its first part, 100 times its second, and its third, together.
 pub fn version() -> u32
@@ -67,40 +69,29 @@ pub fn verify(
     let Some(order) = order_of(u64::from(order)) else {
         return BAD_CALL;
     };
-    match bpf_check::verify(alloc, image, order, certificate) {
-        Ok(yes) => {
-            *verdict = BpfVerdict {
-                least: yes.least,
-                most: yes.most,
-                bound: yes.bound,
-            };
-            YES
-        }
-        Err(error) => match of_verify(error) {
-            Some(told) => {
-                *refusal = told;
-                NO
-            }
-            None => NO_MEMORY,
-        },
-    }
+    told(
+        bpf_check::verify(alloc, image, order, certificate),
+        verdict,
+        refusal,
+    )
 }
 
 /// Runs a program that nobody verified on a context of at most 4,096 bytes, for at most `fuel` instructions, on the exact
 /// machine. 1: it ran, and `outcome` says how it ended. 0: the image is refused, and `outcome` says why. -2: the order is
-/// neither 0 nor 1, or the context is too long, and `outcome` stays as it was. It takes no memory.
+/// neither 0 nor 1. -5: the context is too long. What isn't answered stays as it was. It takes no memory.
 pub fn run(image: &[u8], order: u32, context: &[u8], fuel: u64, outcome: &mut BpfOutcome) -> i32
     ensures ran { result ≡ YES → RanImage (order_named order) image.now context.now fuel outcome.new }
     ensures refused { result ≡ NO → IsUnrun (order_named order) image.now outcome.new }
-    ensures call { (result ≡ BAD_CALL) ↔ ((1 < order) ⊎ (max_context < length context.now)) }
-    ensures answers { (result ≡ YES) ⊎ (result ≡ NO) ⊎ (result ≡ BAD_CALL) }
-    ensures kept { result ≡ BAD_CALL → outcome.new ≡ outcome.old }
+    ensures call { (result ≡ BAD_CALL) ↔ (1 < order) }
+    ensures long { (result ≡ BAD_LENGTH) ↔ ((order ≤ 1) × (max_context < length context.now)) }
+    ensures answers { (result ≡ YES) ⊎ (result ≡ NO) ⊎ (result ≡ BAD_CALL) ⊎ (result ≡ BAD_LENGTH) }
+    ensures kept { (result ≡ YES) ⊎ (result ≡ NO) ⊎ (outcome.new ≡ outcome.old) }
 {
     let Some(order) = order_of(u64::from(order)) else {
         return BAD_CALL;
     };
     if context.len() > MAX_CONTEXT {
-        return BAD_CALL;
+        return BAD_LENGTH;
     }
     match ProgramView::of(image, order) {
         Ok(_program) => {
@@ -152,17 +143,18 @@ pub fn prepare(image: &[u8], order: u32, memory: &mut [u8]) -> i32
 }
 
 /// Runs a prepared program whose image `verify` says yes to, on a context of a length within that verdict. 1: it ended
-/// with `value`, within the bound. -2: another version prepared it, and `value` stays as it was. It takes no memory.
+/// with `value`, within the bound. -6: another version prepared it, or bytes of it aren't there, and `value` stays as it was. It takes
+/// no memory.
 pub fn run_checked(memory: &[u8], context: &[u8], value: &mut u64) -> i32
     requires head { prepared_head ≤ length memory.now }
-    requires may { IsMarked memory.now → MayRun memory.now context.now }
+    requires may { IsMarked memory.now → IsWhole memory.now → MayRun memory.now context.now }
     ensures ends { result ≡ YES → EndsAsPrepared memory.now context.now value.new }
-    ensures runs { (result ≡ YES) ↔ IsMarked memory.now }
-    ensures answers { (result ≡ YES) ⊎ (result ≡ BAD_CALL) }
+    ensures runs { (result ≡ YES) ↔ (IsMarked memory.now × IsWhole memory.now) }
+    ensures answers { (result ≡ YES) ⊎ (result ≡ BAD_WORDS) }
     ensures kept { (result ≡ YES) ⊎ (value.new ≡ value.old) }
 {
     let Some(end) = end_of(memory, context) else {
-        return BAD_CALL;
+        return BAD_WORDS;
     };
     *value = end;
     YES
@@ -212,45 +204,41 @@ pub fn load(
     ensures verdict_kept { (result ≡ YES) ⊎ (result ≡ TOO_LONG) ⊎ (verdict.new ≡ verdict.old) }
     ensures refusal_kept { (result ≡ NO) ⊎ (refusal.new ≡ refusal.old) }
 {
-    let Some(byte_order) = order_of(u64::from(order)) else {
+    let Some(order) = order_of(u64::from(order)) else {
         return BAD_CALL;
     };
-    let mut promised = BpfVerdict {
-        least: 0,
-        most: 0,
-        bound: 0,
+    let given = Given {
+        image,
+        order,
+        limit,
     };
-    let answer = verify(alloc, image, order, certificate, &mut promised, refusal);
-    if answer != YES {
-        return answer;
-    }
-    if !has_handle_room(memory, image.len()) {
-        return TOO_SMALL;
-    }
-    *verdict = promised;
-    if promised.bound > limit {
-        return TOO_LONG;
-    }
-    put_loaded(image, byte_order, promised, memory);
-    YES
+    kept(
+        bpf_check::verify(alloc, image, order, certificate),
+        given,
+        memory,
+        verdict,
+        refusal,
+    )
 }
 
-/// Runs the program of a handle that `load` wrote. 1: it ended with `value`, within the handle's bound. -2: another
-/// version wrote it, or the context's length is out of the handle's range; `value` stays as it was. It takes no memory.
+/// Runs the program of a handle that `load` wrote. 1: it ended with `value`, within the handle's bound. -6: another
+/// version wrote it, or bytes of it aren't there. -5: the context's length is out of the handle's range. `value` stays as it was but for 1.
+/// It takes no memory.
 pub fn run_loaded(memory: &[u8], context: &[u8], value: &mut u64) -> i32
     requires head { handle_head ≤ length memory.now }
-    requires holds { IsMarkedHandle memory.now → HoldsLoaded memory.now }
+    requires holds { IsMarkedHandle memory.now → IsWholeHandle memory.now → HoldsLoaded memory.now }
     ensures ends { result ≡ YES → EndsAsLoaded memory.now context.now value.new }
-    ensures runs { (result ≡ YES) ↔ (IsMarkedHandle memory.now × (loaded_least memory.now ≤ length context.now) × (length context.now ≤ loaded_most memory.now)) }
-    ensures answers { (result ≡ YES) ⊎ (result ≡ BAD_CALL) }
+    ensures words { (result ≢ BAD_WORDS) ↔ (IsMarkedHandle memory.now × IsWholeHandle memory.now) }
+    ensures runs { result ≢ BAD_WORDS → ((result ≡ YES) ↔ ((loaded_least memory.now ≤ length context.now) × (length context.now ≤ loaded_most memory.now))) }
+    ensures answers { (result ≡ YES) ⊎ (result ≡ BAD_LENGTH) ⊎ (result ≡ BAD_WORDS) }
     ensures kept { (result ≡ YES) ⊎ (value.new ≡ value.old) }
 {
-    if !takes(memory, context.len()) {
-        return BAD_CALL;
-    }
-    let Some(number) = end_of_loaded(memory, context) else {
-        return BAD_CALL;
+    let Some(found) = found_loaded(memory) else {
+        return BAD_WORDS;
     };
-    *value = number;
+    if !takes(memory, context.len()) {
+        return BAD_LENGTH;
+    }
+    *value = end_of_image(found.image, found.order, context);
     YES
 }

@@ -1,14 +1,13 @@
 //! Handles: a verdict's numbers in front of the prepared program that it is about, in memory that the caller gives.
 
-ghost use Rattle.std.specs.Prelude.{◌≡◌, ◌≤◌, ◌+◌, ◌*◌, ◌↔◌, IsTrue, IsSome, IfSome, length, drop};
+ghost use Rattle.std.specs.Prelude.{◌≡◌, ◌≤◌, ◌+◌, ◌*◌, ◌↔◌, IsTrue, IsSome, IfSome, List, ℕ, length, drop};
 ghost use Rattle.bpf_insn.specs.Limits.{max_slots};
-ghost use Rattle.bpf_host_runs.specs.Answers.{MayRun, EndsAsPrepared};
-ghost use Rattle.bpf_host_runs.specs.Prepared.{prepared_head};
-ghost use Rattle.bpf_host_runs.specs.Loaded.{handle_head, IsLoaded, IsMarkedHandle, HasRange, loaded_least, loaded_most};
+ghost use Rattle.bpf_insn.specs.declared.order.Order.{Order as ByteOrderOf};
+ghost use Rattle.bpf_host_runs.specs.Prepared.{IsPrepared, prepared_head};
+ghost use Rattle.bpf_host_runs.specs.Loaded.{handle_head, IsLoaded, IsMarkedHandle, IsWholeHandle, HasRange, loaded_least, loaded_most};
 
 use crate::answers::BpfVerdict;
-use crate::checked::end_of;
-use crate::prepared::put;
+use crate::prepared::{Found, found_in, put};
 use bpf_insn::Order;
 use byteorder::{ByteOrder, LittleEndian};
 
@@ -62,12 +61,11 @@ pub(crate) fn takes(memory: &[u8], len: usize) -> bool
     LittleEndian::read_u64(memory) <= len && len <= LittleEndian::read_u64(&memory[8..])
 }
 
-/// The number with which the program of a handle ends on a context; None where another version wrote the handle.
-pub(crate) fn end_of_loaded(memory: &[u8], context: &[u8]) -> Option<u64>
-    requires head { handle_head ≤ length memory.now }
-    requires may { IsMarkedHandle memory.now → MayRun (drop 24 memory.now) context.now }
-    ensures ends { IfSome result (EndsAsPrepared (drop 24 memory.now) context.now) }
-    ensures known { IsSome result ↔ IsMarkedHandle memory.now }
+/// What stands prepared in a handle; None where another version wrote it, or words of it aren't there.
+pub(crate) fn found_loaded(memory: &[u8]) -> Option<Found<'_>>
+    requires { handle_head ≤ length memory.now }
+    ensures found { IfSome result (λ f. (order : ByteOrderOf) (image : List ℕ) → IsPrepared order image (drop 24 memory.now) → (f.image.now ≡ image) × (f.order ≡ order)) }
+    ensures known { IsSome result ↔ (IsMarkedHandle memory.now × IsWholeHandle memory.now) }
 {
-    end_of(&memory[RANGE..], context)
+    found_in(&memory[RANGE..])
 }

@@ -4,9 +4,10 @@ ghost use Rattle.std.specs.Prelude.{◌≡◌};
 
 use crate::beside::Beside;
 use crate::error::PlaceError;
-use crate::links::{behind_links, is_name_of};
+use crate::fault::{Cause, Fault, Noted};
+use crate::links::{behind_links, is_name_of, lead_to_one};
 use crate::places::Places;
-use std::alloc::Global;
+use std::alloc::{AllocError, Global};
 use std::fs::{self, Metadata};
 use std::io::{self, ErrorKind, Read, Stdin, Stdout, Write};
 use std::os::unix::fs::MetadataExt;
@@ -59,18 +60,26 @@ impl<F: Write + Drop> Write for FileWriter<F> {
 #[derive(Drop)]
 pub struct FilePlaces<'a, R: Files> {
     runtime: &'a R,
+    fault: &'a Fault,
     alloc: Global,
     input: Stdin,
     output: Stdout,
 }
 
 impl<'a, R: Files> FilePlaces<'a, R> {
-    /// The files that the runtime reaches, and these streams.
-    pub fn new(runtime: &'a R, alloc: Global, input: Stdin, output: Stdout) -> Self
+    /// The files that the runtime reaches, and these streams. What fails of them is noted there.
+    pub fn new(
+        runtime: &'a R,
+        fault: &'a Fault,
+        alloc: Global,
+        input: Stdin,
+        output: Stdout,
+    ) -> Self
         ensures { result.runtime ≡ runtime.entry }
     {
         FilePlaces {
             runtime,
+            fault,
             alloc,
             input,
             output,
@@ -95,6 +104,9 @@ impl<'a, R: Files> FilePlaces<'a, R> {
 
     /// What is written for a name.
     fn writer(&self, name: &str) -> io::Result<FileWriter<R::File>> {
+        if name == "-" {
+            return Ok(FileWriter::Output(self.output));
+        }
         match fs::metadata(self.runtime, name) {
             Ok(found) if found.is_file() => self.beside(name, Some(&found)),
             Ok(_) => self.at_name(name),
@@ -102,39 +114,61 @@ impl<'a, R: Files> FilePlaces<'a, R> {
             Err(error) => Err(error),
         }
     }
-}
 
-impl<'a, R: Files> Places for FilePlaces<'a, R> {
-    type Reader = FileReader<R::File>;
-
-    type Writer = FileWriter<R::File>;
-
-    fn open(&mut self, name: &str) -> Result<FileReader<R::File>, PlaceError> {
+    /// What is read for a name.
+    fn reader(&self, name: &str) -> io::Result<FileReader<R::File>> {
         if name == "-" {
             return Ok(FileReader::Input(self.input));
         }
         Ok(FileReader::File(fs::open(self.runtime, name)?))
     }
 
-    // Whoever changes what stands at the name between the question and the renaming has it renamed over.
-    fn create(&mut self, name: &str) -> Result<FileWriter<R::File>, PlaceError> {
-        if name == "-" {
-            return Ok(FileWriter::Output(self.output));
-        }
-        Ok(self.writer(name)?)
-    }
-
-    fn finish(&mut self, writer: FileWriter<R::File>) -> io::Result<()> {
+    /// Puts what was written at its name.
+    fn put(&self, writer: FileWriter<R::File>) -> io::Result<()> {
         match writer {
             FileWriter::Beside(beside) => beside.put(self.runtime),
             FileWriter::AtName(mut file) => file.flush(),
             FileWriter::Output(mut output) => output.flush(),
         }
     }
+}
 
-    fn discard(&mut self, writer: FileWriter<R::File>) {
-        if let FileWriter::Beside(beside) = writer {
+impl<'a, R: Files> Places for FilePlaces<'a, R> {
+    type Reader = Noted<'a, FileReader<R::File>>;
+
+    type Writer = Noted<'a, FileWriter<R::File>>;
+
+    fn open(&mut self, name: &str) -> Result<Noted<'a, FileReader<R::File>>, PlaceError> {
+        let reader = self.fault.note(self.reader(name))?;
+        Ok(Noted::new(reader, self.fault))
+    }
+
+    // Whoever changes what stands at the name between the question and the renaming has it renamed over.
+    fn create(&mut self, name: &str) -> Result<Noted<'a, FileWriter<R::File>>, PlaceError> {
+        let writer = self.fault.note(self.writer(name))?;
+        Ok(Noted::new(writer, self.fault))
+    }
+
+    fn finish(&mut self, writer: Noted<'a, FileWriter<R::File>>) -> io::Result<()> {
+        self.fault.note(self.put(writer.into_stream()))
+    }
+
+    fn discard(&mut self, writer: Noted<'a, FileWriter<R::File>>) {
+        if let FileWriter::Beside(beside) = writer.into_stream() {
             beside.discard(self.runtime);
         }
+    }
+
+    // Where the one or the other can't be told, they aren't: whatever is in the way will be in the way of writing, too.
+    fn lead_to_one(&self, first: &str, second: &str) -> Result<bool, AllocError> {
+        match lead_to_one(self.runtime, self.alloc, first, second) {
+            Ok(one) => Ok(one),
+            Err(error) if error.kind() == ErrorKind::OutOfMemory => Err(AllocError),
+            Err(_) => Ok(false),
+        }
+    }
+
+    fn cause(&self) -> Cause {
+        self.fault.cause()
     }
 }

@@ -3,6 +3,7 @@
 
 mod beside;
 mod error;
+mod fault;
 mod files;
 mod keeping;
 mod links;
@@ -10,6 +11,7 @@ mod places;
 mod reading;
 
 pub use error::PlaceError;
+pub use fault::{Cause, Fault, Noted};
 pub use files::FilePlaces;
 pub use keeping::Keeping;
 pub use places::Places;

@@ -4,6 +4,8 @@ ghost use Rattle.std.specs.Prelude.{◌≡◌, ℕ, Bool, List, [], Option, ⊤,
 ghost use Rattle.std.specs.Result.{result_ok};
 
 use crate::error::PlaceError;
+use crate::fault::Cause;
+use std::alloc::AllocError;
 use std::io::{self, Read, Write};
 
 /// Opens names for reading and for writing.
@@ -22,6 +24,9 @@ pub trait Places {
     /// Whether the bytes of a writer, as it then is, came to stand at its name, and the places after it.
     ghost ends: { Self → Self.Writer → Bool → Self → Type 0 } = { λ _ _ _ _. ⊤ };
 
+    /// Whether what is written for the one name comes to stand in the place of what is written for the other.
+    ghost meets: { Self → List ℕ → List ℕ → Bool → Type 0 } = { λ _ _ _ _. ⊤ };
+
     /// What stands at the name. `Memory` where there is none to open it, `Refused` where it can't be opened for another cause.
     fn open(&mut self, name: &str) -> Result<Self::Reader, PlaceError>
         ensures { opens self.old name.now (option_map Self.Reader.remaining (result_ok result)) self.new };
@@ -39,4 +44,12 @@ pub trait Places {
     /// Throws away what was written; what stood at the name stays.
     fn discard(&mut self, writer: Self::Writer)
         ensures { ends self.old writer false self.new };
+
+    /// Whether what is written for the one name comes to stand in the place of what is written for the other, as far as that can be
+    /// told.
+    fn lead_to_one(&self, first: &str, second: &str) -> Result<bool, AllocError>
+        ensures { IfOk result (meets self.now first.now second.now) };
+
+    /// Why what failed last of what is read or written by name did. No answer depends on it.
+    fn cause(&self) -> Cause;
 }

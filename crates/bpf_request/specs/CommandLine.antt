@@ -6,12 +6,13 @@ use Rattle.clap.specs.Words.{Kinds, ReadsOne, Row, Text, fault_of, first_of, one
 pub use Rattle.bpf_words.specs.Commands.{bpf}
 use Rattle.bpf_insn.specs.declared.order.Order.{Order}
 use Rattle.bpf_insn.specs.declared.order.Order.TheVariants.{Little, Big}
+use Rattle.bpf_request.specs.declared.certifying.Certifying.{Certifying}
 use Rattle.bpf_request.specs.declared.contexts.Contexts.{Contexts}
 use Rattle.bpf_request.specs.declared.contexts.Contexts.TheVariants.{Word, Bytes, Lines, Nothing, Several}
 use Rattle.bpf_request.specs.declared.following.Following.{Following}
 use Rattle.bpf_request.specs.declared.hardening.Hardening.{Hardening}
 use Rattle.bpf_request.specs.declared.words.Request.{Request}
-use Rattle.bpf_request.specs.declared.words.Request.TheVariants.{Groups, Asm, List as ListOf, Run, Check, RunChecked, Infer, Harden, Follows, Migrate, Explain}
+use Rattle.bpf_request.specs.declared.words.Request.TheVariants.{Groups, Asm, List as ListOf, Run, Check, RunChecked, Infer, Harden, Certify, Follows, Migrate, Explain}
 use Rattle.bpf_request.specs.declared.subject.Aspect.{Aspect}
 use Rattle.bpf_request.specs.declared.subject.Aspect.TheVariants.{Listing, Slot as OneSlot, Graph as Drawn}
 use Rattle.bpf_request.specs.declared.subject.Clash.{Clash}
@@ -133,9 +134,36 @@ usual_turns = 65536
 abbrev pub IsHardening : List Row → Hardening → Type 0
 IsHardening rows h =
     IsInput rows h.input.now h.order × IsCount 32 0 (one_of (codes "LEN") rows) h.length × (h.output.now ≡ word_of (codes "OUT") rows)
-    × IsCount 32 usual_turns (one_of (codes "turns") rows) h.turns × IsCount 64 0 (one_of (codes "otherwise") rows) h.otherwise
+    × IsCount 32 usual_turns (one_of (codes "turns") rows) h.turns × IsNumber (one_of (codes "untouched") rows) h.untouched
+    × IsCount 64 0 (one_of (codes "otherwise") rows) h.otherwise
     × IsFlag (one_of (codes "padded") rows) h.padded × IsFlag (one_of (codes "unproved") rows) h.unproved
     × (option_map (λ s. s.now) h.notes ≡ first_of (codes "notes") rows) × (option_map (λ s. s.now) h.changes ≡ first_of (codes "changes") rows)
+
+-- what is to be certified, within which bound, how, and where the answers go
+abbrev pub IsCertifying : List Row → Certifying → Type 0
+IsCertifying rows c =
+    IsInput rows c.input.now c.order × IsCount 32 0 (one_of (codes "LEN") rows) c.length
+    × (c.output.now ≡ word_of (codes "OUT") rows) × (c.certificate.now ≡ word_of (codes "CERT") rows)
+    × IsNumber (one_of (codes "bound") rows) c.bound × IsNumber (one_of (codes "turns") rows) c.turns × IsCount 64 0 (one_of (codes "otherwise") rows) c.otherwise
+    × IsFlag (one_of (codes "padded") rows) c.padded × IsFlag (one_of (codes "unproved") rows) c.unproved
+    × (option_map (λ s. s.now) c.notes ≡ first_of (codes "notes") rows) × (option_map (λ s. s.now) c.changes ≡ first_of (codes "changes") rows)
+    × (option_map (λ s. s.now) c.lines ≡ first_of (codes "lines") rows)
+
+-- the hardening that a certification comes to where the program needs one
+abbrev pub hardening_of : Certifying → Hardening
+hardening_of c = record {
+  input = c.input;
+  length = c.length;
+  output = c.output;
+  turns = unwrap_or c.turns 1;
+  untouched = None;
+  otherwise = c.otherwise;
+  padded = c.padded;
+  unproved = c.unproved;
+  notes = c.notes;
+  changes = c.changes;
+  order = c.order;
+}
 
 -- which programs are to be compared, by which notes, for which contexts and runs
 abbrev pub IsFollowing : List Row → Following → Type 0
@@ -148,7 +176,7 @@ IsFollowing rows f =
 abbrev pub Asks : Text → List Row → Request → Type 0
 Asks name rows (Groups input order) =
     (name ≢ codes "asm") × (name ≢ codes "list") × (name ≢ codes "run") × (name ≢ codes "check") × (name ≢ codes "run-checked") × (name ≢ codes "infer")
-    × (name ≢ codes "harden") × (name ≢ codes "follows") × (name ≢ codes "migrate") × (name ≢ codes "explain") × IsInput rows input.now order
+    × (name ≢ codes "harden") × (name ≢ codes "certify") × (name ≢ codes "follows") × (name ≢ codes "migrate") × (name ≢ codes "explain") × IsInput rows input.now order
 Asks name rows (Asm input output order) = (name ≡ codes "asm") × IsInput rows input.now order × (output.now ≡ word_of (codes "OUT") rows)
 Asks name rows (ListOf input slots bytes order) =
     (name ≡ codes "list") × IsInput rows input.now order × IsFlag (one_of (codes "slots") rows) slots × IsFlag (one_of (codes "bytes") rows) bytes
@@ -163,6 +191,7 @@ Asks name rows (Infer input least most deep output order) =
     (name ≡ codes "infer") × IsInput rows input.now order × IsCount 32 0 (one_of (codes "LEN") rows) least
     × IsCount 32 least (one_of (codes "most") rows) most × IsFlag (one_of (codes "deep") rows) deep × (output.now ≡ word_of (codes "OUT") rows)
 Asks name rows (Harden hardening) = (name ≡ codes "harden") × IsHardening rows hardening
+Asks name rows (Certify certifying) = (name ≡ codes "certify") × IsCertifying rows certifying
 Asks name rows (Follows following) = (name ≡ codes "follows") × IsFollowing rows following
 Asks name rows (Explain input subject lines order) =
     (name ≡ codes "explain") × IsInput rows input.now order × IsSubject rows subject × (option_map (λ s. s.now) lines ≡ first_of (codes "lines") rows)

@@ -13,6 +13,8 @@ pub struct Hardening<'a> {
     pub output: &'a str,
     /// How often a loop that gets a counter may turn in one call of its function, at least once.
     pub turns: u32,
+    /// How many of the lowest bytes of each frame runs that keep their meaning access by r10 alone, at most 512; None where nothing is said.
+    pub untouched: Option<u32>,
     /// The number with which a trap ends the program.
     pub otherwise: u64,
     /// Contexts are blocks: a packet's length in eight bytes, the packet, and padding.

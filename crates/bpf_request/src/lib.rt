@@ -1,12 +1,14 @@
 //! What a command line asks for.
 #![tactic(auto)]
 
+mod certifying;
 mod contexts;
 mod following;
 mod hardening;
 mod subject;
 mod words;
 
+pub use certifying::Certifying;
 pub use contexts::Contexts;
 pub use following::Following;
 pub use hardening::Hardening;

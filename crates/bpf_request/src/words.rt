@@ -3,9 +3,10 @@
 ghost use Rattle.std.specs.Prelude.{◌≡◌, IfOk, IfErr, map, option_map, true};
 ghost use Rattle.std.specs.String.{string_bytes};
 ghost use Rattle.clap.specs.Words.{FailsBy, first_of, found_of, kind_of, one_of, rows_of, subcommand_of, takes};
-ghost use Rattle.bpf_request.specs.CommandLine.{AreContexts, Asks, GivenBy, IsAsked, IsCount, IsFlag, IsFollowing, IsHardening, IsNumber, IsOrder, IsSubject, bpf, faults_in, word_of};
+ghost use Rattle.bpf_request.specs.CommandLine.{AreContexts, Asks, GivenBy, IsAsked, IsCertifying, IsCount, IsFlag, IsFollowing, IsHardening, IsNumber, IsOrder, IsSubject, bpf, faults_in, word_of};
 ghost use Rattle.clap.specs.declared.error.ErrorKind.TheVariants.{OutOfMemory};
 
+use crate::certifying::Certifying;
 use crate::contexts::Contexts;
 use crate::following::Following;
 use crate::hardening::Hardening;
@@ -73,6 +74,8 @@ pub enum Request<'a> {
     },
     /// A hardened image.
     Harden(Hardening<'a>),
+    /// An image with its certificate, hardened where it needs to be.
+    Certify(Certifying<'a>),
     /// Whether notes show that one program keeps the meaning of another.
     Follows(Following<'a>),
     /// What the checker or the inferrer sees of a program, or why an input is refused, in words, with the lines of its source at a
@@ -190,11 +193,33 @@ fn hardening_in<'a>(matches: &ArgMatches<'a>) -> Hardening<'a>
         length: number(matches, "LEN", 0),
         output: word(matches, "OUT"),
         turns: number(matches, "turns", USUAL_TURNS),
+        untouched: number_if(matches, "untouched"),
         otherwise: wide_number(matches, "otherwise", 0),
         padded: has_flag(matches, "padded"),
         unproved: has_flag(matches, "unproved"),
         notes: word_if(matches, "notes"),
         changes: word_if(matches, "changes"),
+        order: order_of(matches),
+    }
+}
+
+/// What is to be certified.
+fn certifying_in<'a>(matches: &ArgMatches<'a>) -> Certifying<'a>
+    ensures { IsCertifying (rows_of (found_of matches.now)) result }
+{
+    Certifying {
+        input: word(matches, "IN"),
+        length: number(matches, "LEN", 0),
+        output: word(matches, "OUT"),
+        certificate: word(matches, "CERT"),
+        bound: number_if(matches, "bound"),
+        turns: number_if(matches, "turns"),
+        otherwise: wide_number(matches, "otherwise", 0),
+        padded: has_flag(matches, "padded"),
+        unproved: has_flag(matches, "unproved"),
+        notes: word_if(matches, "notes"),
+        changes: word_if(matches, "changes"),
+        lines: word_if(matches, "lines"),
         order: order_of(matches),
     }
 }
@@ -264,6 +289,7 @@ fn request_in<'a>(name: &str, matches: &ArgMatches<'a>) -> Request<'a>
             }
         }
         "harden" => Request::Harden(hardening_in(matches)),
+        "certify" => Request::Certify(certifying_in(matches)),
         "follows" => Request::Follows(following_in(matches)),
         "explain" => Request::Explain {
             input,

@@ -97,6 +97,10 @@ infer = with_rule (with_rule (with_rule infer_places most) (flag (codes "deep"))
 abbrev pub turns : Rule
 turns = number (codes "turns") (pos 1) (pos 4294967295)
 
+-- the option `--untouched`, with a number up to the bytes of a frame
+abbrev pub untouched : Rule
+untouched = number (codes "untouched") (pos 0) (pos frame_bytes)
+
 -- the option `--otherwise`, with a number below 2 ^ 64
 abbrev pub otherwise : Rule
 otherwise = record (option (codes "otherwise")) { parser = Some (parser.Unsigned 0 18446744073709551615) }
@@ -106,15 +110,24 @@ harden_places = with_rule (with_rule (with_rule (new_app (codes "harden")) (plac
 
 abbrev pub harden : App
 harden =
-    with_rule (with_rule (with_rule (with_rule (with_rule (with_rule (with_rule harden_places turns) otherwise) (flag (codes "padded"))) (flag (codes "unproved")))
-    (option (codes "notes"))) (option (codes "changes"))) big
+    with_rule (with_rule (with_rule (with_rule (with_rule (with_rule (with_rule (with_rule harden_places turns) untouched) otherwise) (flag (codes "padded")))
+    (flag (codes "unproved"))) (option (codes "notes"))) (option (codes "changes"))) big
+
+-- the option `--bound`, with a number from 1, below 2 ^ 32
+abbrev pub bound : Rule
+bound = number (codes "bound") (pos 1) (pos 4294967295)
+
+abbrev pub certify_places : App
+certify_places =
+    with_rule (with_rule (with_rule (with_rule (new_app (codes "certify")) (place (codes "IN"))) context_length) (place (codes "OUT"))) (place (codes "CERT"))
+
+abbrev pub certify : App
+certify =
+    with_rule (with_rule (with_rule (with_rule (with_rule (with_rule (with_rule (with_rule (with_rule certify_places bound) turns) otherwise) (flag (codes "padded")))
+    (flag (codes "unproved"))) (option (codes "notes"))) (option (codes "changes"))) (option (codes "lines"))) big
 
 abbrev pub follows_places : App
 follows_places = with_rule (with_rule (with_rule (with_rule (new_app (codes "follows")) (place (codes "OLD"))) (place (codes "NEW"))) (place (codes "NOTES"))) context_length
-
--- the option `--untouched`, with a number up to the bytes of a frame
-abbrev pub untouched : Rule
-untouched = number (codes "untouched") (pos 0) (pos frame_bytes)
 
 abbrev pub follows : App
 follows = with_rule (with_rule (with_rule (with_rule follows_places turns) untouched) (flag (codes "padded"))) big
@@ -140,6 +153,6 @@ explain = with_rule (with_rule (with_rule (with_rule (with_rule (with_rule (with
 abbrev pub with_proposals : App
 with_proposals = with_subcommand (with_subcommand (with_subcommand (with_subcommand without_certificates check.top) run_checked.top) infer.top) harden.top
 
--- `bpf` with all eleven
+-- `bpf` with all twelve
 abbrev pub bpf : App
-bpf = with_subcommand (with_subcommand (with_subcommand with_proposals follows.top) migrate.top) explain.top
+bpf = with_subcommand (with_subcommand (with_subcommand (with_subcommand with_proposals certify.top) follows.top) migrate.top) explain.top

@@ -41,6 +41,25 @@ const MOST: Argument = Number(
     "the greatest length of the contexts in bytes, else LEN",
 );
 
+const OTHERWISE: Argument = Otherwise("the number with which a trap ends the program, else 0");
+
+const PADDED: Argument = Flag(
+    "padded",
+    "contexts are blocks: a packet's length in 8 bytes, the packet, padding up to LEN",
+);
+
+const NOTES: Argument = Named("notes", "the notes that `follows` reads go to FILE");
+
+const CHANGES: Argument = Named(
+    "changes",
+    "what was done goes to FILE, a line for each change",
+);
+
+const LINES: Argument = Named(
+    "lines",
+    "the lines of the source by slots, as bpf-cc writes them",
+);
+
 /// The commands that take no certificate.
 pub const FIRST: [Entry; 4] = [
     Entry {
@@ -125,27 +144,62 @@ pub const SECOND: [Entry; 4] = [
                 u32::MAX as i64,
                 "how often a loop that gets a counter may turn in one call of its function, else 65536",
             ),
-            Otherwise("the number with which a trap ends the program, else 0"),
-            Flag(
-                "padded",
-                "contexts are blocks: a packet's length in 8 bytes, the packet, padding up to LEN",
+            Number(
+                "untouched",
+                "M",
+                0,
+                FRAME_BYTES as i64,
+                "how many of the lowest bytes of each frame a run of IN accesses by r10 alone, else as few as can be shown",
             ),
+            OTHERWISE,
+            PADDED,
             Flag(
                 "unproved",
                 "writes an image of which `follows` doesn't say yes, too",
             ),
-            Named("notes", "the notes that `follows` reads go to FILE"),
-            Named(
-                "changes",
-                "what was done goes to FILE, a line for each change",
-            ),
+            NOTES,
+            CHANGES,
             BIG,
         ],
     },
 ];
 
 /// The others.
-pub const LAST: [Entry; 3] = [
+pub const LAST: [Entry; 4] = [
+    Entry {
+        name: "certify",
+        about: "Writes an image and its certificate within a bound, hardened where it needs to be",
+        arguments: &[
+            IMAGE,
+            LENGTH,
+            Place("OUT", "where the image goes"),
+            Place("CERT", "where its certificate goes"),
+            Number(
+                "bound",
+                "B",
+                1,
+                u32::MAX as i64,
+                "how many instructions a run may take at most, else 1000000",
+            ),
+            Number(
+                "turns",
+                "N",
+                1,
+                u32::MAX as i64,
+                "how often a loop that gets a counter may turn in one call of its function, else the most within B",
+            ),
+            OTHERWISE,
+            PADDED,
+            Flag(
+                "unproved",
+                "writes a hardened image that isn't shown to keep the meaning, too",
+            ),
+            NOTES,
+            CHANGES,
+            LINES,
+            BIG,
+        ],
+    },
     Entry {
         name: "follows",
         about: "Judges whether notes show that one image keeps the meaning of another",
@@ -163,7 +217,7 @@ pub const LAST: [Entry; 3] = [
             ),
             Number(
                 "untouched",
-                "N",
+                "M",
                 0,
                 FRAME_BYTES as i64,
                 "how many of the lowest bytes of each frame a run of OLD accesses by r10 alone, else 0",
@@ -207,10 +261,7 @@ pub const LAST: [Entry; 3] = [
             ),
             Flag("text", "IN is a text of the assembly language"),
             Flag("dot", "the control-flow graph as DOT text"),
-            Named(
-                "lines",
-                "the lines of the source by slots, as bpf-cc writes them",
-            ),
+            LINES,
             BIG,
         ],
     },

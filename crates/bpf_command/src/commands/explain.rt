@@ -9,13 +9,14 @@ ghost use Rattle.bpf_check.specs.CheckedProgram.{IsCertifiedBy};
 ghost use Rattle.bpf_check.specs.RefusalNumbers.{refusal_number, refusal_slot};
 ghost use Rattle.bpf_infer_error.specs.RefusalNumbers.{infer_slot};
 ghost use Rattle.bpf_command.specs.Names.{behind_lines, names_explained};
-ghost use Rattle.bpf_answers.specs.Loaded.{CertificateAt, CertificateFails, CertificateRefused, ImageFails, OpensFirst, TextFails, Tried};
+ghost use Rattle.bpf_answers.specs.Loaded.{CertificateAt, CertificateFails, CertificateRefused, ImageFails, OpensFirst, ReadableFails, Tried};
 ghost use Rattle.bpf_command.specs.Explained.{Answers, ExplainFails, ExplainSays, ExplainWithFails, ExplainWithSays, JudgesOf, LinesAt, LinesFail, SoughtSays, TextSays};
 ghost use Rattle.bpf_command_core.specs.Printed.{ImageSays, JudgedSays, ListSays, LoadedFails, LoadedSays, YesSays};
 ghost use Rattle.bpf_answers.specs.Told.{OutputFails};
 
 use bpf_answers::{
-    DONE, Failure, REFUSED, image_at, refuse_certificate, refuse_image, refuse_text, text_at,
+    DONE, Failure, REFUSED, image_at, readable_text_at, refuse_certificate, refuse_image,
+    refuse_text, text_at,
 };
 use bpf_cert::{CertError, Certificate, read};
 use bpf_check::Refusal;
@@ -89,10 +90,10 @@ fn explained_text<'a, P: Places, W: Write>(
     order: Order,
 ) -> Result<u8, Failure<'a>>
     ensures ok { IfOk result (Answers (TextSays P.opens places.old input.entry.now places.new)) }
-    ensures err { IfErr result (TextFails P.opens places.old input.entry.now places.new) }
+    ensures err { IfErr result (ReadableFails P.opens places.old input.entry.now places.new) }
     ensures opened { OpensFirst P.opens (input.entry.now ∷ []) places.old places.new }
 {
-    let text = text_at(alloc, places, input)?;
+    let text = readable_text_at(alloc, places, input)?;
     match assemble(alloc, text.as_str(), order) {
         Ok(program) => told(write_program(&program, out), DONE),
         Err(TextError::Memory) => refuse_text(alloc, out, TextError::Memory),
@@ -272,7 +273,7 @@ fn explained_inferred<'a, P: Places, W: Write, H: Watch>(
 // ---- what is asked for
 
 /// The table of source lines at a name; an empty one where no name is given. What isn't one can't be read.
-fn lines_at<'a, P: Places>(
+pub(super) fn lines_at<'a, P: Places>(
     alloc: Global,
     places: &mut P,
     lines: Option<&'a str>,

@@ -1,27 +1,31 @@
 //! `bpf harden IN LEN OUT`.
 
 ghost use Rattle.bpf_insn.specs.Written.{AppendsBeginning};
-ghost use Rattle.std.specs.Prelude.{◌≡◌, ◌<◌, List, Option, IfOk, IfErr, IfSome, false};
+ghost use Rattle.std.specs.Prelude.{◌≡◌, ◌<◌, ℕ, List, Option, IfOk, IfErr, IfSome, MatchOption, false};
+ghost use Rattle.bpf_follows.specs.Mismatches.{IsMismatch};
 ghost use Rattle.bpf_insn.specs.Instruction.{slots};
 ghost use Rattle.bpf_insn.specs.Image.{IsProgram};
 ghost use Rattle.bpf_harden_notes.specs.RefusalNumbers.{harden_slot};
 ghost use Rattle.bpf_answers.specs.Answer.{Answered, Says, Unfinished, text_of as answer_text};
 ghost use Rattle.bpf_answers.specs.Answer.Answer.{NotHardened, NotShown};
 ghost use Rattle.bpf_follows_law.specs.declared.notes.Place.{Place};
+ghost use Rattle.bpf_follows_law.specs.Matching.{Matches};
 ghost use Rattle.bpf_follows_notes.specs.NotesText.{notes_text};
-ghost use Rattle.bpf_command.specs.Hardened.{BothStand, HardenFails, HardenSays, IsLeft, IsUnshown, MatchesLeaving, NotAllMade, NotBothPut, NotBothStand, Stands, Unput};
+ghost use Rattle.bpf_command.specs.Hardened.{AreLeft, BothStand, HardenFails, HardenSays, IsLeft, IsLeftSaid, IsUnshown, NotAllMade, NotBothPut, NotBothStand, Stands, Unput, asked_bytes, bounds_of, said_answer};
 ghost use Rattle.bpf_places.specs.Made.{making};
 ghost use Rattle.bpf_answers.specs.Told.{OutputFails};
 
-use crate::advice::{after_hardening, after_image, after_mismatch, after_proof, after_unshown};
-use crate::aside::Aside;
+use crate::advice::{
+    Judged, after_hardening, after_image, after_mismatch, after_proof, after_unshown,
+};
+use crate::aside::Terminal;
 use crate::commands::changes::changes_text;
-use bpf_answers::{Content, DONE, Failure, program_at, put, refuse_at, refuse_image};
+use bpf_answers::{Content, DONE, Failure, program_at, put, refuse_at, refuse_image, say};
 use bpf_follows::Mismatch;
 use bpf_follows_law::{Bounds, Place, matching_keeps_meaning};
 use bpf_follows_notes::write;
 use bpf_harden::{HardenError, Hardened, Options, harden};
-use bpf_harden_follows::{Evidence, evidence_of};
+use bpf_harden_follows::{Evidence, evidence_for, evidence_of};
 use bpf_insn::{Code, MAX_CONTEXT, Program};
 use bpf_places::Places;
 use bpf_request::Hardening;
@@ -29,10 +33,10 @@ use std::alloc::{AllocError, Global};
 use std::io::Write;
 
 /// The number of the refusal of a hardened program that isn't shown to keep the meaning, behind those of hardening itself.
-const NOT_SHOWN: u8 = 13;
+pub(super) const NOT_SHOWN: u8 = 13;
 
 /// Prints why a program isn't hardened, and tells people how to see the instruction.
-fn refuse_hardening<'a, W: Write, H: Aside>(
+fn refuse_hardening<'a, W: Write, H: Terminal>(
     alloc: Global,
     out: &mut W,
     aside: &H,
@@ -50,7 +54,7 @@ fn refuse_hardening<'a, W: Write, H: Aside>(
 }
 
 /// Prints that a hardened program isn't shown to keep the meaning, and tells people what of its notes fails.
-fn refuse_unshown<'a, W: Write, H: Aside>(
+fn refuse_unshown<'a, W: Write, H: Terminal>(
     alloc: Global,
     out: &mut W,
     aside: &H,
@@ -67,6 +71,40 @@ fn refuse_unshown<'a, W: Write, H: Aside>(
     answer
 }
 
+/// How a program is hardened.
+fn options_of(asked: Hardening<'_>) -> Options
+    ensures turns { result.turns ≡ asked.entry.turns }
+    ensures otherwise { result.otherwise ≡ asked.entry.otherwise }
+    ensures padded { result.padded ≡ asked.entry.padded }
+    ensures only { result.everywhere ≡ false }
+{
+    Options {
+        turns: asked.turns,
+        otherwise: asked.otherwise,
+        padded: asked.padded,
+        everywhere: false,
+    }
+}
+
+/// For which contexts and runs the new program is to keep the meaning: those that leave so many of the lowest bytes of each frame to r10.
+fn bounds_of(asked: Hardening<'_>, untouched: u32) -> Bounds
+    ensures { result ≡ bounds_of asked.entry untouched }
+{
+    Bounds {
+        length: asked.length,
+        padded: asked.padded,
+        turns: asked.turns,
+        untouched,
+    }
+}
+
+/// How many of these bytes are asked for: none, unless it is said.
+fn asked_bytes(asked: Hardening<'_>) -> u32
+    ensures { result ≡ asked_bytes asked.entry }
+{
+    asked.untouched.unwrap_or(0)
+}
+
 /// The hardened program, with what was done.
 fn answer_of(
     alloc: Global,
@@ -76,15 +114,9 @@ fn answer_of(
     ensures program { IfOk result (λ hardened. IsProgram hardened.program.list) }
     ensures slot { IfErr result (λ e. harden_slot e < slots program.now.list) }
 {
-    let options = Options {
-        turns: asked.turns,
-        otherwise: asked.otherwise,
-        padded: asked.padded,
-        everywhere: false,
-    };
     // The words' parser has seen that it is at most the greatest.
     let length = asked.length.min(MAX_CONTEXT as u32);
-    let hardened = harden(alloc, program, length, &options)?;
+    let hardened = harden(alloc, program, length, &options_of(asked))?;
     let _ = Code::slots(&hardened.program);
     Ok(hardened)
 }
@@ -109,51 +141,104 @@ impl From<AllocError> for Unshown {
     }
 }
 
+/// Whether standard output takes none of what is written.
+fn is_free(asked: Hardening<'_>) -> bool {
+    let taken = [
+        asked.output,
+        asked.notes.unwrap_or(""),
+        asked.changes.unwrap_or(""),
+    ];
+    taken[0] != "-" && taken[1] != "-" && taken[2] != "-"
+}
+
+/// Notes of a hardened program for the runs that are asked for. Where nothing is said of untouched bytes, and it can be told, they are for each
+/// run, or for those that leave the bytes to r10 that hardening takes.
+fn evidence(
+    alloc: Global,
+    program: &Program,
+    hardened: &Hardened,
+    asked: Hardening<'_>,
+) -> Result<Evidence, AllocError>
+    ensures left { IfOk result (λ found. AreLeft asked.entry found.untouched) }
+    ensures all { IfOk result (λ found. IfSome found.mismatch (λ _. found.untouched ≡ asked_bytes asked.entry)) }
+    ensures exact { IfOk result (λ found. MatchOption found.mismatch
+        (Matches program.now hardened.now.program found.notes.items (bounds_of asked.entry found.untouched))
+        (IsMismatch program.now hardened.now.program found.notes.items (bounds_of asked.entry found.untouched))) }
+{
+    match asked.untouched {
+        None if is_free(asked) => evidence_of(alloc, program, hardened, bounds_of(asked, 0)),
+        _ => evidence_for(
+            alloc,
+            program,
+            hardened,
+            bounds_of(asked, asked_bytes(asked)),
+        ),
+    }
+}
+
+/// What is said of untouched bytes for which it is shown: nothing of those that are asked for.
+fn said_of(asked: Hardening<'_>, untouched: u32) -> Option<u32>
+    requires { AreLeft asked.entry untouched }
+    ensures { IsLeftSaid asked.entry untouched result }
+{
+    match asked.untouched {
+        Some(_asked) => None,
+        None => {
+            if untouched == 0 {
+                None
+            } else {
+                Some(untouched)
+            }
+        }
+    }
+}
+
 /// Notes of a hardened program. They show that it keeps the meaning, or it is refused, but with `--unproved`. People are told whether they
 /// show it, and for which runs.
-fn shown<H: Aside>(
+fn shown<H: Terminal>(
     alloc: Global,
     aside: &H,
     program: &Program,
     hardened: &Hardened,
     asked: Hardening<'_>,
-) -> Result<Vec<Option<Place>>, Unshown>
-    ensures matches { IfOk result (λ notes. asked.entry.unproved ≡ false → MatchesLeaving asked.entry program.now hardened.now.program notes.items) }
+) -> Result<Evidence, Unshown>
+    ensures left { IfOk result (λ found. AreLeft asked.entry found.untouched) }
+    ensures matches { IfOk result (λ found. asked.entry.unproved ≡ false
+        → Matches program.now hardened.now.program found.notes.items (bounds_of asked.entry found.untouched)) }
     ensures err { IfErr result (IsUnshown program.now hardened.now.program asked.entry) }
 {
-    let runs = Bounds {
-        length: asked.length,
-        padded: asked.padded,
-        turns: asked.turns,
-        untouched: 0,
+    let found = evidence(alloc, program, hardened, asked)?;
+    let mismatch = found.mismatch;
+    let judged = Judged {
+        old: program,
+        new: &hardened.program,
+        notes: &found.notes,
+        bounds: bounds_of(asked, found.untouched),
     };
-    let Evidence {
-        notes,
-        untouched,
-        mismatch,
-    } = evidence_of(alloc, program, hardened, runs)?;
     match mismatch {
         None => {
-            after_proof(aside, asked.turns, untouched);
-            Ok(notes)
+            after_proof(alloc, aside, judged);
+            Ok(found)
         }
         Some(mismatch) if asked.unproved => {
-            after_mismatch(aside, mismatch);
-            Ok(notes)
+            after_mismatch(aside, judged, mismatch);
+            Ok(found)
         }
         Some(mismatch) => Err(Unshown::Differs(mismatch)),
     }
 }
 
-/// What goes beside the hardened image: the text of its notes and that of the changes, empty where no name for it is given.
+/// What goes beside the hardened image: the text of its notes and that of the changes, empty where no name for it is given; and what is
+/// said of untouched bytes.
 #[derive(Drop)]
-struct Beside {
-    notes: Vec<u8>,
-    changes: String,
+pub(super) struct Beside {
+    pub(super) notes: Vec<u8>,
+    pub(super) changes: String,
+    pub(super) said: Option<u32>,
 }
 
 /// The text of notes, if a name for it is given.
-fn text_of(
+pub(super) fn text_of(
     alloc: Global,
     asked: Hardening<'_>,
     notes: &[Option<Place>],
@@ -167,7 +252,7 @@ fn text_of(
 }
 
 /// The text of the changes, if a name for it is given.
-fn changes_of(
+pub(super) fn changes_of(
     alloc: Global,
     asked: Hardening<'_>,
     hardened: &Hardened,
@@ -179,25 +264,40 @@ fn changes_of(
 }
 
 /// What goes beside a hardened program.
-fn beside_of<H: Aside>(
+fn beside_of<H: Terminal>(
     alloc: Global,
     aside: &H,
     program: &Program,
     hardened: &Hardened,
     asked: Hardening<'_>,
 ) -> Result<Beside, Unshown>
-    ensures shown { IfOk result (λ beside. (notes : List (Option Place))
-        × (asked.entry.unproved ≡ false → MatchesLeaving asked.entry program.now hardened.now.program notes)
+    ensures shown { IfOk result (λ beside. (notes : List (Option Place)) × (untouched : ℕ) × IsLeftSaid asked.entry untouched beside.said
+        × (asked.entry.unproved ≡ false → Matches program.now hardened.now.program notes (bounds_of asked.entry untouched))
         × IfSome asked.entry.notes (λ _. beside.notes.items ≡ notes_text notes)) }
     ensures err { IfErr result (IsUnshown program.now hardened.now.program asked.entry) }
 {
-    let notes = shown(alloc, aside, program, hardened, asked)?;
-    let text = text_of(alloc, asked, &notes)?;
+    let found = shown(alloc, aside, program, hardened, asked)?;
+    let notes = text_of(alloc, asked, &found.notes)?;
     let changes = changes_of(alloc, asked, hardened)?;
     Ok(Beside {
-        notes: text,
+        notes,
         changes,
+        said: said_of(asked, found.untouched),
     })
+}
+
+/// Says for runs with how many untouched bytes it is shown, where nobody asked for that.
+fn say_left<'a, W: Write>(alloc: Global, out: &mut W, said: Option<u32>) -> Result<u8, Failure<'a>>
+    ensures ok { IfOk result (λ status. Says (said_answer said) status (W.contents out.old) (W.contents out.new)) }
+    ensures err { IfErr result OutputFails }
+    ensures begun { IfErr result (λ _. AppendsBeginning (W.contents out.old) (W.contents out.new) (answer_text (said_answer said))) }
+{
+    let Some(untouched) = said else {
+        return Ok(DONE);
+    };
+    let line = format!(in alloc; "untouched {untouched}\n")?;
+    say(out, line.as_str())?;
+    Ok(DONE)
 }
 
 /// Puts content at a name, if one is given.
@@ -218,7 +318,7 @@ fn put_if<'a, P: Places, C: Content>(
 }
 
 /// Writes the texts, each where a name for it is given: the notes, and then the changes.
-fn put_beside<'a, P: Places>(
+pub(super) fn put_beside<'a, P: Places>(
     places: &mut P,
     asked: Hardening<'a>,
     beside: &Beside,
@@ -232,9 +332,9 @@ fn put_beside<'a, P: Places>(
     put_if(places, asked.changes, &beside.changes)
 }
 
-/// Writes the hardened image of an image, notes that `follows` reads, and what was done. The places for them are made only where there is
-/// an image to write.
-pub fn hardened<'a, P: Places, W: Write, H: Aside>(
+/// Writes the hardened image of an image, notes that `follows` reads, and what was done, and says where it is shown for fewer runs than all, which
+/// nobody asked for. The places for what is written are made only where there is an image to write.
+pub fn hardened<'a, P: Places, W: Write, H: Terminal>(
     alloc: Global,
     places: &mut P,
     out: &mut W,
@@ -271,5 +371,6 @@ pub fn hardened<'a, P: Places, W: Write, H: Aside>(
         ),
     };
     put(places, asked.output, &hardened.program)?;
-    put_beside(places, asked, &beside)
+    put_beside(places, asked, &beside)?;
+    say_left(alloc, out, beside.said)
 }

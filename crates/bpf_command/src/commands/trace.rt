@@ -2,6 +2,7 @@
 
 ghost use Rattle.std.specs.Prelude.{◌≤◌, length};
 ghost use Rattle.bpf_insn.specs.Limits.{max_context};
+ghost use Rattle.bpf_machine.specs.Answers.{IsRun};
 
 use crate::aside::Aside;
 use bpf_command_core::Tracer;
@@ -114,7 +115,8 @@ impl End {
 
 /// Makes a run once more whose end is known, and tells its last steps. It takes no memory.
 fn tell_run<C: Code, W: Tell>(out: &mut W, program: &C, context: &[u8], end: End, most: u64)
-    requires { length context.now ≤ max_context }
+    requires short { length context.now ≤ max_context }
+    requires run { IsRun (C.program program.now) context.now end.fuel end.outcome }
 {
     let kept = most.saturating_sub(u64::from(end.is_cut_off()));
     let mut machine = Machine::start(program, context);

@@ -29,9 +29,6 @@ pub struct Refusal {
     pub condition: u64,
 }
 
-/// The version of the calls below, as one number, like `BPF_HOST_VERSION` of bpf.h: the library that is linked has to be of this one.
-pub const VERSION: u32 = 100;
-
 #[link(name = "bpf_host", kind = "static")]
 unsafe extern "C" {
     fn bpf_host_version() -> u32;
@@ -55,6 +52,35 @@ unsafe extern "C" {
         context_len: usize,
         value: &mut u64,
     ) -> i32;
+    fn bpf_host_infer_size(image_len: usize) -> usize;
+    fn bpf_host_infer(
+        image: *const u8,
+        image_len: usize,
+        order: u32,
+        least: u32,
+        most: u32,
+        deep: u32,
+        text: *mut u8,
+        text_len: usize,
+        wanted: &mut usize,
+        refusal: &mut Refusal,
+    ) -> i32;
+    fn bpf_host_harden(
+        image: *const u8,
+        image_len: usize,
+        order: u32,
+        size: u32,
+        turns: u32,
+        otherwise: u64,
+        padded: u32,
+        unproved: u32,
+        untouched: u32,
+        text: *mut u8,
+        text_len: usize,
+        wanted: &mut usize,
+        refusal: &mut Refusal,
+    ) -> i32;
+    fn bpf_host_explain_size(image_len: usize, certificate_len: usize, lines_len: usize) -> usize;
     fn bpf_host_explain(
         image: *const u8,
         image_len: usize,
@@ -71,7 +97,20 @@ unsafe extern "C" {
         refusal: &mut Refusal,
     ) -> i32;
     fn bpf_host_refusal_text(kind: u32, number: u32, text: *mut u8, text_len: usize) -> usize;
+    fn bpf_host_answer_text(answer: i32, text: *mut u8, text_len: usize) -> usize;
 }
+
+/// The version of the library that these functions are of, as BPF_HOST_VERSION of bpf.h.
+pub const VERSION: u32 = 200;
+
+/// The library's answers.
+const YES: i32 = 1;
+const NO: i32 = 0;
+const NO_MEMORY: i32 = -1;
+const TOO_LONG: i32 = -4;
+
+/// The greatest image that there is, in bytes.
+const IMAGE_MOST: usize = 524_288;
 
 impl fmt::Display for Refusal {
     fn fmt(&self, f: &mut fmt::Formatter) -> fmt::Result {
@@ -90,9 +129,9 @@ impl fmt::Display for Refusal {
     }
 }
 
-/// Why a filter isn't loaded.
+/// Why nothing is loaded, proposed, hardened or explained.
 #[derive(Clone, Copy, Debug)]
-pub enum LoadError {
+pub enum Error {
     Refused(Refusal),
     /// A run may take more instructions than the host pays for.
     TooLong {
@@ -100,30 +139,56 @@ pub enum LoadError {
         greatest: u32,
     },
     NoMemory,
-    /// The library that is linked is of another version than this crate, whose number is `VERSION`.
-    OtherVersion {
-        library: u32,
-    },
+    /// The library is of another version than this crate.
+    OtherVersion(u32),
+    /// Another answer of the library, as to lengths that are no range.
+    Answer(i32),
 }
 
-impl fmt::Display for LoadError {
-    fn fmt(&self, f: &mut fmt::Formatter) -> fmt::Result {
-        match self {
-            LoadError::Refused(why) => write!(f, "refused by {why}"),
-            LoadError::TooLong { bound, greatest } => write!(
-                f,
-                "a run may take {bound} instructions, and this host pays for {greatest} at most"
-            ),
-            LoadError::NoMemory => f.write_str("no memory"),
-            LoadError::OtherVersion { library } => write!(
-                f,
-                "libbpf_host.a is of version {library}, and this crate of {VERSION}: take both of one"
-            ),
+impl Error {
+    /// What an answer that isn't yes says.
+    fn of(answer: i32, refusal: Refusal) -> Error {
+        match answer {
+            NO => Error::Refused(refusal),
+            NO_MEMORY => Error::NoMemory,
+            _ => Error::Answer(answer),
         }
     }
 }
 
-impl std::error::Error for LoadError {}
+impl fmt::Display for Error {
+    fn fmt(&self, f: &mut fmt::Formatter) -> fmt::Result {
+        match self {
+            Error::Refused(why) => write!(f, "refused by {why}"),
+            Error::TooLong { bound, greatest } => write!(
+                f,
+                "a run may take {bound} instructions, and this host pays for {greatest} at most"
+            ),
+            Error::NoMemory => f.write_str("no memory"),
+            Error::OtherVersion(version) => write!(
+                f,
+                "libbpf_host.a is of version {version}, and this crate of {VERSION}"
+            ),
+            Error::Answer(answer) => {
+                let mut text = [0; 256];
+                // SAFETY: the pointer and the length are the array's.
+                let len = unsafe { bpf_host_answer_text(*answer, text.as_mut_ptr(), text.len()) };
+                f.write_str(&String::from_utf8_lossy(&text[..len.min(text.len())]))
+            }
+        }
+    }
+}
+
+impl std::error::Error for Error {}
+
+/// Whether the library that is linked is the one that this crate is of.
+fn same_version() -> Result<(), Error> {
+    // SAFETY: a number comes back.
+    match unsafe { bpf_host_version() } {
+        VERSION => Ok(()),
+        version => Err(Error::OtherVersion(version)),
+    }
+}
 
 /// A filter that was judged: what is promised of it, and its program, ready to run. Nothing changes its words, so that threads may
 /// share it.
@@ -141,18 +206,14 @@ impl fmt::Debug for Filter {
 }
 
 impl Filter {
-    /// Judges an image by a certificate, and prepares its program, if no run takes more than `greatest` instructions, and the library is of
-    /// this crate's version.
+    /// Judges an image by a certificate, and prepares its program, if no run takes more than `greatest` instructions.
     pub fn load(
         image: &[u8],
         certificate: &[u8],
         order: Order,
         greatest: u32,
-    ) -> Result<Filter, LoadError> {
-        let library = linked_version();
-        if library != VERSION {
-            return Err(LoadError::OtherVersion { library });
-        }
+    ) -> Result<Filter, Error> {
+        same_version()?;
         let (mut verdict, mut refusal) = (Verdict::default(), Refusal::default());
         // SAFETY: a number goes in and a number comes back.
         let mut words = vec![0u64; unsafe { bpf_host_loaded_size(image.len()) }];
@@ -172,13 +233,12 @@ impl Filter {
             )
         };
         match answer {
-            1 => Ok(Filter { verdict, words }),
-            0 => Err(LoadError::Refused(refusal)),
-            -4 => Err(LoadError::TooLong {
+            YES => Ok(Filter { verdict, words }),
+            TOO_LONG => Err(Error::TooLong {
                 bound: verdict.bound,
                 greatest,
             }),
-            _ => Err(LoadError::NoMemory),
+            _ => Err(Error::of(answer, refusal)),
         }
     }
 
@@ -200,26 +260,118 @@ impl Filter {
                 &mut value,
             )
         };
-        (answer == 1).then_some(value)
+        (answer == YES).then_some(value)
     }
 }
 
-/// The version of the library that is linked.
-pub fn linked_version() -> u32 {
-    // SAFETY: a number comes back.
-    unsafe { bpf_host_version() }
+/// What a call writes into room for so many bytes: it is given the room, and where to tell how many bytes it takes and why it refuses. Room
+/// that isn't written isn't filled either.
+fn written(
+    room: usize,
+    call: impl FnOnce(*mut u8, usize, &mut usize, &mut Refusal) -> i32,
+) -> Result<Vec<u8>, Error> {
+    same_version()?;
+    let mut bytes: Vec<u8> = Vec::new();
+    bytes.try_reserve_exact(room).map_err(|_| Error::NoMemory)?;
+    let (mut wanted, mut refusal) = (0, Refusal::default());
+    match call(bytes.as_mut_ptr(), room, &mut wanted, &mut refusal) {
+        YES => {
+            // SAFETY: the library wrote so many bytes, and no more than there is room for.
+            unsafe { bytes.set_len(wanted) };
+            bytes.shrink_to_fit();
+            Ok(bytes)
+        }
+        answer => Err(Error::of(answer, refusal)),
+    }
 }
 
-/// What is known of an image under a certificate, or why one of the two is refused: the words of `bpf explain`. None where memory runs out, or
-/// the library is of another version.
-pub fn explain(image: &[u8], certificate: &[u8], order: Order) -> Option<String> {
+/// A certificate for an image, on contexts of `least` to `most` bytes; with `deep` by the search that finds more.
+pub fn infer(
+    image: &[u8],
+    order: Order,
+    least: u32,
+    most: u32,
+    deep: bool,
+) -> Result<Vec<u8>, Error> {
+    // SAFETY: a number goes in and a number comes back.
+    let room = unsafe { bpf_host_infer_size(image.len()) };
+    written(room, |text, text_len, wanted, refusal| {
+        // SAFETY: the pointers and lengths are those of a slice and of a vector's room.
+        unsafe {
+            bpf_host_infer(
+                image.as_ptr(),
+                image.len(),
+                order as u32,
+                least,
+                most,
+                u32::from(deep),
+                text,
+                text_len,
+                wanted,
+                refusal,
+            )
+        }
+    })
+}
+
+/// What is asked of a hardening.
+#[derive(Clone, Copy, Debug)]
+pub struct Hardening {
+    /// How often a loop that nothing counts may turn.
+    pub turns: u32,
+    /// Whether the context is a block of a packet's length in eight bytes, the packet and padding.
+    pub padded: bool,
+    /// r0 where a trap ends the program.
+    pub otherwise: u64,
+    /// Whether what isn't shown to keep the meaning of the old image is wanted too.
+    pub unproved: bool,
+    /// It is shown of runs that leave so many of the lowest bytes of each frame to r10.
+    pub untouched: u32,
+}
+
+impl Default for Hardening {
+    fn default() -> Hardening {
+        Hardening {
+            turns: 65_536,
+            padded: false,
+            otherwise: 0,
+            unproved: false,
+            untouched: 0,
+        }
+    }
+}
+
+/// What an image is hardened to, for contexts of `size` bytes.
+pub fn harden(image: &[u8], order: Order, size: u32, asked: &Hardening) -> Result<Vec<u8>, Error> {
+    written(IMAGE_MOST, |text, text_len, wanted, refusal| {
+        // SAFETY: the pointers and lengths are those of a slice and of a vector's room.
+        unsafe {
+            bpf_host_harden(
+                image.as_ptr(),
+                image.len(),
+                order as u32,
+                size,
+                asked.turns,
+                asked.otherwise,
+                u32::from(asked.padded),
+                u32::from(asked.unproved),
+                asked.untouched,
+                text,
+                text_len,
+                wanted,
+                refusal,
+            )
+        }
+    })
+}
+
+/// What is known of an image under a certificate, or why one of the two is refused: the words of `bpf explain`.
+pub fn explain(image: &[u8], certificate: &[u8], order: Order) -> Result<String, Error> {
     const LISTING: u32 = 0;
-    if linked_version() != VERSION {
-        return None;
-    }
-    let (mut text, mut wanted, mut refusal) = (Vec::new(), 0, Refusal::default());
-    loop {
-        // SAFETY: the pointers and lengths are those of slices and of a vector's bytes.
+    // SAFETY: numbers go in and a number comes back.
+    let room = unsafe { bpf_host_explain_size(image.len(), certificate.len(), 0) };
+    let words = written(room, |text, text_len, wanted, refusal| {
+        // SAFETY: the pointers and lengths are those of slices and of a vector's room.
         let answer = unsafe {
             bpf_host_explain(
                 image.as_ptr(),
@@ -231,16 +383,14 @@ pub fn explain(image: &[u8], certificate: &[u8], order: Order) -> Option<String>
                 0,
                 [].as_ptr(),
                 0,
-                text.as_mut_ptr(),
-                text.len(),
-                &mut wanted,
-                &mut refusal,
+                text,
+                text_len,
+                wanted,
+                refusal,
             )
         };
-        match answer {
-            0 | 1 => return Some(String::from_utf8_lossy(&text).into_owned()),
-            -3 => text = vec![0u8; wanted],
-            _ => return None,
-        }
-    }
+        // Words of a refusal are words.
+        if answer == NO { YES } else { answer }
+    })?;
+    Ok(String::from_utf8_lossy(&words).into_owned())
 }

@@ -1,6 +1,6 @@
 //! The filters of examples/c, loaded and run.
 
-use bpf::{Filter, LoadError, Order, explain};
+use bpf::{Error, Filter, Hardening, Order, explain, harden, infer};
 
 const PORT: (&[u8], &[u8]) = (
     include_bytes!("../../../c/port.img"),
@@ -69,7 +69,7 @@ fn tells_why_it_is_not_loaded() {
     assert!(error(&[0; 8], PORT.1, bound).starts_with("refused by E2 at slot 0: "));
     assert!(matches!(
         Filter::load(PORT.0, PORT.1, Order::Big, bound),
-        Err(LoadError::Refused(_))
+        Err(Error::Refused(_))
     ));
 }
 
@@ -79,4 +79,46 @@ fn explains_what_is_known_and_why_it_is_refused() {
     assert!(known.contains("\naccepted: at most ") && known.ends_with('\n'));
     let refused = explain(PORT.0, &[], Order::Little).unwrap();
     assert!(refused.starts_with("K1 at line 1: the text ends here without `end`"));
+}
+
+#[test]
+fn proposes_certificates() {
+    for deep in [false, true] {
+        let proposed = infer(PORT.0, Order::Little, 128, 128, deep).unwrap();
+        let filter = Filter::load(PORT.0, &proposed, Order::Little, 1000).unwrap();
+        assert_eq!(filter.run(&block_of(&frame_to(443))), Some(1));
+    }
+    let short = infer(PORT.0, Order::Little, 0, 0, true)
+        .unwrap_err()
+        .to_string();
+    assert!(short.starts_with("refused by I4 at slot "), "{short}");
+    let no_range = infer(PORT.0, Order::Little, 1, 0, true).unwrap_err();
+    assert!(matches!(no_range, Error::Answer(-2)) && no_range.to_string().contains("a length"));
+}
+
+#[test]
+fn hardens_images() {
+    let asked = Hardening::default();
+    assert_eq!(harden(PORT.0, Order::Little, 128, &asked).unwrap(), PORT.0);
+    // Pointers that are put in order: the meaning isn't shown to be kept.
+    let ordered: Vec<u8> = [
+        [0xb7, 0, 0, 0, 0, 0, 0, 0],
+        [0xbf, 0x12, 0, 0, 0, 0, 0, 0],
+        [0x07, 2, 0, 0, 4, 0, 0, 0],
+        [0x2d, 0x12, 1, 0, 0, 0, 0, 0],
+        [0x95, 0, 0, 0, 0, 0, 0, 0],
+        [0xb7, 0, 0, 0, 1, 0, 0, 0],
+        [0x95, 0, 0, 0, 0, 0, 0, 0],
+    ]
+    .concat();
+    let why = harden(&ordered, Order::Little, 16, &asked).unwrap_err();
+    assert!(
+        why.to_string().starts_with("refused by H13 at slot 3: "),
+        "{why}"
+    );
+    let unproved = Hardening {
+        unproved: true,
+        ..asked
+    };
+    assert!(harden(&ordered, Order::Little, 16, &unproved).unwrap() != ordered);
 }

@@ -1,9 +1,9 @@
-use Rattle.std.proofs.Common.{refl, inr}
-use Rattle.std.proofs.lemmas.Bool.{false≢true}
-use Rattle.bpf_answers.proofs.TextLemmas.{no_text}
+use Rattle.std.proofs.Common.{refl}
+use Rattle.bpf_answers.proofs.TextLemmas.{quiet_by, unread_by}
 use Rattle.bpf_answers.proofs.text.text_at.Goals as goal
 
-pub returns-in_default-clause-err : goal.returns-in_default-clause-err
-returns-in_default-clause-err g c =
-    let read = c.in-Ok.ensures.ok in
-    (refl, inr (read.0.0, read.0.1, no_text read.0.0 c.in-Ok.bytes.items (λ valid. false≢true (c.in_default.ensures.succeeds valid)) read.0.2))
+pub returns-clause-err : goal.returns-clause-err
+returns-clause-err g c = unread_by c.text_or.result g.P.Places.opens c.args.places.now c.args.name.now c.text_or.new.places c.args.name refl c.text_or.ensures.err
+
+pub returns-clause-quiet : goal.returns-clause-quiet
+returns-clause-quiet g c = quiet_by c.text_or.result _ tt c.text_or.ensures.quiet

@@ -6,7 +6,8 @@ use Rattle.bpf_host_runs.proofs.checked.end_of.Goals as goal
 pub end_of_image-requires : goal.end_of_image-requires
 end_of_image-requires c =
     let f = c.in_ok-found.found in
-    let may = c.requires.may (c.in_ok-found.ensures.known.0 refl) in
+    let known = c.in_ok-found.ensures.known.0 refl in
+    let may = c.requires.may known.0 known.1 in
     let is = c.in_ok-found.ensures.found may.order may.image may.is_prepared in
     subst (λ i. IsVerifiedFor f.order i c.args.context.now) (sym is.0) (subst (λ o. IsVerifiedFor o may.image c.args.context.now) (sym is.1) may.verified)
 

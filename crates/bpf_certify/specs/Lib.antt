@@ -1,0 +1,2 @@
+-- what is answered of a program and a bound
+pub mod Certified

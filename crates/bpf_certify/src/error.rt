@@ -1,0 +1,46 @@
+//! Why a program isn't certified.
+
+ghost use Rattle.std.specs.Prelude.{◌≡◌};
+ghost use Rattle.bpf_certify.specs.Certified.{certify_number, certify_slot};
+
+use bpf_check::Refusal;
+use bpf_follows::Mismatch;
+use bpf_harden::HardenError;
+
+/// Why a program isn't certified within a bound, with a slot of it.
+#[derive(Clone, Copy, Debug, PartialEq, Eq)]
+pub enum CertifyError {
+    /// H1 to H12: it isn't hardened.
+    Unhardened(HardenError),
+    /// H13: the hardened program isn't shown to keep the meaning: this of its notes fails.
+    Unshown(Mismatch),
+    /// H14: with so many turns its bound is this one, which is above what is asked for. The slot is 0.
+    TooDear { turns: u32, bound: u32 },
+    /// H15: the checker refuses the certificate that was found.
+    Uncertified(Refusal),
+}
+
+impl CertifyError {
+    /// The number of the refusal, from 1 to 15.
+    pub fn number(&self) -> u8
+        ensures { result ≡ certify_number self.now }
+    {
+        match self {
+            CertifyError::Unhardened(error) => error.number(),
+            CertifyError::Unshown(_) => 13,
+            CertifyError::TooDear { .. } => 14,
+            CertifyError::Uncertified(_) => 15,
+        }
+    }
+
+    /// The slot that is named, of the program that was given: 0 where none is.
+    pub fn slot(&self) -> u32
+        ensures { result ≡ certify_slot self.now }
+    {
+        match self {
+            CertifyError::Unhardened(error) => error.slot(),
+            CertifyError::Unshown(mismatch) => mismatch.slot(),
+            CertifyError::TooDear { .. } | CertifyError::Uncertified(_) => 0,
+        }
+    }
+}

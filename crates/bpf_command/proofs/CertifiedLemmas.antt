@@ -1,0 +1,166 @@
+-- What is said of the names of a certification, from what is said of each.
+use Rattle.std.proofs.Common.{◌≡◌, ◌⊎◌, ◌≤◌, Some, None, ℕ, List, true, false, Option, Result, Ok, Err, IfOk, IfErr, IfSome, IsTrue, refl, sym, subst, inl, inr}
+use Rattle.bpf_insn.specs.Instruction.{Instructions}
+use Rattle.bpf_insn.specs.Image.{image}
+use Rattle.bpf_insn.specs.Limits.{max_context}
+use Rattle.bpf_cert.specs.View.{CertificateView}
+use Rattle.bpf_cert.specs.Spelling.{certificate_text}
+use Rattle.bpf_certify.specs.Certified.{Answers as IsAnswer, IsPaid, StandsFor}
+use Rattle.bpf_certify.specs.declared.certified.Certified.{Certified}
+use Rattle.bpf_certify.specs.declared.certified.Rewritten.{Rewritten}
+use Rattle.bpf_certify.specs.declared.error.CertifyError.{CertifyError}
+use Rattle.bpf_certify.specs.declared.error.CertifyError.TheVariants as errors
+use Rattle.bpf_request.specs.CommandLine.{hardening_of}
+use Rattle.bpf_request.specs.declared.certifying.Certifying.{Certifying}
+use Rattle.bpf_request.specs.declared.hardening.Hardening.{Hardening}
+use Rattle.bpf_places.specs.Opened.{Opening}
+use Rattle.bpf_places.specs.Made.{Making}
+use Rattle.bpf_answers.specs.Answer.{Answer, Answered, Says}
+use Rattle.bpf_answers.specs.Both.{Pairing}
+use Rattle.bpf_answers.specs.Both.Put.{Both}
+use Rattle.bpf_answers.specs.Loaded.{LoadsImage}
+use Rattle.bpf_answers.specs.Told.{OutputFails}
+use Rattle.bpf_answers.specs.declared.certified.Certification.{Certification}
+use Rattle.bpf_answers.specs.declared.failure.Failure.{Failure}
+use Rattle.bpf_answers.specs.declared.failure.Failure.TheVariants.{CannotRead, CannotWrite, NoMemory}
+use Rattle.bpf_command.specs.Certified.{AllPut, Behind, Certifies, CertifyFails, CertifySays, CertifyWithFails, CertifyWithSays, IsLoaded, IsMadeOf, NoPair, NotAllPut, NotAllStand, NotCertified, NotCertifiedWith, made_of, most_of, program_of, refused_as, rewriting_of, told_of, wish_of}
+use Rattle.bpf_command.specs.Explained.{LinesAt}
+use Rattle.bpf_command.specs.Hardened.{BothStand, NotBothPut, NotBothStand}
+
+-- ---- what is certified
+
+paid_for : (program : Instructions) (c : Certifying) (length : ℕ) (d : Certified) (rewritten : Option Rewritten) → StandsFor program length (wish_of c) d rewritten
+    → IsPaid (program_of program rewritten) d.certificate length (most_of c) d.bound
+paid_for program c length d None stands = stands.1
+paid_for program c length d (Some r) stands = stands.paid
+
+made_for : (program : Instructions) (c : Certifying) (length : ℕ) (d : Certified) (rewritten : Option Rewritten) → StandsFor program length (wish_of c) d rewritten
+    → (c.unproved ≡ false → IfSome rewritten (λ r. IsTrue r.is_shown)) → IsMadeOf program (program_of program rewritten) c length (rewriting_of c rewritten)
+made_for program c length d None stands shown = (refl, stands.0)
+made_for program c length d (Some r) stands shown = record { padded_is = refl; shown = shown; keeps = stands.keeps }
+
+-- what was found for the program at the name is certified as it is told
+pub certifies_of : {S : Type 0} (opening : Opening S) (old : S) (c : Certifying) (new : S) (program : Instructions) (length : ℕ) (d : Certified)
+    → (c.length ≤ max_context → length ≡ c.length) → LoadsImage opening c.order old c.input.now new program → IsAnswer program length (wish_of c) d
+    → (c.unproved ≡ false → IfSome d.rewritten (λ r. IsTrue r.is_shown)) → Certifies opening old c new (made_of program d) d.certificate (told_of c length d)
+certifies_of opening old c new program length d short loads answers shown = record {
+  program = program;
+  loads = loads;
+  length_is = short;
+  paid = paid_for program c length d d.rewritten answers;
+  is_made = made_for program c length d d.rewritten answers shown;
+}
+
+-- the same of what is made, and told, of it
+pub certifies_as : {S : Type 0} (opening : Opening S) (old : S) (c : Certifying) (new : S) (made other : Instructions) (certificate : CertificateView) (told also : Certification) → made ≡ other → told ≡ also
+    → Certifies opening old c new other certificate also → Certifies opening old c new made certificate told
+certifies_as opening old c new made other certificate told also same_made same_told certifies =
+    subst (λ m. Certifies opening old c new m certificate told) (sym same_made) (subst (λ t. Certifies opening old c new other certificate t) (sym same_told) certifies)
+
+-- what is answered of a program that isn't certified
+pub refused_said : {S : Type 0} (o : Opening S) (m : Making S) (b : Pairing S) (old : S) (c : Certifying) (new : S) (error : CertifyError) → IsLoaded o old c new → CertifySays o m b old c new (refused_as error)
+refused_said o m b old c new (errors.Unhardened e) loaded = loaded
+refused_said o m b old c new (errors.Unshown d) loaded = loaded
+refused_said o m b old c new (errors.TooDear turns bound) loaded = loaded
+refused_said o m b old c new (errors.Uncertified r) loaded = loaded
+
+-- ---- what is put at the names
+
+pub all_put : {S E : Type 0} (result : Result ℕ E) (m : Making S) (b : Pairing S) (old : S) (c : Certifying) (made : Instructions) (certificate : CertificateView) (text : List ℕ) (between new : S)
+    → b old c.output.now (image made.order made.list) c.certificate.now (certificate_text certificate) Both between
+    → IfOk result (λ status. (status ≡ 0) × BothStand m between (hardening_of c) text new) → IfOk result (λ status. (status ≡ 0) × AllPut m b old c made certificate text new)
+all_put (Ok s) m b old c made certificate text between new pair stand = (stand.0, (between, pair, stand.1))
+all_put (Err e) m b old c made certificate text between new pair stand = tt
+
+pub texts_unput : {S A : Type 0} (result : Result A Failure) (m : Making S) (b : Pairing S) (old : S) (c : Certifying) (made : Instructions) (certificate : CertificateView) (between new : S)
+    → b old c.output.now (image made.order made.list) c.certificate.now (certificate_text certificate) Both between
+    → IfErr result (NotBothPut m between (hardening_of c) new) → IfErr result (NotAllPut m b old c made certificate new)
+texts_unput (Ok s) m b old c made certificate between new pair fails = tt
+texts_unput (Err f) m b old c made certificate between new pair fails = inr (between, pair, fails)
+
+pub texts_left : {S A : Type 0} (result : Result A Failure) (m : Making S) (b : Pairing S) (old : S) (c : Certifying) (made : Instructions) (certificate : CertificateView) (between new : S)
+    → b old c.output.now (image made.order made.list) c.certificate.now (certificate_text certificate) Both between
+    → IfErr result (λ _. NotBothStand m between (hardening_of c) new) → IfErr result (λ _. NotAllStand m b old c made certificate new)
+texts_left (Ok s) m b old c made certificate between new pair left = tt
+texts_left (Err f) m b old c made certificate between new pair left = inr (inr (between, pair, left))
+
+pub pair_unput : {S A : Type 0} (result : Result A Failure) (m : Making S) (b : Pairing S) (old : S) (c : Certifying) (made : Instructions) (certificate : CertificateView) (new : S)
+    → IfErr result (NoPair b old c made certificate new) → IfErr result (NotAllPut m b old c made certificate new)
+pair_unput (Ok s) m b old c made certificate new fails = tt
+pair_unput (Err f) m b old c made certificate new fails = inl fails
+
+pub pair_left : {S A : Type 0} (result : Result A Failure) (m : Making S) (b : Pairing S) (old : S) (c : Certifying) (made : Instructions) (certificate : CertificateView) (new : S)
+    → IfErr result (NoPair b old c made certificate new) → IfErr result (λ _. NotAllStand m b old c made certificate new)
+pair_left (Ok s) m b old c made certificate new fails = tt
+pair_left (Err f) m b old c made certificate new (inl neither) = inl neither.1
+pair_left (Err f) m b old c made certificate new (inr first) = inr (inl first.1)
+
+-- ---- why they can't be put there
+
+IsOfWriting : Failure → Type 0
+IsOfWriting (CannotWrite name) = Unit {0}
+IsOfWriting NoMemory = Unit {0}
+IsOfWriting failure = ⊥
+
+no_pair : {S : Type 0} (b : Pairing S) (old : S) (c : Certifying) (made : Instructions) (certificate : CertificateView) (new : S) (f : Failure) → NoPair b old c made certificate new f → IsOfWriting f
+no_pair b old c made certificate new f (inl (inl is, left)) = subst IsOfWriting (sym is) tt
+no_pair b old c made certificate new f (inl (inr (inl is), left)) = subst IsOfWriting (sym is) tt
+no_pair b old c made certificate new f (inl (inr (inr is), left)) = subst IsOfWriting (sym is) tt
+no_pair b old c made certificate new f (inr (is, left)) = subst IsOfWriting (sym is) tt
+
+no_texts : {S : Type 0} (m : Making S) (old : S) (h : Hardening) (new : S) (f : Failure) → NotBothPut m old h new f → IsOfWriting f
+no_texts m old h new (CannotWrite name) fails = tt
+no_texts m old h new NoMemory fails = tt
+no_texts m old h new (CannotRead name) (inl never) = absurd never
+no_texts m old h new (CannotRead name) (inr never) = absurd never.3
+no_texts m old h new failure (inl never) = absurd never
+no_texts m old h new failure (inr never) = absurd never.3
+
+of_writing : {S : Type 0} (m : Making S) (b : Pairing S) (old : S) (c : Certifying) (made : Instructions) (certificate : CertificateView) (new : S) (f : Failure) → NotAllPut m b old c made certificate new f → IsOfWriting f
+of_writing m b old c made certificate new f (inl fails) = no_pair b old c made certificate new f fails
+of_writing m b old c made certificate new f (inr fails) = no_texts m fails.0 (hardening_of c) new f fails.2
+
+fails_of : {S : Type 0} (o : Opening S) (m : Making S) (b : Pairing S) (old : S) (c : Certifying) (between new : S) (made : Instructions) (certificate : CertificateView) (told : Certification) (f : Failure)
+    → Certifies o old c between made certificate told → IsOfWriting f → NotAllPut m b between c made certificate new f → CertifyFails o m b old c new f
+fails_of o m b old c between new made certificate told (CannotWrite name) certifies writing fails = inr (between, made, certificate, told, certifies, fails)
+fails_of o m b old c between new made certificate told NoMemory certifies writing fails = tt
+fails_of o m b old c between new made certificate told (CannotRead name) certifies writing fails = absurd writing
+fails_of o m b old c between new made certificate told failure certifies writing fails = absurd writing
+
+pub puts_fail : {S A : Type 0} (result : Result A Failure) (o : Opening S) (m : Making S) (b : Pairing S) (old : S) (c : Certifying) (between new : S) (made : Instructions) (certificate : CertificateView) (told : Certification)
+    → Certifies o old c between made certificate told → IfErr result (NotAllPut m b between c made certificate new) → IfErr result (CertifyFails o m b old c new)
+puts_fail (Ok s) o m b old c between new made certificate told certifies fails = tt
+puts_fail (Err f) o m b old c between new made certificate told certifies fails =
+    fails_of o m b old c between new made certificate told f certifies (of_writing m b between c made certificate new f fails) fails
+
+pub puts_left : {S A : Type 0} (result : Result A Failure) (o : Opening S) (m : Making S) (b : Pairing S) (old : S) (c : Certifying) (between new : S) (made : Instructions) (certificate : CertificateView) (told : Certification)
+    → Certifies o old c between made certificate told → IfErr result (λ _. NotAllStand m b between c made certificate new) → IfErr result (λ _. NotCertified o m b old c new)
+puts_left (Ok s) o m b old c between new made certificate told certifies left = tt
+puts_left (Err f) o m b old c between new made certificate told certifies left = inr (inl (between, made, certificate, told, certifies, left))
+
+output_fails : {S : Type 0} (o : Opening S) (m : Making S) (b : Pairing S) (old : S) (c : Certifying) (new : S) (f : Failure) → OutputFails f → CertifyFails o m b old c new f
+output_fails o m b old c new (CannotWrite name) fails = inl fails
+output_fails o m b old c new (CannotRead name) fails = absurd fails
+output_fails o m b old c new failure fails = fails
+
+-- standard output fails
+pub line_fails : {S A : Type 0} (result : Result A Failure) (o : Opening S) (m : Making S) (b : Pairing S) (old : S) (c : Certifying) (new : S) → IfErr result OutputFails → IfErr result (CertifyFails o m b old c new)
+line_fails (Ok s) o m b old c new fails = tt
+line_fails (Err f) o m b old c new fails = output_fails o m b old c new f fails
+
+-- ---- behind the lines of the source
+
+pub with_answered : {S E : Type 0} (result : Result ℕ E) (before after : Option (List ℕ)) (o : Opening S) (m : Making S) (b : Pairing S) (old : S) (c : Certifying) (between new : S) → LinesAt o old c.lines between
+    → IfOk result (Answered (CertifySays o m b between c new) before after) → IfOk result (Answered (CertifyWithSays o m b old c new) before after)
+with_answered (Ok s) before after o m b old c between new lines answered = (answered.0, answered.1, (between, lines, answered.2))
+with_answered (Err e) before after o m b old c between new lines answered = tt
+
+pub with_fails : {S A : Type 0} (result : Result A Failure) (o : Opening S) (m : Making S) (b : Pairing S) (old : S) (c : Certifying) (between new : S) → LinesAt o old c.lines between
+    → IfErr result (CertifyFails o m b between c new) → IfErr result (CertifyWithFails o m b old c new)
+with_fails (Ok s) o m b old c between new lines fails = tt
+with_fails (Err f) o m b old c between new lines fails = inr (between, lines, fails)
+
+pub with_left : {S A : Type 0} (result : Result A Failure) (o : Opening S) (m : Making S) (b : Pairing S) (old : S) (c : Certifying) (between new : S) → LinesAt o old c.lines between
+    → IfErr result (λ _. NotCertified o m b between c new) → IfErr result (λ _. NotCertifiedWith o m b old c new)
+with_left (Ok s) o m b old c between new lines left = tt
+with_left (Err f) o m b old c between new lines left = inr (between, lines, left)

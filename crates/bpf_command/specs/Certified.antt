@@ -1,0 +1,186 @@
+-- What is certified, and what is put at the names of the answers.
+use Rattle.std.specs.Prelude.{◌≡◌, ◌⊎◌, ◌≤◌, ℕ, List, [], false, Option, Some, None, IsTrue, IfSome, is_some, unwrap_or}
+use Rattle.bpf_insn.specs.Instruction.{Instructions}
+use Rattle.bpf_insn.specs.Image.{image}
+use Rattle.bpf_insn.specs.Limits.{max_context}
+use Rattle.bpf_cert.specs.View.{CertificateView}
+use Rattle.bpf_cert.specs.Spelling.{certificate_text}
+use Rattle.bpf_follows_law.specs.declared.notes.Bounds.{Bounds}
+use Rattle.bpf_follows_law.specs.declared.notes.Place.{Place}
+use Rattle.bpf_follows_law.specs.Meaning.{KeepsMeaning}
+use Rattle.bpf_follows_notes.specs.NotesText.{notes_text}
+use Rattle.bpf_certify.specs.Certified.{IsPaid}
+use Rattle.bpf_certify.specs.declared.certified.Certified.{Certified}
+use Rattle.bpf_certify.specs.declared.certified.Rewritten.{Rewritten}
+use Rattle.bpf_certify.specs.declared.error.CertifyError.{CertifyError}
+use Rattle.bpf_certify.specs.declared.error.CertifyError.TheVariants as errors
+use Rattle.bpf_certify.specs.declared.wish.Wish.{Wish}
+use Rattle.bpf_request.specs.CommandLine.{hardening_of}
+use Rattle.bpf_request.specs.declared.certifying.Certifying.{Certifying}
+use Rattle.bpf_places.specs.Opened.{Opening}
+use Rattle.bpf_places.specs.Made.{Making}
+use Rattle.bpf_answers.specs.Answer.{Answer}
+use Rattle.bpf_answers.specs.Answer.Answer.{NoImage, NotHardened, NotShown, TooDear, Uncertified, Certified as IsCertified}
+use Rattle.bpf_answers.specs.Both.{Pairing}
+use Rattle.bpf_answers.specs.Both.Put.{Both, Neither, FirstAlone}
+use Rattle.bpf_answers.specs.Loaded.{ImageFails, ImageRefused, LoadsImage, OpensFirst, Tried}
+use Rattle.bpf_answers.specs.Told.{OutputFails}
+use Rattle.bpf_answers.specs.declared.certified.Certification.{Certification}
+use Rattle.bpf_answers.specs.declared.certified.Rewriting.{Rewriting}
+use Rattle.bpf_answers.specs.declared.failure.Failure.{Failure}
+use Rattle.bpf_answers.specs.declared.failure.Failure.TheVariants.{CannotRead, CannotWrite, NoMemory}
+use Rattle.bpf_command.specs.Explained.{LinesAt, LinesFail}
+use Rattle.bpf_command.specs.Hardened.{BothStand, NotBothPut, NotBothStand}
+use Rattle.bpf_command.specs.Names.{behind_lines}
+
+-- ---- what is asked for
+
+-- the bound that a host pays for unless another one is said, in instructions
+abbrev pub usual_bound : ℕ
+usual_bound = 1000000
+
+-- the greatest bound that is asked for
+abbrev pub most_of : Certifying → ℕ
+most_of c = unwrap_or c.bound usual_bound
+
+abbrev pub wish_of : Certifying → Wish
+wish_of c = record { bound = most_of c; turns = c.turns; otherwise = c.otherwise; padded = c.padded; unproved = c.unproved; notes = is_some c.notes }
+
+-- ---- what is certified
+
+-- the runs that a line tells
+abbrev pub runs_told : ℕ → Rewriting → Bounds
+runs_told length r = record { length = length; padded = r.padded; turns = r.turns; untouched = r.untouched }
+
+-- What is told of a hardened program: without `--unproved` it is shown; and what is shown keeps the meaning of the program at IN, for the very
+-- contexts, turns and bytes left to r10 that are told.
+pub record IsRewriting (program made : Instructions) (c : Certifying) (length : ℕ) (r : Rewriting) : Type 0 where
+  pub padded_is : r.padded ≡ c.padded
+  pub shown : c.unproved ≡ false → IsTrue r.is_shown
+  pub keeps : IsTrue r.is_shown → KeepsMeaning program made (runs_told length r)
+
+-- the program is the one at IN, and contexts aren't blocks; or it was hardened
+abbrev pub IsMadeOf : Instructions → Instructions → Certifying → ℕ → Option Rewriting → Type 0
+IsMadeOf program made c length None = (made ≡ program) × (c.padded ≡ false)
+IsMadeOf program made c length (Some r) = IsRewriting program made c length r
+
+-- The image is a program's. The certificate certifies the program that was made of it, for contexts of the length that is told, which is the one
+-- that was asked for, with the bound that is told, which is at most the one that was asked for.
+pub record Certifies {S : Type 0} (opening : Opening S) (old : S) (c : Certifying) (new : S) (made : Instructions) (certificate : CertificateView) (told : Certification) : Type 0 where
+  pub program : Instructions
+  pub loads : LoadsImage opening c.order old c.input.now new program
+  pub length_is : c.length ≤ max_context → told.length ≡ c.length
+  pub paid : IsPaid made certificate told.length (most_of c) told.bound
+  pub is_made : IsMadeOf program made c told.length told.rewriting
+
+-- the program for which the certificate is
+abbrev pub program_of : Instructions → Option Rewritten → Instructions
+program_of program None = program
+program_of program (Some r) = r.hardened.program
+
+abbrev pub made_of : Instructions → Certified → Instructions
+made_of program d = program_of program d.rewritten
+
+-- the notes by which it is shown; none of a program that stands as it is
+abbrev pub notes_of : Option Rewritten → List (Option Place)
+notes_of None = []
+notes_of (Some r) = r.notes.items
+
+-- what is told of it
+abbrev pub rewriting_of : Certifying → Option Rewritten → Option Rewriting
+rewriting_of c None = None
+rewriting_of c (Some r) = Some (record { turns = r.turns; padded = c.padded; untouched = r.untouched; is_shown = r.is_shown })
+
+abbrev pub told_of : Certifying → ℕ → Certified → Certification
+told_of c length d = record { length = length; bound = d.bound; rewriting = rewriting_of c d.rewritten }
+
+-- ---- what stands at OUT, CERT and the names of the texts
+
+-- OUT holds the image and CERT the certificate's text, and then the texts stand at their names
+abbrev pub AllPut : {S : Type 0} → Making S → Pairing S → S → Certifying → Instructions → CertificateView → List ℕ → S → Type 0
+AllPut {S} m b old c made certificate notes new =
+    (between : S) × b old c.output.now (image made.order made.list) c.certificate.now (certificate_text certificate) Both between
+    × BothStand m between (hardening_of c) notes new
+
+-- OUT and CERT aren't both put: neither stands; or CERT couldn't be finished when OUT stood already
+abbrev pub NoPair : {S : Type 0} → Pairing S → S → Certifying → Instructions → CertificateView → S → Failure → Type 0
+NoPair b old c made certificate new failure =
+    (((failure ≡ CannotWrite c.output) ⊎ ((failure ≡ CannotWrite c.certificate) ⊎ (failure ≡ NoMemory)))
+    × b old c.output.now (image made.order made.list) c.certificate.now (certificate_text certificate) Neither new)
+    ⊎ ((failure ≡ CannotWrite c.certificate) × b old c.output.now (image made.order made.list) c.certificate.now (certificate_text certificate) FirstAlone new)
+
+-- behind OUT and CERT this holds
+abbrev pub BehindPair : {S : Type 0} → Pairing S → S → Certifying → Instructions → CertificateView → (S → Type 0) → Type 0
+BehindPair {S} b old c made certificate holds =
+    (between : S) × b old c.output.now (image made.order made.list) c.certificate.now (certificate_text certificate) Both between × holds between
+
+abbrev pub NotAllPut : {S : Type 0} → Making S → Pairing S → S → Certifying → Instructions → CertificateView → S → Failure → Type 0
+NotAllPut m b old c made certificate new failure =
+    NoPair b old c made certificate new failure ⊎ BehindPair b old c made certificate (λ put. NotBothPut m put (hardening_of c) new failure)
+
+-- what then stands: neither OUT nor CERT, or OUT alone, or both and not both texts
+abbrev pub NotAllStand : {S : Type 0} → Making S → Pairing S → S → Certifying → Instructions → CertificateView → S → Type 0
+NotAllStand m b old c made certificate new =
+    b old c.output.now (image made.order made.list) c.certificate.now (certificate_text certificate) Neither new
+    ⊎ b old c.output.now (image made.order made.list) c.certificate.now (certificate_text certificate) FirstAlone new
+    ⊎ BehindPair b old c made certificate (λ put. NotBothStand m put (hardening_of c) new)
+
+-- ---- the answers
+
+-- the image is a program's, of which nothing is written
+abbrev pub IsLoaded : {S : Type 0} → Opening S → S → Certifying → S → Type 0
+IsLoaded opening old c new = (p : Instructions) × LoadsImage opening c.order old c.input.now new p
+
+-- what is answered where a program isn't certified
+abbrev pub refused_as : CertifyError → Answer
+refused_as (errors.Unhardened e) = NotHardened e
+refused_as (errors.Unshown m) = NotShown m
+refused_as (errors.TooDear turns bound) = TooDear
+refused_as (errors.Uncertified r) = Uncertified
+
+-- what was certified is put at its names
+abbrev pub Stands : {S : Type 0} → Opening S → Making S → Pairing S → S → Certifying → S → Certification → Type 0
+Stands {S} o m b old c new told =
+    (between : S) × (made : Instructions) × (certificate : CertificateView) × (notes : List (Option Place)) × (text : List ℕ)
+    × Certifies o old c between made certificate told × IfSome c.notes (λ _. text ≡ notes_text notes) × AllPut m b between c made certificate text new
+
+-- OUT, CERT and the texts stand at their names; or none of them is opened
+abbrev pub CertifySays : {S : Type 0} → Opening S → Making S → Pairing S → S → Certifying → S → Answer → Type 0
+CertifySays o m b old c new (NoImage e) = ImageRefused o c.order old c.input.now new e
+CertifySays o m b old c new (NotHardened e) = IsLoaded o old c new
+CertifySays o m b old c new (NotShown d) = IsLoaded o old c new
+CertifySays o m b old c new TooDear = IsLoaded o old c new
+CertifySays o m b old c new Uncertified = IsLoaded o old c new
+CertifySays o m b old c new (IsCertified told) = Stands o m b old c new told
+CertifySays o m b old c new answer = ⊥
+
+-- something was certified, of which this holds
+abbrev pub Behind : {S : Type 0} → Opening S → S → Certifying → (S → Instructions → CertificateView → Type 0) → Type 0
+Behind {S} o old c holds =
+    (between : S) × (made : Instructions) × (certificate : CertificateView) × (told : Certification) × Certifies o old c between made certificate told × holds between made certificate
+
+abbrev pub CertifyFails : {S : Type 0} → Opening S → Making S → Pairing S → S → Certifying → S → Failure → Type 0
+CertifyFails o m b old c new (CannotRead name) = ImageFails o old c.input.now new (CannotRead name)
+CertifyFails o m b old c new (CannotWrite name) =
+    OutputFails (CannotWrite name) ⊎ Behind o old c (λ between made certificate. NotAllPut m b between c made certificate new (CannotWrite name))
+CertifyFails o m b old c new failure = OutputFails failure
+
+-- Where that fails, the input was opened, or couldn't be; or not all came to stand at their names; or all did, and the line couldn't be told.
+abbrev pub NotCertified : {S : Type 0} → Opening S → Making S → Pairing S → S → Certifying → S → Type 0
+NotCertified o m b old c new =
+    Tried o old c.input.now new
+    ⊎ Behind o old c (λ between made certificate. NotAllStand m b between c made certificate new)
+    ⊎ Behind o old c (λ between made certificate. (text : List ℕ) × AllPut m b between c made certificate text new)
+
+-- ---- with the lines of the source at a name, which is opened first
+
+abbrev pub CertifyWithSays : {S : Type 0} → Opening S → Making S → Pairing S → S → Certifying → S → Answer → Type 0
+CertifyWithSays {S} o m b old c new answer = (between : S) × LinesAt o old c.lines between × CertifySays o m b between c new answer
+
+abbrev pub CertifyWithFails : {S : Type 0} → Opening S → Making S → Pairing S → S → Certifying → S → Failure → Type 0
+CertifyWithFails {S} o m b old c new failure =
+    LinesFail o old c.lines new failure ⊎ ((between : S) × LinesAt o old c.lines between × CertifyFails o m b between c new failure)
+
+abbrev pub NotCertifiedWith : {S : Type 0} → Opening S → Making S → Pairing S → S → Certifying → S → Type 0
+NotCertifiedWith {S} o m b old c new =
+    OpensFirst o (behind_lines c.lines []) old new ⊎ ((between : S) × LinesAt o old c.lines between × NotCertified o m b between c new)

@@ -1,0 +1,239 @@
+//! `bpf certify IN LEN OUT CERT`.
+
+ghost use Rattle.std.specs.Prelude.{◌≡◌, ◌≤◌, IfOk, IfErr, IfSome, false, IsTrue};
+ghost use Rattle.bpf_insn.specs.Limits.{max_context};
+ghost use Rattle.bpf_insn.specs.Written.{AppendsBeginning};
+ghost use Rattle.bpf_certify.specs.Certified.{Answers as IsAnswer};
+ghost use Rattle.bpf_answers.specs.Answer.{Answered, Says, Unfinished, text_of as answer_text};
+ghost use Rattle.bpf_answers.specs.Both.{pairing};
+ghost use Rattle.bpf_answers.specs.Told.{OutputFails};
+ghost use Rattle.bpf_follows_notes.specs.NotesText.{notes_text};
+ghost use Rattle.bpf_places.specs.Made.{making};
+ghost use Rattle.bpf_command.specs.Certified.{AllPut, CertifyFails, CertifySays, CertifyWithFails, CertifyWithSays, NotAllPut, NotAllStand, NotCertified, NotCertifiedWith, made_of, notes_of, refused_as, told_of, wish_of};
+
+use crate::aside::Aside;
+use crate::commands::explain::lines_at;
+use crate::commands::harden::{Beside, NOT_SHOWN, changes_of, put_beside, text_of};
+use crate::sentences::{Source, tell_image, tell_refusal};
+use bpf_answers::{
+    Certification, Failure, Rewriting, program_at, put_both, refuse_at, refuse_dear, refuse_image,
+    refuse_uncertified, say_certified,
+};
+use bpf_cert::Certificate;
+use bpf_certify::{Certified, CertifyError, MOST_BOUND, Wish, certify};
+use bpf_follows_law::Place;
+use bpf_harden::HardenError;
+use bpf_insn::{MAX_CONTEXT, Program};
+use bpf_places::Places;
+use bpf_request::Certifying;
+use std::alloc::{AllocError, Global};
+use std::io::Write;
+
+/// How a program is certified.
+fn wish_of(asked: Certifying<'_>) -> Wish
+    ensures { result ≡ wish_of asked.entry }
+{
+    Wish {
+        bound: asked.bound.unwrap_or(MOST_BOUND),
+        turns: asked.turns,
+        otherwise: asked.otherwise,
+        padded: asked.padded,
+        unproved: asked.unproved,
+        notes: asked.notes.is_some(),
+    }
+}
+
+/// The length of the contexts; the words' parser has seen that it is at most the greatest.
+fn length_of(asked: Certifying<'_>) -> u32
+    ensures short { result ≤ max_context }
+    ensures given { asked.entry.length ≤ max_context → result ≡ asked.entry.length }
+{
+    asked.length.min(MAX_CONTEXT as u32)
+}
+
+/// What is told of a certified program.
+fn told_of(asked: Certifying<'_>, length: u32, certified: &Certified) -> Certification
+    ensures { result ≡ told_of asked.entry length certified.now }
+{
+    let rewriting = match &certified.rewritten {
+        None => None,
+        Some(rewritten) => Some(Rewriting {
+            turns: rewritten.turns,
+            padded: asked.padded,
+            untouched: rewritten.untouched,
+            is_shown: rewritten.is_shown,
+        }),
+    };
+    Certification {
+        length,
+        bound: certified.bound,
+        rewriting,
+    }
+}
+
+/// The program for which a certificate is: the one that was given, or what was made of it.
+fn made_of<'a>(program: &'a Program, certified: &'a Certified) -> &'a Program
+    ensures { result.now ≡ made_of program.now certified.now }
+{
+    match &certified.rewritten {
+        None => program,
+        Some(rewritten) => &rewritten.hardened.program,
+    }
+}
+
+/// The notes of a hardened program; none of one that stands as it is.
+fn notes_of<'a>(certified: &'a Certified) -> &'a [Option<Place>]
+    ensures { result.now ≡ notes_of certified.now.rewritten }
+{
+    match &certified.rewritten {
+        None => &[],
+        Some(rewritten) => &rewritten.notes,
+    }
+}
+
+/// What goes beside the image and its certificate.
+fn beside_of(
+    alloc: Global,
+    asked: Certifying<'_>,
+    certified: &Certified,
+) -> Result<Beside, AllocError>
+    ensures { IfOk result (λ beside. IfSome asked.entry.notes (λ _. beside.notes.items ≡ notes_text (notes_of certified.now.rewritten))) }
+{
+    let notes = text_of(alloc, asked.hardening(), notes_of(certified))?;
+    let changes = match &certified.rewritten {
+        None => String::new(alloc),
+        Some(rewritten) => changes_of(alloc, asked.hardening(), &rewritten.hardened)?,
+    };
+    Ok(Beside {
+        notes,
+        changes,
+        said: None,
+    })
+}
+
+/// Prints why a program isn't certified.
+fn refuse_certifying<'a, W: Write>(
+    alloc: Global,
+    out: &mut W,
+    error: CertifyError,
+) -> Result<u8, Failure<'a>>
+    ensures ok { IfOk result (λ status. Says (refused_as error) status (W.contents out.old) (W.contents out.new)) }
+    ensures err { IfErr result OutputFails }
+    ensures begun { IfErr result (λ _. AppendsBeginning (W.contents out.old) (W.contents out.new) (answer_text (refused_as error))) }
+{
+    match error {
+        CertifyError::Unhardened(error) => {
+            let slot = u64::from(error.slot());
+            refuse_at(alloc, out, "H", error.number(), " at slot ", slot)
+        }
+        CertifyError::Unshown(mismatch) => {
+            let slot = u64::from(mismatch.slot());
+            refuse_at(alloc, out, "H", NOT_SHOWN, " at slot ", slot)
+        }
+        CertifyError::TooDear { .. } => refuse_dear(alloc, out),
+        CertifyError::Uncertified(_) => refuse_uncertified(alloc, out),
+    }
+}
+
+/// Writes the image and its certificate, both or neither, and then the texts, each where a name for it is given.
+fn put_all<'a, P: Places>(
+    places: &mut P,
+    asked: Certifying<'a>,
+    made: &Program,
+    certificate: &Certificate,
+    beside: &Beside,
+) -> Result<u8, Failure<'a>>
+    ensures ok { IfOk result (λ status. (status ≡ 0) × AllPut (making P.creates P.ends P.Writer.contents) (pairing P.creates P.ends P.Writer.contents)
+        places.old asked.entry made.now certificate.now beside.now.notes.items places.new) }
+    ensures err { IfErr result (NotAllPut (making P.creates P.ends P.Writer.contents) (pairing P.creates P.ends P.Writer.contents)
+        places.old asked.entry made.now certificate.now places.new) }
+    ensures names { IfErr result (λ _. NotAllStand (making P.creates P.ends P.Writer.contents) (pairing P.creates P.ends P.Writer.contents)
+        places.old asked.entry made.now certificate.now places.new) }
+{
+    put_both(places, asked.output, made, asked.certificate, certificate)?;
+    put_beside(places, asked.hardening(), beside)
+}
+
+/// What is certified of a program, with what goes beside it.
+fn found_for(
+    alloc: Global,
+    program: &Program,
+    asked: Certifying<'_>,
+    length: u32,
+) -> Result<(Certified, Beside), CertifyError>
+    requires { length ≤ max_context }
+    ensures ok { IfOk result (λ f. IsAnswer program.now length (wish_of asked.entry) f.0) }
+    ensures shown { asked.entry.unproved ≡ false → IfOk result (λ f. IfSome f.0.rewritten (λ r. IsTrue r.is_shown)) }
+    ensures notes { IfOk result (λ f. IfSome asked.entry.notes (λ _. f.1.notes.items ≡ notes_text (notes_of f.0.rewritten))) }
+{
+    let certified = certify(alloc, program, length, wish_of(asked))?;
+    match beside_of(alloc, asked, &certified) {
+        Ok(beside) => Ok((certified, beside)),
+        Err(_no_memory) => Err(CertifyError::Unhardened(HardenError::Memory)),
+    }
+}
+
+/// Writes an image and its certificate, with the lines of the source where they are known.
+fn certified_with<'a, P: Places, W: Write, H: Aside>(
+    alloc: Global,
+    places: &mut P,
+    out: &mut W,
+    aside: &H,
+    asked: Certifying<'a>,
+    lines: &[u8],
+) -> Result<u8, Failure<'a>>
+    ensures ok { IfOk result (Answered (CertifySays P.opens (making P.creates P.ends P.Writer.contents) (pairing P.creates P.ends P.Writer.contents)
+        places.old asked.entry places.new) (W.contents out.old) (W.contents out.new)) }
+    ensures err { IfErr result (CertifyFails P.opens (making P.creates P.ends P.Writer.contents) (pairing P.creates P.ends P.Writer.contents)
+        places.old asked.entry places.new) }
+    ensures begun { IfErr result (λ _. Unfinished (CertifySays P.opens (making P.creates P.ends P.Writer.contents)
+        (pairing P.creates P.ends P.Writer.contents) places.old asked.entry places.new) (W.contents out.old) (W.contents out.new)) }
+    ensures names { IfErr result (λ _. NotCertified P.opens (making P.creates P.ends P.Writer.contents) (pairing P.creates P.ends P.Writer.contents)
+        places.old asked.entry places.new) }
+{
+    let program = match program_at(alloc, places, asked.input, asked.order)? {
+        Ok(program) => program,
+        Err(error) => {
+            let answer = refuse_image(alloc, out, error);
+            tell_image(aside, error);
+            return answer;
+        }
+    };
+    let length = length_of(asked);
+    let (certified, beside) = match found_for(alloc, &program, asked, length) {
+        Ok(found) => found,
+        Err(error) => {
+            let answer = refuse_certifying(alloc, out, error);
+            tell_refusal(aside, Source { asked, lines }, error);
+            return answer;
+        }
+    };
+    let told = told_of(asked, length, &certified);
+    let made = made_of(&program, &certified);
+    put_all(places, asked, made, &certified.certificate, &beside)?;
+    say_certified(alloc, out, told)
+}
+
+/// Writes the image of a program that has a certificate within the bound that is asked for: the program as it stands, or hardened; and its
+/// certificate, notes that `follows` reads, and what was done. The places for them are made only where there is something to write. Of a
+/// refusal the sentence stands on standard error, whether or not people read there: it is the one thing that scripts are told beside the line.
+pub fn certified<'a, P: Places, W: Write, H: Aside>(
+    alloc: Global,
+    places: &mut P,
+    out: &mut W,
+    aside: &H,
+    asked: Certifying<'a>,
+) -> Result<u8, Failure<'a>>
+    ensures ok { IfOk result (Answered (CertifyWithSays P.opens (making P.creates P.ends P.Writer.contents)
+        (pairing P.creates P.ends P.Writer.contents) places.old asked.entry places.new) (W.contents out.old) (W.contents out.new)) }
+    ensures err { IfErr result (CertifyWithFails P.opens (making P.creates P.ends P.Writer.contents) (pairing P.creates P.ends P.Writer.contents)
+        places.old asked.entry places.new) }
+    ensures begun { IfErr result (λ _. Unfinished (CertifyWithSays P.opens (making P.creates P.ends P.Writer.contents)
+        (pairing P.creates P.ends P.Writer.contents) places.old asked.entry places.new) (W.contents out.old) (W.contents out.new)) }
+    ensures names { IfErr result (λ _. NotCertifiedWith P.opens (making P.creates P.ends P.Writer.contents) (pairing P.creates P.ends P.Writer.contents)
+        places.old asked.entry places.new) }
+{
+    let table = lines_at(alloc, places, asked.lines)?;
+    let lines = table.as_str().as_bytes();
+    certified_with(alloc, places, out, aside, asked, lines)
+}

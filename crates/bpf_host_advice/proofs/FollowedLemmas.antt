@@ -1,0 +1,32 @@
+-- Notes that don't show that a new image keeps the meaning of an old one.
+use Rattle.std.proofs.Common.{◌≡◌, ℕ, List, Option, ap, subst}
+use Rattle.bpf_insn.specs.Instruction.{Instructions}
+use Rattle.bpf_insn.specs.Image.{IsImage, IsProgram}
+use Rattle.bpf_insn.specs.declared.order.Order.{Order}
+use Rattle.bpf_check.specs.Verdicts.{program_in}
+use Rattle.bpf_follows_law.specs.declared.notes.Bounds.{Bounds}
+use Rattle.bpf_follows_law.specs.declared.notes.Place.{Place}
+use Rattle.bpf_follows.specs.Mismatches.{IsMismatch}
+use Rattle.bpf_follows.specs.declared.mismatch.Mismatch.{Mismatch}
+use Rattle.bpf_follows_notes.specs.NotesText.{notes_text}
+use Rattle.bpf_host_runs.specs.declared.answers.BpfRefusal.{BpfRefusal}
+use Rattle.bpf_host_advice.specs.Told.{TellsMatch}
+use Rattle.bpf_host_advice.specs.Followed.{IsMismatched}
+
+-- a program is its list in its order
+in_order : (order : Order) (p : Instructions) → p.order ≡ order → p ≡ program_in order p.list
+in_order order p same = ap (λ o. program_in o p.list) same
+
+pub mismatched : (order : Order) (old new text : List ℕ) (bounds : Bounds) (p q : Instructions) (notes : List (Option Place)) (m : Mismatch) (told : BpfRefusal) → IsImage order p.list old → p.order ≡ order → IsProgram p.list → IsImage order q.list new → q.order ≡ order → IsProgram q.list → text ≡ notes_text notes → IsMismatch p q notes bounds m → TellsMatch m told → IsMismatched order old new text bounds told
+mismatched order old new text bounds p q notes m told is_old old_order old_program is_new new_order new_program text_is fails tells =
+    record {
+      program = p.list;
+      is_old = record { program = old_program; bytes_are = is_old.bytes_are };
+      made = q.list;
+      is_new = record { program = new_program; bytes_are = is_new.bytes_are };
+      notes = notes;
+      text_is = text_is;
+      mismatch = m;
+      fails = subst (λ o. IsMismatch o (program_in order q.list) notes bounds m) (in_order order p old_order) (subst (λ n. IsMismatch p n notes bounds m) (in_order order q new_order) fails);
+      tells = tells;
+    }
