@@ -1,7 +1,7 @@
 //! The text of `tcpdump -ddd`: how many instructions there are, and on a line for each its code, its two distances and its constant. The
 //! text of `tcpdump -dd`: a row of C for each. Numbers are decimal, or hexadecimal behind `0x`.
 
-ghost use Rattle.std.specs.Prelude.{◌≡◌, ◌⊎◌, Ok, Err, IfOk, IfErr};
+ghost use Rattle.std.specs.Prelude.{◌≡◌, ◌⊎◌, ◌++◌, [], ◌∷◌, Ok, Err, IfOk, IfErr, OnOk};
 ghost use Rattle.bpf_classic_text.specs.Text.{ended, may_count, raws_of};
 ghost use Rattle.bpf_classic_text.specs.declared.fault.TextFault.TheVariants.{Memory};
 
@@ -9,13 +9,20 @@ use crate::border::{Border, cut};
 use crate::fault::TextFault;
 use crate::line::{Line, line_of};
 use bpf_classic::Raw;
-use std::alloc::Global;
+use std::alloc::{AllocError, Global};
 
 /// How many instructions follow a line, as it says.
 #[derive(Clone, Copy)]
 struct Said {
     line: usize,
     count: u32,
+}
+
+fn push(raws: &mut Vec<Raw>, raw: Raw) -> Result<(), AllocError>
+    ensures { OnOk result (raws.new.items ≡ raws.old.items ++ raw ∷ []) }
+{
+    raws.push(raw)?;
+    Ok(())
 }
 
 /// Whether a line may say how many follow.
@@ -64,7 +71,7 @@ pub fn raws_of(alloc: Global, text: &[u8]) -> Result<Vec<Raw>, TextFault>
         match line_of(part) {
             Line::Blank => {}
             Line::Count(count) if may_count(said, &raws) => said = Some(Said { line, count }),
-            Line::Row(raw) => raws.push(raw)?,
+            Line::Row(raw) => push(&mut raws, raw)?,
             Line::Count(_) | Line::Other => return Err(TextFault::Row { line }),
         }
     }
