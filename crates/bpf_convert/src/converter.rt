@@ -5,8 +5,9 @@ ghost use Rattle.bpf_insn.specs.Limits.{max_context};
 ghost use Rattle.bpf_classic.specs.Valid.{max_filter};
 ghost use Rattle.bpf_convert.specs.Template.{room_insns, zero_if};
 
-use crate::emit::{alu, cell_offset, constant, emit, test_wide};
+use crate::emit::{cell_offset, emit};
 use crate::flow::{is_sound, reads_a, reads_x, uses_trap};
+use crate::insns::{alu, constant, test_wide};
 use crate::layout::{Annotated, Form, Layout};
 use crate::marks::annotate;
 use crate::ways::from_on;

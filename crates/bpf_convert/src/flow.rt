@@ -1,11 +1,10 @@
 //! Whether what instructions are marked with agrees along every way: one look at each instruction and at those that it leads to.
 
 ghost use Rattle.std.specs.Prelude.{◌≡◌, ◌+◌, ◌≤◌, length, option_copied};
-ghost use Rattle.bpf_classic.specs.Machine.{divides};
 ghost use Rattle.bpf_convert.specs.Template.{is_register};
 ghost use Rattle.bpf_convert.specs.Flow.{is_a, is_x, reads_a, reads_x, sets_a, sets_x, tests_length, leads_to_trap, uses_trap, known_behind, leads_to, leads_on, agrees, all_agree, starts_well, is_sound};
 
-use crate::emit::{divides, is_register};
+use crate::emit::is_register;
 use crate::layout::{Annotated, Layout, is_beyond, need};
 use bpf_classic::{Classic, Register};
 
@@ -100,7 +99,7 @@ fn leads_to_trap(layout: &Layout, a: &Annotated) -> bool
     match a.insn {
         Classic::At { .. } | Classic::Header { .. } => tests_length(layout, a),
         Classic::Index { .. } => true,
-        Classic::Alu { op, source } => is_register(source) && divides(op),
+        Classic::Alu { op, source } => is_register(source) && op.divides(),
         Classic::Constant { .. } | Classic::Length { .. } | Classic::Cell { .. } => false,
         Classic::Store { .. } | Classic::Neg | Classic::Jump { .. } => false,
         Classic::JumpIf { .. } | Classic::Return { .. } | Classic::ReturnA => false,

@@ -4,7 +4,9 @@
 mod converter;
 pub mod emit;
 mod flow;
+pub mod insns;
 pub mod layout;
+pub mod loads;
 mod marks;
 pub mod ways;
 
