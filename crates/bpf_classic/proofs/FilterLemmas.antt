@@ -1,11 +1,11 @@
 -- Instructions of which none has a fault are a filter.
-use Rattle.std.proofs.Common.{◌≡◌, ℕ, zero, suc, ◌+◌, ◌-◌, ◌<◌, ◌≤◌, List, [], ◌∷◌, ◌++◌, length, Option, Some, None, refl, sym, ap, ap₂, ◌∙◌, subst, ⊎_elim, arith}
+use Rattle.std.proofs.Common.{◌≡◌, ℕ, zero, suc, ◌+◌, ◌-◌, ◌<◌, ◌≤◌, List, [], ◌∷◌, length, Option, Some, None, refl, sym, ap, ap₂, ◌∙◌, subst, ⊎_elim, arith}
 use Rattle.std.specs.Prelude.{filter_map, option_and_then, slice_get}
 use Rattle.std.specs.List.{cons_option}
 use Rattle.std.proofs.lemmas.Option.{none-some}
 use Rattle.std.proofs.lemmas.Bool.{cases_lt}
 use Rattle.bpf_classic.specs.Codes.{instruction_of}
-use Rattle.bpf_classic.specs.Valid.{max_filter, fault_of, fault_of_raw, fault_at, AreFaultless, HasWord, HaveWords, IsFilter}
+use Rattle.bpf_classic.specs.Valid.{max_filter, fault_of, fault_of_raw, fault_at, AreFaultless, IsFilter}
 use Rattle.bpf_classic.specs.declared.instruction.Classic.{Classic}
 use Rattle.bpf_classic.specs.declared.raw.Raw.{Raw}
 use Rattle.bpf_classic.specs.declared.refusal.Kind.{Kind}
@@ -33,15 +33,10 @@ each : (kind : Kind) (raws : List Raw) → NoFault kind raws → Faultless kind 
 each kind [] h = (refl, tt)
 each kind (r ∷ rs) h = with_front kind (length rs) (instruction_of r) (filter_map instruction_of rs) (first kind r rs h) (each kind rs (others kind r rs h))
 
-pub are_faultless : (kind : Kind) (raws : List Raw) → 0 < length raws → length raws ≤ max_filter → NoFault kind raws → HaveWords (filter_map instruction_of raws) → IsFilter kind (filter_map instruction_of raws)
-are_faultless kind raws some few h words =
+pub are_faultless : (kind : Kind) (raws : List Raw) → 0 < length raws → length raws ≤ max_filter → NoFault kind raws → IsFilter kind (filter_map instruction_of raws)
+are_faultless kind raws some few h =
     let e = each kind raws h in
-    record { some = omega (arith, e.0); few = omega (arith, e.0); each = e.1; words = words }
-
--- one more instruction whose constant has 32 bits
-pub more_words : (list : List Classic) (i : Classic) → HaveWords list → HasWord i → HaveWords (list ++ i ∷ [])
-more_words [] i all one = (one, tt)
-more_words (j ∷ list) i all one = (all.0, more_words list i all.1 one)
+    record { some = omega (arith, e.0); few = omega (arith, e.0); each = e.1 }
 
 -- what holds below n and of n holds below n + 1
 pub grows : (P : ℕ → Type 0) (n : ℕ) → ((j : ℕ) → j < n → P j) → P n → (j : ℕ) → j < n + 1 → P j

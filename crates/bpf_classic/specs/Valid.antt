@@ -1,5 +1,5 @@
 -- Which instructions are a filter, and why others aren't.
-use Rattle.std.specs.Prelude.{◌≡◌, ℕ, ◌+◌, ◌-◌, ◌%◌, ◌^◌, ◌<◌, ◌≤◌, ◌==◌, ◌⊎◌, nat_lt, nat_le, Bool, true, false, not, ◌&&◌, ◌||◌, List, [], ◌∷◌, length, slice_get, Option, Some, None, option_and_then, if◌then◌else◌, ⊤}
+use Rattle.std.specs.Prelude.{◌≡◌, ℕ, ◌+◌, ◌-◌, ◌%◌, ◌<◌, ◌≤◌, ◌==◌, ◌⊎◌, nat_lt, nat_le, Bool, true, false, not, ◌&&◌, ◌||◌, List, [], ◌∷◌, length, slice_get, Option, Some, None, option_and_then, if◌then◌else◌, ⊤}
 pub use Rattle.bpf_classic.specs.Limits.{max_filter, cell_count}
 use Rattle.bpf_classic.specs.Codes.{instruction_of}
 use Rattle.bpf_classic.specs.Machine.{divides, shifts}
@@ -93,27 +93,11 @@ abbrev pub AreFaultless : Kind → List Classic → Type 0
 AreFaultless kind [] = ⊤
 AreFaultless kind (i ∷ rest) = (fault_of kind (length rest) i ≡ None) × AreFaultless kind rest
 
--- constants have 32 bits
-abbrev pub HasWord : Classic → Type 0
-HasWord (Constant to k) = k < 2 ^ 32
-HasWord (At size k) = k < 2 ^ 32
-HasWord (Index size k) = k < 2 ^ 32
-HasWord (Header k) = k < 2 ^ 32
-HasWord (Alu op (K k)) = k < 2 ^ 32
-HasWord (JumpIf test (K k) jt jf) = k < 2 ^ 32
-HasWord (Return k) = k < 2 ^ 32
-HasWord _ = ⊤
-
-abbrev pub HaveWords : List Classic → Type 0
-HaveWords [] = ⊤
-HaveWords (i ∷ rest) = HasWord i × HaveWords rest
-
 -- a valid filter: 1 to 4,096 instructions, each without fault
 pub record IsFilter (kind : Kind) (filter : List Classic) : Type 0 where
   pub some : 0 < length filter
   pub few : length filter ≤ max_filter
   pub each : AreFaultless kind filter
-  pub words : HaveWords filter
 
 -- ---- refusals
 

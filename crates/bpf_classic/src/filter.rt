@@ -1,11 +1,10 @@
 //! Filters: instructions of which each is without fault.
 
-ghost use Rattle.std.specs.Prelude.{◌≡◌, ◌⊎◌, ◌<◌, ◌^◌, IfOk, IfErr, filter_map};
+ghost use Rattle.std.specs.Prelude.{◌≡◌, ◌⊎◌, IfOk, IfErr, filter_map};
 ghost use Rattle.bpf_classic.specs.Codes.{instruction_of};
-ghost use Rattle.bpf_classic.specs.Valid.{HasWord, HaveWords};
 
 use crate::faults::lowest_fault;
-use crate::instruction::{Classic, Source};
+use crate::instruction::Classic;
 use crate::raw::{Raw, instruction_of};
 use crate::refusal::{Kind, Refusal};
 use std::alloc::{AllocError, Global};
@@ -14,38 +13,12 @@ use std::marker::Model;
 /// The most instructions of a filter.
 pub const MAX_FILTER: usize = 4096;
 
-fn is_word(k: u32)
-    ensures { k < 2 ^ 32 }
-{}
-
-/// The constant of an instruction has 32 bits.
-fn has_word(i: &Classic)
-    ensures { HasWord i.now }
-{
-    match *i {
-        Classic::Constant { k, .. } => is_word(k),
-        Classic::At { k, .. } => is_word(k),
-        Classic::Index { k, .. } => is_word(k),
-        Classic::Header { k } => is_word(k),
-        Classic::Return { k } => is_word(k),
-        Classic::Alu { source, .. } | Classic::JumpIf { source, .. } => {
-            if let Source::K(k) = source {
-                is_word(k);
-            }
-        }
-        Classic::Length { .. } | Classic::Cell { .. } | Classic::Store { .. } => {}
-        Classic::Neg | Classic::Jump { .. } | Classic::ReturnA | Classic::Tax | Classic::Txa => {}
-    }
-}
-
 fn instructions(alloc: Global, raws: &[Raw]) -> Result<Vec<Classic>, AllocError>
-    ensures same { IfOk result (λ v. v.items ≡ filter_map instruction_of raws.now) }
-    ensures words { IfOk result (λ v. HaveWords v.items) }
+    ensures { IfOk result (λ v. v.items ≡ filter_map instruction_of raws.now) }
 {
     let mut list = Vec::with_capacity(alloc, raws.len())?;
     for raw in raws {
         if let Some(i) = instruction_of(raw) {
-            has_word(&i);
             list.push(i)?;
         }
     }

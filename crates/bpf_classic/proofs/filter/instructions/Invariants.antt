@@ -1,9 +1,8 @@
 use Rattle.std.proofs.Common.{◌≡◌, ◌++◌, drop}
 use Rattle.std.specs.Prelude.{filter_map}
 use Rattle.bpf_classic.specs.Codes.{instruction_of}
-use Rattle.bpf_classic.specs.Valid.{HaveWords}
 use Rattle.bpf_classic.proofs.filter.instructions.Given as goal
 
--- the instructions so far and those of what is left are those of all, and the constants of those so far have 32 bits
+-- the instructions so far and those of what is left are those of all
 abbrev pub invariant-loop-raw : goal.invariant-loop-raw
-invariant-loop-raw l = (l.list.items ++ filter_map instruction_of (drop l.raw-index l.raws) ≡ filter_map instruction_of l.raws) × HaveWords l.list.items
+invariant-loop-raw l = l.list.items ++ filter_map instruction_of (drop l.raw-index l.raws) ≡ filter_map instruction_of l.raws
