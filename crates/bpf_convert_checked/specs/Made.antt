@@ -10,6 +10,7 @@ use Rattle.bpf_classic.specs.declared.refusal.Kind.{Kind}
 use Rattle.bpf_classic.specs.declared.refusal.Kind.TheVariants.{Packets, Seccomp as ForSeccomp}
 use Rattle.bpf_classic.specs.declared.refusal.Refusal.{Refusal}
 use Rattle.bpf_classic.specs.declared.refusal.Refusal.TheVariants as refusals
+use Rattle.bpf_convert.specs.Meaning.{EndsAlike, IsContext}
 use Rattle.bpf_convert.specs.declared.layout.Form.{Form}
 use Rattle.bpf_convert.specs.declared.layout.Form.TheVariants.{Blocks, Plain, Seccomp}
 use Rattle.bpf_convert_checked.specs.declared.error.ConvertError.{ConvertError}
@@ -25,10 +26,14 @@ kind_of Seccomp = ForSeccomp
 abbrev pub filter_of : List Raw → List Classic
 filter_of raws = filter_map instruction_of raws
 
--- The instructions are a filter, and the certificate certifies the program for contexts of this length.
+-- The instructions are a filter, the program ends on each context with what the filter answers, and the certificate certifies it for contexts of this
+-- length.
 pub record IsMade (raws : List Raw) (form : Form) (length : ℕ) (order : Order) (made : Made) : Type 0 where
   pub filter : IsFilter (kind_of form) (filter_of raws)
-  pub order_is : made.converted.program.order ≡ order
+  pub form_is : made.converted.layout.form ≡ form
+  pub length_is : made.converted.layout.length ≡ length
+  pub order_is : made.converted.layout.order ≡ order
+  pub keeps : (context : List ℕ) → IsContext made.converted.layout context → EndsAlike (filter_of raws) made.converted.layout made.converted.program context
   pub certified : IsCertifiedBy made.converted.program made.certificate
   pub least : made.certificate.least ≡ length
   pub greatest : made.certificate.most ≡ length
