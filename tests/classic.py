@@ -1,7 +1,7 @@
 #!/usr/bin/env python3
 """Filters of classic BPF, converted: classic.py BPF [COUNT]
 
-First COUNT random filters (10,000) of every instruction, some of them faulty: what `bpf convert` makes of each is what the definition answers, which
+First COUNT random filters (1,000 if not said) of every instruction, some of them faulty: what `bpf convert` makes of each is what the definition answers, which
 is written once more below, and a faulty one is refused at its lowest instruction with a fault. Then the examples of pcap-filter(7), where
 libpcap is there: what tcpdump, or libpcap itself, compiles them to answers what libpcap's own bpf_filter() does.
 """
@@ -360,7 +360,7 @@ def asked_filter(asked, spelled, room, packets):
 
 def main():
     bpf = os.path.abspath(sys.argv[1])
-    count = int(sys.argv[2]) if len(sys.argv) > 2 else 10_000
+    count = int(sys.argv[2]) if len(sys.argv) > 2 else 1_000
     with tempfile.TemporaryDirectory(prefix='bpf-classic-') as room:
         good = random_filters(bpf, count) & examples(bpf, room)
     return 0 if good else 1
