@@ -155,7 +155,7 @@ same_a : (t : Bool) (w : Now) → (with_zero t X w).r0 ≡ w.r0
 same_a true w = refl
 same_a false w = refl
 
-zero_at : (n i : ℕ) → get_or (replicate n 0) i 0 ≡ 0
+zero_at : (n i : ℕ) → ◌≡◌ {A = ℕ} (get_or (replicate n 0) i 0) 0
 zero_at zero i = refl
 zero_at (suc n) zero = refl
 zero_at (suc n) (suc i) = zero_at n i
