@@ -1,11 +1,12 @@
 -- How many slots templates have, and the table of how many stand from each instruction on.
 use Rattle.std.proofs.Common.{◌≡◌, ℕ, zero, suc, ◌+◌, ◌-◌, ◌*◌, ◌<◌, ◌≤◌, List, [], ◌∷◌, ◌++◌, length, drop, get_or, set, Bool, true, false, cond, Option, Some, None, refl, sym, ap, ap₂, ◌∙◌, subst, ⊎_elim, arith, append_assoc, length-append}
-use Rattle.std.specs.Prelude.{pos, min, map, nat_lt, slice_index, slice_set, not, ◌&&◌, ◌==◌}
+use Rattle.std.specs.List.{range_with_len}
+use Rattle.std.specs.Prelude.{pos, min, map, flat_map, nat_lt, slice_index, slice_set, not, ◌&&◌, ◌==◌}
 use Rattle.std.proofs.lemmas.Bool.{cond_both, cases_eq, cases_lt}
 use Rattle.std.proofs.lemmas.Int.{clamps}
 use Rattle.std.proofs.lemmas.List.{length-map, get_or-map, drop_more, drop_all, drop-drop, length-drop, length-set, get_or_past, get_or-set_same, get_or-set_other}
 use Rattle.std.proofs.Math.Seq.{map-set_same}
-use lib.Path.{fun_ext}
+use Rattle.std.proofs.Math.Path.{fun_ext}
 use Rattle.bpf_insn.specs.declared.instruction.Insn.{Insn}
 use Rattle.bpf_insn.specs.declared.instruction.Insn.TheVariants.{Alu as AluInsn, Load as LoadInsn, Ja, JumpIf as JumpIfInsn}
 use Rattle.bpf_insn.specs.declared.instruction.EndBits.{EndBits}
@@ -15,7 +16,7 @@ use Rattle.bpf_classic.specs.declared.instruction.Source.{Source}
 use Rattle.bpf_classic.specs.declared.instruction.LoadSize.{LoadSize}
 use Rattle.bpf_classic.specs.declared.instruction.Classic.{Classic}
 use Rattle.bpf_classic.specs.declared.instruction.Classic.TheVariants.{Constant, Length, Cell, Store, At, Index, Header, Alu, Neg, Jump, JumpIf, Return, ReturnA, Tax, Txa}
-use Rattle.bpf_convert.specs.Template.{is_swapped, is_beyond, is_register, swap_if, swap_of, end_bits, length_test, load_code, jump_code, unless_code, inverse, code_of, template, nowhere, size, total, ahead_in, most_slots, from_on, way, IsTable, code, entry}
+use Rattle.bpf_convert.specs.Template.{is_swapped, is_beyond, is_register, swap_if, swap_of, end_bits, length_test, load_code, jump_code, unless_code, inverse, code_of, template, nowhere, size, total, ahead_in, most_slots, from_on, way, IsTable, zero_cell, code, entry}
 use Rattle.bpf_convert.specs.Meaning.{insns, HasStarts}
 use Rattle.bpf_convert.specs.declared.layout.Layout.{Layout}
 use Rattle.bpf_convert.specs.declared.layout.Annotated.{Annotated}
@@ -137,13 +138,27 @@ pub template_is : (l : Layout) (list : List Annotated) (table : List ℕ) (a : A
 template_is l list table a from h = ap₂ (λ f out. template l a f out) (fun_ext (λ k. way_is l list table from k h)) (h.1 from)
 
 -- one more template
-pub code_more : (l : Layout) (list : List Annotated) (table : List ℕ) (out : List Insn) (at : ℕ) (a : Annotated) → IsTable l list table → at < length list → a ≡ get_or list at a
-    → (out ++ template l a (way table (at + 1)) (from_on table (at + 1))) ++ code l (drop (at + 1) list) ≡ out ++ code l (drop at list)
-code_more l list table out at a h lt is =
-    let next : drop at list ≡ a ∷ drop (at + 1) list = drop_more list at a lt ∙ ap (λ x. x ∷ drop (at + 1) list) (sym is) in
-    append_assoc out (template l a (way table (at + 1)) (from_on table (at + 1))) (code l (drop (at + 1) list))
-    ∙ ap (λ t. out ++ (t ++ code l (drop (at + 1) list))) (template_is l list table a (at + 1) h)
-    ∙ ap (λ xs. out ++ code l xs) (sym next)
+pub templates_more : (l : Layout) (list : List Annotated) (table : List ℕ) (before after all : List Insn) (at : ℕ) (d : Annotated) → IsTable l list table → at < length list
+    → after ≡ before ++ template l (get_or list at d) (way table (at + 1)) (from_on table (at + 1)) → before ++ code l (drop at list) ≡ all → after ++ code l (drop (at + 1) list) ≡ all
+templates_more l list table before after all at d h lt here so_far =
+    let a : Annotated = get_or list at d in
+    ap (λ out. out ++ code l (drop (at + 1) list)) here
+    ∙ append_assoc before (template l a (way table (at + 1)) (from_on table (at + 1))) (code l (drop (at + 1) list))
+    ∙ ap (λ t. before ++ (t ++ code l (drop (at + 1) list))) (template_is l list table a (at + 1) h)
+    ∙ ap (λ xs. before ++ code l xs) (sym (drop_more list at d lt))
+    ∙ so_far
+
+-- one more cell
+pub cells_more : (list : List Annotated) (before after all : List Insn) (cell : ℕ) → cell < 16 → after ≡ before ++ zero_cell list cell → before ++ flat_map (zero_cell list) (range_with_len cell (16 - cell)) ≡ all
+    → after ++ flat_map (zero_cell list) (range_with_len (cell + 1) (16 - (cell + 1))) ≡ all
+cells_more list before after all cell lt here so_far =
+    let left : ℕ = 16 - (cell + 1) in
+    let more : List Insn = flat_map (zero_cell list) (range_with_len (cell + 1) left) in
+    let one : suc left ≡ 16 - cell = omega arith in
+    ap (λ out. out ++ more) here
+    ∙ append_assoc before (zero_cell list cell) more
+    ∙ ap (λ n. before ++ flat_map (zero_cell list) (range_with_len cell n)) one
+    ∙ so_far
 
 -- ---- where each template begins
 
