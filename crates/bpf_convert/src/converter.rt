@@ -187,7 +187,7 @@ fn written(alloc: Global, layout: Layout, list: Vec<Annotated>) -> Result<Conver
 
 /// The slot at which the template of each instruction begins.
 fn starts_of(alloc: Global, table: &[u16], first: usize) -> Result<Vec<u16>, AllocError>
-    requires { first ≤ 20 }
+    requires { first ≤ 21 }
     ensures { IfOk result (λ starts. starts.items ≡ map (λ slots. first + (from_on table.now 0 - slots)) table.now) }
 {
     let mut starts = Vec::with_capacity(alloc, table.len())?;
