@@ -235,7 +235,7 @@ module _ (l : Layout) (context : List ℕ) (is : IsContext l context) (short : l
 -- ---- the theorem
 
 pub conversion_keeps_answers : ConversionKeepsAnswers
-conversion_keeps_answers kind filter l marked p context converted is =
+conversion_keeps_answers kind filter l marked p converted context is =
     let valid = converted.valid in
     let found = answers kind (given l context) (length filter) filter blank (omega arith) valid.some valid.each in
     let q : Instructions = program_of l marked in
