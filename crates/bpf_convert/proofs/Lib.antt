@@ -7,7 +7,7 @@ pub mod Known
 pub mod Plain
 pub mod Operations
 pub mod Jumps
-pub mod Loads
+pub mod Loading
 pub mod Simulation
 pub mod Narrow
 pub mod Answering

@@ -22,7 +22,7 @@ use Rattle.bpf_convert.proofs.Known.{Fits, Knows, Good, Sane, Covers, Agreed, ag
 use Rattle.bpf_convert.proofs.Plain as plain
 use Rattle.bpf_convert.proofs.Operations as operations
 use Rattle.bpf_convert.proofs.Jumps as jumps
-use Rattle.bpf_convert.proofs.Loads as loading
+use Rattle.bpf_convert.proofs.Loading as loading
 
 abbrev insn_of : Annotated → Classic
 insn_of a = a.insn
@@ -42,7 +42,7 @@ Wants wanted list = (cell : ℕ) → is_loaded list cell ≡ true → wanted cel
 
 wants_drop : (wanted : ℕ → Bool) (k : ℕ) (rest : List Annotated) → Wants wanted rest → Wants wanted (drop k rest)
 wants_drop wanted zero rest h = h
-wants_drop wanted (suc k) [] h cell e = absurd (false≢true e)
+wants_drop wanted (suc k) [] h = λ cell e. absurd (false≢true e)
 wants_drop wanted (suc k) (a ∷ rest) h = wants_drop wanted k rest (λ cell e. h cell (or_right (a.reached && loads cell a.insn) (is_loaded rest cell) e))
 
 module _ (l : Layout) (p : Instructions) (g : Given) (f : Fixed) (wanted : ℕ → Bool) (fits : Fits l p g f) where

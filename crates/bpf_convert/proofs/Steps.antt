@@ -80,7 +80,7 @@ after p s t v moves e =
 
 -- a test that leads one way or the other
 pub either : (p : Instructions) (s : State) (b : Bool) (t u : State) (v : ℕ) → Moves p s (cond b t u) → (b ≡ true → Ends p t v) → (b ≡ false → Ends p u v) → Ends p s v
-either p s b t u v moves yes no = after p s (cond b t u) v moves (cond_both b t u (λ x. Ends p x v) yes no)
+either p s b t u v moves there here = after p s (cond b t u) v moves (cond_both b t u (λ x. Ends p x v) there here)
 
 pub ending : (p : Instructions) (s : State) (v : ℕ) → Stands p s.top.slot Exit → s.waiting ≡ [] → number_of_register s R0 ≡ Some v → Ends p s v
 unfolding finish_of

@@ -155,7 +155,7 @@ same_a : (t : Bool) (w : Now) → (with_zero t X w).r0 ≡ w.r0
 same_a true w = refl
 same_a false w = refl
 
-zero_at : (n i : ℕ) → get_or (replicate n 0) i 0 ≡ 0
+zero_at : (n i : ℕ) → ◌≡◌ {A = ℕ} (get_or (replicate n 0) i 0) 0
 zero_at zero i = refl
 zero_at (suc n) zero = refl
 zero_at (suc n) (suc i) = zero_at n i
@@ -235,7 +235,7 @@ module _ (l : Layout) (context : List ℕ) (is : IsContext l context) (short : l
 -- ---- the theorem
 
 pub conversion_keeps_answers : ConversionKeepsAnswers
-conversion_keeps_answers kind filter l marked p context converted is =
+conversion_keeps_answers kind filter l marked p converted context is =
     let valid = converted.valid in
     let found = answers kind (given l context) (length filter) filter blank (omega arith) valid.some valid.each in
     let q : Instructions = program_of l marked in

@@ -81,7 +81,9 @@ pub record EndsAlike (filter : List Classic) (l : Layout) (p : Instructions) (co
   pub within : steps ≤ longest p.list
   pub done : IsDone p context value steps
 
+-- on each context
+abbrev pub KeepsAnswers : List Classic → Layout → Instructions → Type 0
+KeepsAnswers filter l p = (context : List ℕ) → IsContext l context → EndsAlike filter l p context
+
 abbrev pub ConversionKeepsAnswers : Type 0
-ConversionKeepsAnswers =
-    (kind : Kind) (filter : List Classic) (l : Layout) (marked : List Annotated) (p : Instructions) (context : List ℕ)
-    → IsConverted kind filter l marked p → IsContext l context → EndsAlike filter l p context
+ConversionKeepsAnswers = (kind : Kind) (filter : List Classic) (l : Layout) (marked : List Annotated) (p : Instructions) → IsConverted kind filter l marked p → KeepsAnswers filter l p

@@ -4,9 +4,10 @@ ghost use Rattle.std.specs.Prelude.{◌≡◌, ◌≤◌, ◌+◌, ◌-◌, leng
 ghost use Rattle.bpf_insn.specs.Limits.{max_context};
 ghost use Rattle.bpf_classic.specs.Valid.{max_filter};
 ghost use Rattle.bpf_convert.specs.Template.{entry, whole, from_on, IsTable};
-ghost use Rattle.bpf_convert.specs.Meaning.{insns, program_of, IsConverted, HasStarts};
+ghost use Rattle.bpf_convert.specs.Meaning.{insns, program_of, IsConverted, HasStarts, KeepsAnswers};
 
 use crate::flow::{is_sound, reads_a, reads_x, uses_trap};
+use crate::laws::conversion_keeps_answers;
 use crate::layout::{Annotated, Form, Layout};
 use crate::marks::annotate;
 use crate::ways::from_on;
@@ -102,8 +103,8 @@ fn annotated(
     Ok((with(&zeros, zeros.zero_a, zeros.zero_x, trap), again))
 }
 
-/// The program of a filter, for contexts of `length` bytes in a form: from 0 to 4,096, of blocks at least 8, of seccomp 64. By
-/// [`conversion_keeps_answers`](crate::conversion_keeps_answers) it ends with what the filter answers. `Memory` if memory runs out.
+/// The program of a filter, for contexts of `length` bytes in a form: from 0 to 4,096, of blocks at least 8, of seccomp 64. On each
+/// such context it ends with what the filter answers, within the longest way through it. `Memory` if memory runs out.
 pub fn convert(
     alloc: Global,
     filter: &Filter,
@@ -113,11 +114,13 @@ pub fn convert(
 ) -> Result<Converted, BuildError>
     requires { length ≤ max_context }
     ensures converted { IfOk result (λ c. IsConverted filter.now.kind filter.now.list c.layout c.marked c.program) }
+    ensures answers { IfOk result (λ c. KeepsAnswers filter.now.list c.layout c.program) }
     ensures starts { IfOk result (λ c. HasStarts c.layout c.marked c.starts) }
     ensures form { IfOk result (λ c. c.layout.form ≡ form) }
     ensures length { IfOk result (λ c. c.layout.length ≡ length) }
     ensures order { IfOk result (λ c. c.layout.order ≡ order) }
 {
+    conversion_keeps_answers();
     let layout = Layout {
         form,
         length,
@@ -187,7 +190,7 @@ fn written(alloc: Global, layout: Layout, list: Vec<Annotated>) -> Result<Conver
 
 /// The slot at which the template of each instruction begins.
 fn starts_of(alloc: Global, table: &[u16], first: usize) -> Result<Vec<u16>, AllocError>
-    requires { first ≤ 20 }
+    requires { first ≤ 21 }
     ensures { IfOk result (λ starts. starts.items ≡ map (λ slots. first + (from_on table.now 0 - slots)) table.now) }
 {
     let mut starts = Vec::with_capacity(alloc, table.len())?;

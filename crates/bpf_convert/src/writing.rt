@@ -99,19 +99,27 @@ fn put_room(out: &mut Vec<Insn>, layout: &Layout) -> Result<(), AllocError>
     Ok(())
 }
 
+/// A zero in a cell, if it may be loaded.
+fn put_cell(out: &mut Vec<Insn>, list: &[Annotated], cell: u32) -> Result<(), AllocError>
+    ensures { OnOk result (out.new.items ≡ out.old.items ++ zero_cell list.now cell) }
+{
+    if is_loaded(list, cell) {
+        out.push(Insn::StoreImm {
+            size: Size::DW,
+            dst: Reg::R10,
+            off: cell_offset(cell),
+            imm: 0,
+        })?;
+    }
+    Ok(())
+}
+
 /// Zeros in the cells that may be loaded.
 fn put_cells(out: &mut Vec<Insn>, list: &[Annotated]) -> Result<(), AllocError>
     ensures { OnOk result (out.new.items ≡ out.old.items ++ flat_map (zero_cell list.now) (range_with_len 0 16)) }
 {
     for cell in 0..16 {
-        if is_loaded(list, cell) {
-            out.push(Insn::StoreImm {
-                size: Size::DW,
-                dst: Reg::R10,
-                off: cell_offset(cell),
-                imm: 0,
-            })?;
-        }
+        put_cell(out, list, cell)?;
     }
     Ok(())
 }

@@ -10,7 +10,7 @@ use Rattle.bpf_classic.specs.declared.refusal.Kind.{Kind}
 use Rattle.bpf_classic.specs.declared.refusal.Kind.TheVariants.{Packets, Seccomp as ForSeccomp}
 use Rattle.bpf_classic.specs.declared.refusal.Refusal.{Refusal}
 use Rattle.bpf_classic.specs.declared.refusal.Refusal.TheVariants as refusals
-use Rattle.bpf_convert.specs.Meaning.{EndsAlike, IsContext}
+use Rattle.bpf_convert.specs.Meaning.{KeepsAnswers}
 use Rattle.bpf_convert.specs.declared.layout.Form.{Form}
 use Rattle.bpf_convert.specs.declared.layout.Form.TheVariants.{Blocks, Plain, Seccomp}
 use Rattle.bpf_convert_checked.specs.declared.error.ConvertError.{ConvertError}
@@ -33,7 +33,7 @@ pub record IsMade (raws : List Raw) (form : Form) (length : ℕ) (order : Order)
   pub form_is : made.converted.layout.form ≡ form
   pub length_is : made.converted.layout.length ≡ length
   pub order_is : made.converted.layout.order ≡ order
-  pub keeps : (context : List ℕ) → IsContext made.converted.layout context → EndsAlike (filter_of raws) made.converted.layout made.converted.program context
+  pub answers : KeepsAnswers (filter_of raws) made.converted.layout made.converted.program
   pub certified : IsCertifiedBy made.converted.program made.certificate
   pub least : made.certificate.least ≡ length
   pub greatest : made.certificate.most ≡ length

@@ -3,7 +3,7 @@
 ghost use Rattle.std.specs.Prelude.{◌≡◌, ◌≤◌, ◌⊎◌, IfOk, IfErr};
 ghost use Rattle.bpf_insn.specs.Limits.{max_context};
 ghost use Rattle.bpf_check.specs.CheckedProgram.{IsCertifiedBy};
-ghost use Rattle.bpf_convert.specs.Meaning.{IsConverted};
+ghost use Rattle.bpf_convert.specs.Meaning.{KeepsAnswers};
 ghost use Rattle.bpf_convert_checked.specs.Made.{IsMade, IsRefusedFor, kind_of};
 ghost use Rattle.bpf_convert_checked.specs.declared.error.ConvertError.TheVariants.{Memory, Uncertified};
 
@@ -11,7 +11,7 @@ use crate::error::ConvertError;
 use bpf_cert::Certificate;
 use bpf_check::check;
 use bpf_classic::{Filter, Kind, Raw};
-use bpf_convert::{Converted, Form, conversion_keeps_answers, convert};
+use bpf_convert::{Converted, Form, convert};
 use bpf_convert_cert::certificate;
 use bpf_insn::{BuildError, Order};
 use std::alloc::Global;
@@ -61,7 +61,7 @@ fn program_of(
     order: Order,
 ) -> Result<Converted, ConvertError>
     requires { length ≤ max_context }
-    ensures converted { IfOk result (λ c. IsConverted filter.now.kind filter.now.list c.layout c.marked c.program) }
+    ensures answers { IfOk result (λ c. KeepsAnswers filter.now.list c.layout c.program) }
     ensures layout { IfOk result (λ c. (c.layout.form ≡ form) × (c.layout.length ≡ length) × (c.layout.order ≡ order)) }
     ensures err { IfErr result (λ e. (e ≡ Memory) ⊎ (e ≡ Uncertified)) }
 {
@@ -91,7 +91,6 @@ pub fn converted(
         Err(refusal) => return Err(ConvertError::Filter(refusal)),
     };
     let converted = program_of(alloc, &filter, form, length, order)?;
-    conversion_keeps_answers();
     let certificate = certified(alloc, &converted, length)?;
     Ok(Made {
         converted,
