@@ -8,7 +8,6 @@ use Rattle.bpf_classic.specs.declared.instruction.Classic.{Classic}
 use Rattle.bpf_classic.specs.declared.raw.Raw.{Raw}
 use Rattle.bpf_classic.specs.declared.refusal.Kind.{Kind}
 use Rattle.bpf_classic.specs.declared.refusal.Kind.TheVariants.{Packets, Seccomp as ForSeccomp}
-use Rattle.bpf_classic.specs.declared.refusal.Refusal.{Refusal}
 use Rattle.bpf_classic.specs.declared.refusal.Refusal.TheVariants as refusals
 use Rattle.bpf_convert.specs.Meaning.{KeepsAnswers}
 use Rattle.bpf_convert.specs.declared.layout.Form.{Form}
