@@ -91,7 +91,7 @@ fn is_for(certificate: &Certificate, length: u32) -> bool
 
 /// The hardened program with the certificate that hardening ended with, if it is shown to keep the meaning.
 fn made_of(alloc: Global, program: &Program, asked: Hardening<'_>) -> Result<Made, Unhardened>
-    requires { asked.entry.length ≤ max_context }
+    requires { asked.length ≤ max_context }
     ensures ok { IfOk result (IsMade program.now asked.entry) }
     ensures err { IfErr result (IsUnhardened program.now asked.entry) }
 {
@@ -135,7 +135,7 @@ fn known_of<H: Watch>(
     asked: Hardening<'_>,
     watch: &mut H,
 ) -> Option<Certificate>
-    requires { asked.entry.length ≤ max_context }
+    requires { asked.length ≤ max_context }
 {
     let least = if asked.padded { 0 } else { asked.length };
     let head = if asked.padded { HEAD_BYTES } else { 0 };
@@ -232,7 +232,7 @@ pub fn explain_hardening<W: Write, H: Watch>(
     watch: &mut H,
     out: &mut W,
 ) -> io::Result<Result<(Made, Option<Refusal>), Unhardened>>
-    requires { asked.entry.length ≤ max_context }
+    requires { asked.length ≤ max_context }
     ensures made { IfOk result (λ told. IfOk told (λ m. IsMade program.now asked.entry m.0)) }
     ensures accepted { IfOk result (λ told. IfOk told (λ m. IfNone m.1 (IsCertifiedBy m.0.program m.0.certificate))) }
     ensures refused { IfOk result (λ told. IfOk told (λ m. IfSome m.1 (λ r. IsLeastFlaw m.0.program m.0.certificate (refusal_slot r) (refusal_number r)))) }

@@ -117,8 +117,8 @@ fn aspect_of(slot: Option<u32>, dot: bool) -> Option<Aspect>
 
 /// What a search is to find, by the other words that are given.
 fn sought_of<'a>(told: Told<'a>, least: u32) -> Subject<'a>
-    requires infer { told.entry.infer ≡ Some least }
-    requires alone { told.entry.harden ≡ None }
+    requires infer { told.infer ≡ Some least }
+    requires alone { told.harden ≡ None }
     ensures { GivesSubject told.entry result }
 {
     let aspect = aspect_of(told.slot, told.dot);
@@ -138,10 +138,10 @@ fn sought_of<'a>(told: Told<'a>, least: u32) -> Subject<'a>
 
 /// What hardening is to make, by the words beside those of a search.
 fn made_of<'a>(told: Told<'a>, length: u32) -> Subject<'a>
-    requires harden { told.entry.harden ≡ Some length }
-    requires unsought { told.entry.infer ≡ None }
-    requires unbounded { told.entry.most ≡ None }
-    requires plain { told.entry.deep ≡ false }
+    requires harden { told.harden ≡ Some length }
+    requires unsought { told.infer ≡ None }
+    requires unbounded { told.most ≡ None }
+    requires plain { told.deep ≡ false }
     ensures { GivesSubject told.entry result }
 {
     match (told.text, told.certificate, aspect_of(told.slot, told.dot)) {
@@ -158,8 +158,8 @@ fn made_of<'a>(told: Told<'a>, length: u32) -> Subject<'a>
 
 /// What hardening is to make, by the other words that are given.
 fn hardened_of<'a>(told: Told<'a>, length: u32) -> Subject<'a>
-    requires harden { told.entry.harden ≡ Some length }
-    requires unsought { told.entry.infer ≡ None }
+    requires harden { told.harden ≡ Some length }
+    requires unsought { told.infer ≡ None }
     ensures { GivesSubject told.entry result }
 {
     match (told.most, told.deep) {
@@ -171,8 +171,8 @@ fn hardened_of<'a>(told: Told<'a>, length: u32) -> Subject<'a>
 
 /// Which graph is wanted, by the other words that are given.
 fn graph_of<'a>(told: Told<'a>) -> Subject<'a>
-    requires alone { IsAlone told.entry }
-    requires dot { told.entry.dot ≡ true }
+    requires alone { IsAlone told }
+    requires dot { told.dot ≡ true }
     ensures { GivesSubject told.entry result }
 {
     match (told.text, told.certificate, told.slot) {
@@ -185,8 +185,8 @@ fn graph_of<'a>(told: Told<'a>) -> Subject<'a>
 
 /// What is to be explained in words without a search, by the words that are given.
 fn told_of<'a>(told: Told<'a>) -> Subject<'a>
-    requires alone { IsAlone told.entry }
-    requires words { told.entry.dot ≡ false }
+    requires alone { IsAlone told }
+    requires words { told.dot ≡ false }
     ensures { GivesSubject told.entry result }
 {
     match (told.text, told.certificate, told.slot) {
@@ -202,8 +202,8 @@ fn told_of<'a>(told: Told<'a>) -> Subject<'a>
 
 /// What is to be explained without a search or a hardening.
 fn plain_of<'a>(told: Told<'a>) -> Subject<'a>
-    requires unsought { told.entry.infer ≡ None }
-    requires unhardened { told.entry.harden ≡ None }
+    requires unsought { told.infer ≡ None }
+    requires unhardened { told.harden ≡ None }
     ensures { GivesSubject told.entry result }
 {
     match (told.most, told.deep, told.padded, told.dot) {
