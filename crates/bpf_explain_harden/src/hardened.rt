@@ -14,7 +14,7 @@ use bpf_cert::Certificate;
 use bpf_check::Refusal;
 use bpf_explain_page::{Page, Tell};
 use bpf_explain_program::{
-    Shown, refusal_of, source_at, tell_shown, tell_sketch, tell_sketched_dot,
+    Shown, refusal_of, source_at, tell_reason, tell_shown, tell_sketch, tell_sketched_dot,
 };
 use bpf_follows_law::{Bounds, matching_keeps_meaning};
 use bpf_harden::{HardenError, Hardened, Options, harden};
@@ -150,17 +150,29 @@ fn known_of<H: Watch>(
 fn tell_why<W: Tell>(out: &mut W, why: Unhardened, lines: &[u8]) {
     write!(out, "{why}\n");
     match why {
-        Unhardened::Refused(error) => write!(out, "{error}\n"),
+        Unhardened::Refused(error) => write!(out, "{error}"),
         Unhardened::Unshown(mismatch) => {
             let sentence = Unshown(mismatch);
-            write!(out, "{sentence}\n");
+            write!(out, "{sentence}");
         }
     }
     if let Some(slot) = why.slot() {
         let text = source_at(lines, slot);
         if !text.is_empty() {
-            write!(out, "slot {slot} is from {text}\n");
+            write!(out, "; from {text}");
         }
+    }
+    write!(out, "\n");
+}
+
+/// The flaw that the checker would name, where the refusal says so.
+fn flaw_of(why: Unhardened) -> Option<Refusal> {
+    match why {
+        Unhardened::Refused(HardenError::Fault { slot, condition }) => Some(Refusal {
+            slot,
+            condition: condition.of_checker(),
+        }),
+        _ => None,
     }
 }
 
@@ -174,7 +186,7 @@ fn tell_unhardened<W: Tell>(
     why: Unhardened,
 ) {
     let (at, lines) = match shown {
-        Shown::Graph => return tell_sketched_dot(program, known, None, why, out),
+        Shown::Graph => return tell_sketched_dot(program, known, flaw_of(why), why, out),
         Shown::Listing { lines } => (why.slot(), lines),
         Shown::Slot { slot, lines } => (Some(slot), lines),
     };
@@ -182,6 +194,9 @@ fn tell_unhardened<W: Tell>(
         tell_sketch(program, known, Shown::Slot { slot, lines }, None, out);
     }
     tell_why(out, why, lines);
+    if let (Some(known), Some(flaw)) = (known, flaw_of(why)) {
+        tell_reason(program, known, lines, flaw, out);
+    }
 }
 
 /// The same with the lines of the source of the hardened program.
