@@ -19,7 +19,7 @@ use bpf_explain_program::{
 use bpf_follows_law::{Bounds, matching_keeps_meaning};
 use bpf_harden::{HardenError, Hardened, Options, harden};
 use bpf_harden_follows::evidence_of;
-use bpf_infer::{Watch, search_or_stop};
+use bpf_infer::{Stop, Watch, search_or_stop};
 use bpf_insn::{Code, Program};
 use bpf_packets::HEAD_BYTES;
 use std::alloc::Global;
@@ -61,7 +61,7 @@ fn runs_of(asked: Hardening<'_>, untouched: u32) -> Bounds
 }
 
 /// How many bytes have to be left to r10 so that the hardened program is shown to keep the meaning.
-fn shown(
+fn left_for(
     alloc: Global,
     program: &Program,
     hardened: &Hardened,
@@ -106,7 +106,7 @@ fn made_of(alloc: Global, program: &Program, asked: Hardening<'_>) -> Result<Mad
         Ok(hardened) => hardened,
         Err(error) => return Err(Unhardened::Refused(error)),
     };
-    let untouched = match shown(alloc, program, &hardened, asked) {
+    let untouched = match left_for(alloc, program, &hardened, asked) {
         Ok(untouched) => untouched,
         Err(why) => return Err(why),
     };
@@ -117,18 +117,33 @@ fn made_of(alloc: Global, program: &Program, asked: Hardening<'_>) -> Result<Mad
         functions: _functions,
         notes: _notes,
     } = hardened;
-    match certificate {
-        Some(certificate) if is_for(&certificate, asked.length) => Ok(Made {
-            program: new,
-            certificate,
-            untouched,
-            slots,
-        }),
-        _ => Err(Unhardened::Refused(HardenError::NoBudget { slot: 0 })),
+    let Some(certificate) = certificate else {
+        return Err(Unhardened::Refused(HardenError::NoBudget { slot: 0 }));
+    };
+    if !is_for(&certificate, asked.length) {
+        return Err(Unhardened::Refused(HardenError::NoBudget { slot: 0 }));
+    }
+    Ok(Made {
+        program: new,
+        certificate,
+        untouched,
+        slots,
+    })
+}
+
+/// The lengths of the contexts of the old program: of blocks it is given the packets.
+fn lengths_of(asked: Hardening<'_>) -> (u32, u32)
+    ensures order { result.0 ≤ result.1 }
+    ensures short { result.1 ≤ asked.entry.length }
+{
+    if asked.padded {
+        (0, asked.length.saturating_sub(HEAD_BYTES))
+    } else {
+        (asked.length, asked.length)
     }
 }
 
-/// What the deep search knows of a program that isn't hardened: of blocks it is given the packets.
+/// What the deep search knows of a program that isn't hardened.
 fn known_of<H: Watch>(
     alloc: Global,
     program: &Program,
@@ -137,12 +152,16 @@ fn known_of<H: Watch>(
 ) -> Option<Certificate>
     requires { asked.length ≤ max_context }
 {
-    let least = if asked.padded { 0 } else { asked.length };
-    let head = if asked.padded { HEAD_BYTES } else { 0 };
-    let most = asked.length.saturating_sub(head);
+    let (least, most) = lengths_of(asked);
     match search_or_stop(alloc, program, least, most, watch) {
         Ok(certificate) => Some(certificate),
-        Err(stop) => stop.sketch.certificate,
+        Err(stop) => {
+            let Stop {
+                error: _error,
+                sketch,
+            } = stop;
+            sketch.certificate
+        }
     }
 }
 
