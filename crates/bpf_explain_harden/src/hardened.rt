@@ -19,7 +19,7 @@ use bpf_explain_program::{
 use bpf_follows_law::{Bounds, matching_keeps_meaning};
 use bpf_harden::{HardenError, Hardened, Options, harden};
 use bpf_harden_follows::evidence_of;
-use bpf_infer::{Stop, Watch, search_or_stop};
+use bpf_infer::{InferError, Stop, Watch, search_or_stop};
 use bpf_insn::{Code, Program};
 use bpf_packets::HEAD_BYTES;
 use std::alloc::Global;
@@ -44,8 +44,16 @@ pub struct Made {
     pub certificate: Certificate,
     /// How many of the lowest bytes of each frame runs of the old program have to leave to r10.
     pub untouched: u32,
-    /// Where each instruction of the old program went, by its slot.
-    slots: Vec<Option<u32>>,
+    /// The table of the lines of its source.
+    lines: String,
+}
+
+/// The table of source lines that is shown.
+fn lines_of<'t>(shown: Shown<'t>) -> &'t [u8] {
+    match shown {
+        Shown::Listing { lines } | Shown::Slot { lines, .. } => lines,
+        Shown::Graph => &[],
+    }
 }
 
 /// The runs for which it is hardened.
@@ -123,11 +131,14 @@ fn made_of(alloc: Global, program: &Program, asked: Hardening<'_>) -> Result<Mad
     if !is_for(&certificate, asked.length) {
         return Err(Unhardened::Refused(HardenError::NoBudget { slot: 0 }));
     }
+    let Ok(lines) = moved_lines(alloc, lines_of(asked.shown), &slots) else {
+        return Err(Unhardened::Refused(HardenError::Memory));
+    };
     Ok(Made {
         program: new,
         certificate,
         untouched,
-        slots,
+        lines,
     })
 }
 
@@ -143,24 +154,28 @@ fn lengths_of(asked: Hardening<'_>) -> (u32, u32)
     }
 }
 
-/// What the deep search knows of a program that isn't hardened.
+/// What the deep search knows of a program that isn't hardened, and why it isn't: for want of memory, where that runs out meanwhile.
 fn known_of<H: Watch>(
     alloc: Global,
     program: &Program,
     asked: Hardening<'_>,
+    why: Unhardened,
     watch: &mut H,
-) -> Option<Certificate>
-    requires { asked.length ≤ max_context }
+) -> (Option<Certificate>, Unhardened)
+    requires short { asked.length ≤ max_context }
+    requires is { IsUnhardened program.now asked why }
+    ensures { IsUnhardened program.now asked.entry result.1 }
 {
+    let _slots = Code::slots(program);
     let (least, most) = lengths_of(asked);
     match search_or_stop(alloc, program, least, most, watch) {
-        Ok(certificate) => Some(certificate),
+        Ok(certificate) => (Some(certificate), why),
         Err(stop) => {
-            let Stop {
-                error: _error,
-                sketch,
-            } = stop;
-            sketch.certificate
+            let Stop { error, sketch } = stop;
+            match error {
+                InferError::Memory => (None, Unhardened::Refused(HardenError::Memory)),
+                _ => (sketch.certificate, why),
+            }
         }
     }
 }
@@ -227,26 +242,12 @@ fn shown_with<'t>(shown: Shown<'_>, lines: &'t [u8]) -> Shown<'t> {
     }
 }
 
-/// The table of source lines that is shown.
-fn lines_of<'t>(shown: Shown<'t>) -> &'t [u8] {
-    match shown {
-        Shown::Listing { lines } | Shown::Slot { lines, .. } => lines,
-        Shown::Graph => &[],
-    }
-}
-
 /// Explains a hardened program, and gives the checker's answer.
-fn explain_made<W: Write>(
-    alloc: Global,
-    out: &mut W,
-    made: &Made,
-    shown: Shown<'_>,
-) -> io::Result<Option<Refusal>>
+fn explain_made<W: Write>(out: &mut W, made: &Made, shown: Shown<'_>) -> io::Result<Option<Refusal>>
     ensures accepted { IfOk result (λ o. IfNone o (IsCertifiedBy made.now.program made.now.certificate)) }
     ensures refused { IfOk result (λ o. IfSome o (λ r. IsLeastFlaw made.now.program made.now.certificate (refusal_slot r) (refusal_number r))) }
 {
-    let lines = moved_lines(alloc, lines_of(shown), &made.slots)?;
-    let shown = shown_with(shown, lines.as_str().as_bytes());
+    let shown = shown_with(shown, made.lines.as_str().as_bytes());
     let refusal = refusal_of(&made.program, &made.certificate);
     let mut page = Page::new(out);
     tell_shown(&made.program, &made.certificate, shown, refusal, &mut page);
@@ -256,9 +257,8 @@ fn explain_made<W: Write>(
 
 /// Shows a hardened program with the certificate that hardening ended with, and the checker's answer, with the lines of the old program's source;
 /// where none comes out, the instruction for which it doesn't, with what the deep search knows there, and in words why (H1 to H13), of a graph by number
-/// alone. A slot that is asked for is one of what is shown. The program with the checker's answer, None if its certificate certifies it, or the
-/// refusal, is given back. A fault of the writer, a write of no bytes, or want of memory for the lines ends it. Who watches is told how far the
-/// deep search is.
+/// alone; H12 is all that is told where memory runs out meanwhile. A slot that is asked for is one of what is shown. The program with the checker's answer, None if its certificate certifies it, or the
+/// refusal, is given back. A fault of the writer, or a write of no bytes, ends it. Who watches is told how far the deep search is.
 pub fn explain_hardening<W: Write, H: Watch>(
     alloc: Global,
     program: &Program,
@@ -274,11 +274,11 @@ pub fn explain_hardening<W: Write, H: Watch>(
 {
     match made_of(alloc, program, asked) {
         Ok(made) => {
-            let refusal = explain_made(alloc, out, &made, asked.shown)?;
+            let refusal = explain_made(out, &made, asked.shown)?;
             Ok(Ok((made, refusal)))
         }
         Err(why) => {
-            let known = known_of(alloc, program, asked, watch);
+            let (known, why) = known_of(alloc, program, asked, why, watch);
             let mut page = Page::new(out);
             tell_unhardened(&mut page, program, known.as_ref(), asked.shown, why);
             page.finish()?;
