@@ -6,6 +6,7 @@ ghost use Rattle.bpf_host_advice.specs.Texts.{refusal_text, answer_text, hardeni
 use bpf_cert::CertError;
 use bpf_follows_notes::mismatch_text;
 use bpf_harden_notes::HardenError;
+use bpf_host_convert::conversion_text;
 use bpf_infer::InferError;
 use bpf_insn::DecodeError;
 use bpf_semantics::Reason;
@@ -45,6 +46,7 @@ fn sentence(kind: u32, number: u32) -> Option<&'static str>
     ensures words { MatchOption result (refusal_text kind number ≡ []) (λ text. text.now ≡ refusal_text kind number) }
 {
     match kind {
+        66 => conversion_text(number),
         67 => Condition::text_numbered(number),
         69 => DecodeError::text_numbered(number),
         70 => Reason::text_numbered(number),
@@ -76,7 +78,7 @@ pub(crate) fn answer_words(answer: i32) -> &'static [u8]
     let text = match answer {
         -1 => "out of memory",
         -2 =>
-            "a number is none that the call takes: the order, a length, a switch of 0 or 1, or the aspect; or the source lines are no table",
+            "a number is none that the call takes: the order, a length, the form, a switch of 0 or 1, or the aspect; or the source lines are no table",
         -3 => "the memory for the answer is too small",
         -4 => "a run may take more instructions than are paid for",
         -5 => "the context has a length for which the image isn't run",

@@ -3,21 +3,22 @@
 ghost use Rattle.std.specs.Prelude.{◌≡◌, IfOk, IfErr, map, option_map, true};
 ghost use Rattle.std.specs.String.{string_bytes};
 ghost use Rattle.clap.specs.Words.{FailsBy, first_of, found_of, kind_of, one_of, rows_of, subcommand_of, takes};
-ghost use Rattle.bpf_request.specs.CommandLine.{AreContexts, Asks, GivenBy, IsAsked, IsCertifying, IsCount, IsFlag, IsFollowing, IsHardening, IsNumber, IsOrder, IsSubject, bpf, faults_in, word_of};
+ghost use Rattle.bpf_request.specs.CommandLine.{AreContexts, Asks, GivenBy, IsAsked, IsCertifying, IsConverting, IsCount, IsFlag, IsFollowing, IsHardening, IsNumber, IsOrder, IsSubject, bpf, faults_in, word_of};
 ghost use Rattle.clap.specs.declared.error.ErrorKind.TheVariants.{OutOfMemory};
 
 use crate::certifying::Certifying;
 use crate::contexts::Contexts;
+use crate::converting::Converting;
 use crate::following::Following;
 use crate::hardening::Hardening;
-use crate::subject::{Subject, subject_of};
+use crate::subject::{Subject, Told, subject_of};
 use bpf_insn::Order;
 use bpf_words::command;
 use clap::{ArgMatches, Error};
 use std::alloc::Global;
 
 /// How often a loop that gets a counter may turn in one call of its function, where nothing is said.
-const USUAL_TURNS: u32 = 65_536;
+pub const USUAL_TURNS: u32 = 65_536;
 
 /// What a command line asks for. Images are of the byte order.
 #[derive(Clone, Copy)]
@@ -76,6 +77,8 @@ pub enum Request<'a> {
     Harden(Hardening<'a>),
     /// An image with its certificate, hardened where it needs to be.
     Certify(Certifying<'a>),
+    /// An image of a filter of classic BPF, with its certificate.
+    Convert(Converting<'a>),
     /// Whether notes show that one program keeps the meaning of another.
     Follows(Following<'a>),
     /// What the checker or the inferrer sees of a program, or why an input is refused, in words, with the lines of its source at a
@@ -174,14 +177,17 @@ fn contexts_of<'a>(matches: &ArgMatches<'a>) -> Contexts<'a>
 fn subject_in<'a>(matches: &ArgMatches<'a>) -> Subject<'a>
     ensures { IsSubject (rows_of (found_of matches.now)) result }
 {
-    let certificate = matches.get_str("CERT");
-    let least = number_if(matches, "infer");
-    let most = number_if(matches, "most");
-    let slot = number_if(matches, "slot");
-    let text = has_flag(matches, "text");
-    let dot = has_flag(matches, "dot");
-    let deep = has_flag(matches, "deep");
-    subject_of(certificate, least, most, slot, text, dot, deep)
+    subject_of(Told {
+        certificate: word_if(matches, "CERT"),
+        infer: number_if(matches, "infer"),
+        most: number_if(matches, "most"),
+        deep: has_flag(matches, "deep"),
+        harden: number_if(matches, "harden"),
+        padded: has_flag(matches, "padded"),
+        slot: number_if(matches, "slot"),
+        text: has_flag(matches, "text"),
+        dot: has_flag(matches, "dot"),
+    })
 }
 
 /// What is to be hardened.
@@ -220,6 +226,22 @@ fn certifying_in<'a>(matches: &ArgMatches<'a>) -> Certifying<'a>
         notes: word_if(matches, "notes"),
         changes: word_if(matches, "changes"),
         lines: word_if(matches, "lines"),
+        order: order_of(matches),
+    }
+}
+
+/// What is to be converted.
+fn converting_in<'a>(matches: &ArgMatches<'a>) -> Converting<'a>
+    ensures { IsConverting (rows_of (found_of matches.now)) result }
+{
+    Converting {
+        input: word(matches, "IN"),
+        length: number(matches, "LEN", 0),
+        output: word(matches, "OUT"),
+        certificate: word(matches, "CERT"),
+        plain: has_flag(matches, "plain"),
+        seccomp: has_flag(matches, "seccomp"),
+        raw: has_flag(matches, "raw"),
         order: order_of(matches),
     }
 }
@@ -290,6 +312,7 @@ fn request_in<'a>(name: &str, matches: &ArgMatches<'a>) -> Request<'a>
         }
         "harden" => Request::Harden(hardening_in(matches)),
         "certify" => Request::Certify(certifying_in(matches)),
+        "convert" => Request::Convert(converting_in(matches)),
         "follows" => Request::Follows(following_in(matches)),
         "explain" => Request::Explain {
             input,

@@ -126,6 +126,13 @@ certify =
     with_rule (with_rule (with_rule (with_rule (with_rule (with_rule (with_rule (with_rule (with_rule certify_places bound) turns) otherwise) (flag (codes "padded")))
     (flag (codes "unproved"))) (option (codes "notes"))) (option (codes "changes"))) (option (codes "lines"))) big
 
+abbrev pub convert_places : App
+convert_places =
+    with_rule (with_rule (with_rule (with_rule (new_app (codes "convert")) (place (codes "IN"))) context_length) (place (codes "OUT"))) (place (codes "CERT"))
+
+abbrev pub convert : App
+convert = with_rule (with_rule (with_rule (with_rule convert_places (flag (codes "plain"))) (flag (codes "seccomp"))) (flag (codes "raw"))) big
+
 abbrev pub follows_places : App
 follows_places = with_rule (with_rule (with_rule (with_rule (new_app (codes "follows")) (place (codes "OLD"))) (place (codes "NEW"))) (place (codes "NOTES"))) context_length
 
@@ -139,6 +146,10 @@ migrate = with_rule (with_rule (new_app (codes "migrate")) (place (codes "CERT")
 abbrev pub inferred : Rule
 inferred = number (codes "infer") (pos 0) (pos max_context)
 
+-- the option `--harden`, with such a number
+abbrev pub hardened : Rule
+hardened = number (codes "harden") (pos 0) (pos max_context)
+
 -- the option `--slot`, with a number up to the greatest slot
 abbrev pub one_slot : Rule
 one_slot = number (codes "slot") (pos 0) (pos greatest_slot)
@@ -147,12 +158,14 @@ abbrev pub explain_places : App
 explain_places = with_rule (with_rule (new_app (codes "explain")) (place (codes "IN"))) (new_rule (codes "CERT"))
 
 abbrev pub explain : App
-explain = with_rule (with_rule (with_rule (with_rule (with_rule (with_rule (with_rule (with_rule explain_places one_slot) inferred) most) (flag (codes "deep"))) (flag (codes "text"))) (flag (codes "dot"))) (option (codes "lines"))) big
+explain =
+    with_rule (with_rule (with_rule (with_rule (with_rule (with_rule (with_rule (with_rule (with_rule (with_rule explain_places one_slot) inferred) most)
+    (flag (codes "deep"))) hardened) (flag (codes "padded"))) (flag (codes "text"))) (flag (codes "dot"))) (option (codes "lines"))) big
 
 -- `bpf` with the commands that judge, run and propose
 abbrev pub with_proposals : App
 with_proposals = with_subcommand (with_subcommand (with_subcommand (with_subcommand without_certificates check.top) run_checked.top) infer.top) harden.top
 
--- `bpf` with all twelve
+-- `bpf` with all thirteen
 abbrev pub bpf : App
-bpf = with_subcommand (with_subcommand (with_subcommand (with_subcommand with_proposals certify.top) follows.top) migrate.top) explain.top
+bpf = with_subcommand (with_subcommand (with_subcommand (with_subcommand (with_subcommand with_proposals certify.top) convert.top) follows.top) migrate.top) explain.top
