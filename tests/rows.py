@@ -119,7 +119,7 @@ def context_of(room, words):
         with open(f"{room}/{words[words.index('--context') + 1]}", "rb") as it:
             return it.read()
     spelled = words[-1]
-    return None if "--contexts" in words else b"" if spelled == "none" else bytes.fromhex(spelled)
+    return None if "--contexts" in words or "--packets" in words else b"" if spelled == "none" else bytes.fromhex(spelled)
 
 
 def plain_runs(_, room, words, said):

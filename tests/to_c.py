@@ -3,21 +3,28 @@
 -fsanitize=undefined,address, and at -O3 alone with -Wall -Wextra -pedantic -Werror:
 
 - each form of an instruction, in both byte orders, on numbers at the edges; loads and stores of each size, atomic operations, jumps, calls;
-- the certified images of examples and of examples/c, and programs cut into several parts;
+- the checked runs of tests/rows that end, with the answers that the rows say;
+- the certified images of examples and of examples/c, programs of tests/natural where a compiler for BPF is there, programs cut into several parts;
 - COUNT random programs (40, or as many as are asked for), with branches, loops over a counter, frames and calls;
-- a length that the certificate leaves out is answered by 0, and NAME_takes tells it.
+- a length that the certificate leaves out is answered by 0, and NAME_takes tells it;
+- names that C can and can't have.
 
-What is wanted are the answers of `bpf run`, which is proved to be the machine of MACHINE.md. Many programs go into one file of C, so that this
+What is wanted else are the answers of `bpf run`, which is proved to be the machine of MACHINE.md. Many programs go into one file of C, so that this
 takes few runs of a compiler, and shows that their texts can stand together."""
 
+import dataclasses
 import os
 import random
+import re
 import shutil
 import subprocess
 import sys
 import tempfile
 from concurrent.futures import ThreadPoolExecutor
 from pathlib import Path
+
+import natural
+import rows
 
 ROOT = Path(__file__).resolve().parent.parent
 STEPS = "1000000"
@@ -135,22 +142,39 @@ class Runner:
         return self.folder / f"{self.count}.{ending}"
 
 
-def case_of(runner, number, text, flags, contexts, length):
-    """A program as C, with what `bpf run` answers on contexts; None where there is no certificate."""
+@dataclasses.dataclass(frozen=True)
+class Asked:
+    """A program as text or image, its flags, and contexts; the certificate, else one is sought for contexts of so many bytes; and the answers that are
+    wanted, else those of `run`."""
+
+    program: str | bytes
+    flags: list
+    contexts: list
+    length: int = 0
+    certificate: bytes | None = None
+    answers: list | None = None
+
+
+def case_of(runner, number, asked):
+    """A program as C, with the answers that are wanted on contexts; None where there is no certificate."""
     name = f"f{number}"
     source, image, cert, out = (runner.folder / f"{name}.{e}" for e in ("s", "img", "cert", "c"))
-    if isinstance(text, bytes):
-        image.write_bytes(text)
+    if isinstance(asked.program, bytes):
+        image.write_bytes(asked.program)
     else:
-        source.write_text(text)
-        runner.done("asm", source, image, *flags)
-    if runner.run("infer", image, length, cert, "--deep", *flags).returncode != 0:
+        source.write_text(asked.program)
+        runner.done("asm", source, image, *asked.flags)
+    if asked.certificate is not None:
+        cert.write_bytes(asked.certificate)
+    elif runner.run("infer", image, asked.length, cert, "--deep", *asked.flags).returncode != 0:
         return None
-    runner.done("to-c", image, cert, out, "--name", name, *flags)
+    runner.done("to-c", image, cert, out, "--name", name, *asked.flags)
+    if asked.answers is not None:
+        return name, asked.contexts, asked.answers
     given = runner.folder / f"{name}.contexts"
-    given.write_text("".join((c.hex() or "none") + "\n" for c in contexts))
-    answers = [line.split()[1] for line in runner.done("run", image, "--contexts", given, "--steps", STEPS, *flags).splitlines()]
-    return name, contexts, answers
+    given.write_text("".join((c.hex() or "none") + "\n" for c in asked.contexts))
+    said = runner.done("run", image, "--contexts", given, "--steps", STEPS, *asked.flags)
+    return name, asked.contexts, [line.split()[1] for line in said.splitlines()]
 
 
 def program_of(folder, cases):
@@ -193,22 +217,81 @@ def tried(runner, compilers, number, cases):
     return [f"{fault} (in {source})" for fault in faults if fault]
 
 
-def asked_for(rng, count):
-    """Programs with flags, contexts and the length of these."""
+def in_rows(bpf):
+    """The checked runs of tests/rows that end, with the answers that the rows say."""
+    for case in (case for path in sorted(ROOT.glob("tests/rows/*.rows")) for case in rows.cases_of(path)):
+        steps = [step for step in case.steps if len(step) == 4]
+        if not any(step[0][0] == "run-checked" and step[3].startswith("done ") for step in steps):
+            continue
+        with tempfile.TemporaryDirectory(prefix="bpf-to-c-") as room:
+            for name, data in case.files.items():
+                (Path(room) / name).write_bytes(data)
+            for words, given, _, said in steps:
+                rows.images_made(bpf, room, words, case.files)
+                rows.call(bpf, room, words, case.files[given] if given else b"")
+                yield from run_in(Path(room), words, said)
+
+
+def run_in(room, words, said):
+    """What a row asks for, where it is a checked run, not over a capture, and each of its contexts is answered by a number."""
+    answers = [line.removeprefix("done ") for line in said.splitlines()]
+    if words[0] != "run-checked" or "-" in words or "--packets" in words or not all(it.isdigit() for it in answers):
+        return
+    if "--contexts" in words:
+        lines = (room / words[words.index("--contexts") + 1]).read_text().splitlines()
+        contexts = [b"" if line in ("", "none") else bytes.fromhex(line) for line in lines]
+    else:
+        contexts = [rows.context_of(room, words)]
+    image, cert = (room / it for it in [it for it in words[1:] if it != "--big"][:2])
+    # What a row says otherwise than is so, rows.py tells.
+    if len(contexts) == len(answers) and image.exists() and cert.exists():
+        flags = ["--big"] if "--big" in words else []
+        yield Asked(image.read_bytes(), flags, contexts, certificate=cert.read_bytes(), answers=answers)
+
+
+def natural_programs():
+    """The programs of tests/natural that the compiler which is there makes images of, hardened."""
+    with tempfile.TemporaryDirectory(prefix="bpf-to-c-") as name:
+        for source in sorted(natural.SOURCES.glob("*.c")):
+            size, image = int(re.search(r"context (\d+)", source.read_text())[1]), Path(name) / source.stem
+            if natural.ran(ROOT / "examples/c/bpf-cc", source, image, "-w").returncode != 0:
+                continue
+            got = natural.certified(image, size, Path(name))
+            if got is not None:
+                contexts = [bytes.fromhex(line) for line in natural.contexts(source.stem, size)]
+                yield Asked(got[0].read_bytes(), [], contexts, certificate=got[1].read_bytes())
+
+
+def asked_for(bpf, rng, count):
+    """The programs that are tried."""
     pairs = [(a, b) for a in EDGES for b in EDGES]
     for flags in ([], ["--big"]):
         order = "big" if flags else "little"
         for text in forms():
             some = pairs if "7\n" in text else [(a, a) for a in EDGES]
-            yield text, flags, [a.to_bytes(8, order) + b.to_bytes(8, order) for a, b in rng.sample(some, min(len(some), 60))], LENGTH
+            yield Asked(text, flags, [a.to_bytes(8, order) + b.to_bytes(8, order) for a, b in rng.sample(some, min(len(some), 60))], LENGTH)
         for text in long_programs():
-            yield text, flags, [rng.randbytes(LENGTH) for _ in range(20)], LENGTH
+            yield Asked(text, flags, [rng.randbytes(LENGTH) for _ in range(20)], LENGTH)
     for number in range(count):
-        flags = [["--big"], []][number % 2]
-        yield random_program(rng), flags, [rng.randbytes(LENGTH) for _ in range(8)], LENGTH
+        yield Asked(random_program(rng), [["--big"], []][number % 2], [rng.randbytes(LENGTH) for _ in range(8)], LENGTH)
     for image in sorted(ROOT.glob("examples/*.img")) + sorted(ROOT.glob("examples/c/*.img")):
         for length in (64, 128):
-            yield image.read_bytes(), [], [rng.randbytes(length) for _ in range(20)] + [bytes(length)], length
+            yield Asked(image.read_bytes(), [], [rng.randbytes(length) for _ in range(20)] + [bytes(length)], length)
+    yield from in_rows(bpf)
+    yield from natural_programs()
+
+
+NAMES = {"f": 0, "Port_80": 0, "a" * 25: 0, "a" * 26: 2, "": 2, "_f": 2, "8f": 2, "f-g": 2, "while": 2, "main": 2, "typeof": 2}
+
+
+def names_judged(runner):
+    """What is wrong with the names that are taken and refused; a refused one leaves OUT as it was."""
+    image, cert, out = ROOT / "examples/countdown.img", ROOT / "examples/countdown.cert", runner.folder / "named.c"
+    for name, status in NAMES.items():
+        out.write_text("old")
+        ended = runner.run("to-c", image, cert, out, "--name", name).returncode
+        if ended != status or (out.read_text() == "old") != (status != 0):
+            yield f"--name '{name}' has status {ended}, not {status}, or OUT isn't as it is to be"
 
 
 def main():
@@ -221,10 +304,11 @@ def main():
         return 0
     with tempfile.TemporaryDirectory() as folder, ThreadPoolExecutor(os.cpu_count()) as pool:
         runner = Runner(bpf, Path(folder))
-        made = list(pool.map(lambda x: case_of(runner, x[0], *x[1]), enumerate(asked_for(random.Random(seed), count))))
+        made = list(pool.map(lambda x: case_of(runner, *x), enumerate(asked_for(bpf, random.Random(seed), count))))
         cases = [case for case in made if case]
         batches = [cases[i:i + BATCH] for i in range(0, len(cases), BATCH)]
         faults = [fault for found in pool.map(lambda b: tried(runner, compilers, *b), enumerate(batches)) for fault in found]
+        faults += names_judged(runner)
     for fault in faults:
         print(fault, file=sys.stderr)
     print(f"to-c: {len(cases)} programs of {len(made)} are certified, {sum(len(c[1]) for c in cases)} runs by {', '.join(compilers)}: {len(faults)} faults")

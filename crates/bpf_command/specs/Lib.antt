@@ -5,4 +5,5 @@ pub mod Names
 pub mod Explained
 pub mod Certified
 pub mod Conversion
+pub mod Emission
 pub mod Response

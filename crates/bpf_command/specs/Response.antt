@@ -15,10 +15,13 @@ use Rattle.bpf_command.specs.Hardened.{HardenFails, HardenSays, NotAllMade}
 use Rattle.bpf_answers.specs.Both.{Pairing}
 use Rattle.bpf_command.specs.Certified.{CertifyWithFails, CertifyWithSays, NotCertifiedWith}
 use Rattle.bpf_command.specs.Conversion.{IsConversionInTheWay, conversion_conflict}
+use Rattle.bpf_command.specs.Emission.{emission_conflict}
+use Rattle.bpf_command_c.specs.Emitted.{EmitFails, EmitSays, NotEmitted}
 use Rattle.bpf_command_convert.specs.Converted.{ConvertFails, ConvertSays, NotConverted}
 use Rattle.bpf_command_core.specs.Followed.{FollowsFails, FollowsSays}
 use Rattle.bpf_command_core.specs.Given.{CheckedFails, CheckedLeaves, CheckedSays, RunFails, RunLeaves, RunSays}
 use Rattle.bpf_command_core.specs.Names.{names_checked, names_run}
+use Rattle.bpf_command_core.specs.Replayed.{ReplayedFails, ReplayedLeaves, ReplayedSays, names_replayed}
 use Rattle.bpf_command.specs.Names.{behind_lines, names_explained}
 use Rattle.bpf_command.specs.Explained.{ExplainWithFails, ExplainWithSays}
 use Rattle.bpf_answers.specs.Told.{IsTold}
@@ -26,7 +29,7 @@ use Rattle.std.specs.Str.{bytes_eq}
 use Rattle.bpf_request.specs.declared.certifying.Certifying.{Certifying}
 use Rattle.bpf_request.specs.declared.hardening.Hardening.{Hardening}
 use Rattle.bpf_request.specs.declared.words.Request.{Request}
-use Rattle.bpf_request.specs.declared.words.Request.TheVariants.{Groups, Asm, List as ListOf, Run, Check, RunChecked, Infer, Harden, Certify, Convert, Follows, Migrate, Explain}
+use Rattle.bpf_request.specs.declared.words.Request.TheVariants.{Groups, Asm, List as ListOf, Run, Check, RunChecked, Replay, Infer, Harden, Certify, Convert, ToC, Follows, Migrate, Explain}
 use Rattle.bpf_request.specs.declared.subject.Aspect.{Aspect}
 use Rattle.bpf_request.specs.declared.subject.Aspect.TheVariants.{Listing, Slot as OneSlot, Graph as Drawn}
 use Rattle.bpf_request.specs.declared.subject.Subject.{Subject}
@@ -111,10 +114,12 @@ conflict_of (ListOf input slots bytes order) = None
 conflict_of (Run input contexts steps trace order) = twice input.now (name_of contexts)
 conflict_of (Check input certificate work order) = twice input.now certificate.now
 conflict_of (RunChecked input certificate contexts order) = thrice input.now certificate.now (name_of contexts)
+conflict_of (Replay r) = thrice r.input.now r.certificate.now (name_given r.packets)
 conflict_of (Infer input least most deep output order) = out_of_order least most
 conflict_of (Harden h) = written_twice h.output.now h.notes h.changes
 conflict_of (Certify c) = certify_conflict c
 conflict_of (Convert c) = conversion_conflict c
+conflict_of (ToC e) = emission_conflict e
 conflict_of (Follows f) = thrice f.original.now f.rewritten.now f.notes.now
 conflict_of (Migrate certificate output) = None
 conflict_of (Explain input subject lines order) = conflict_with input.now lines subject
@@ -170,11 +175,13 @@ Obstructs meets s (ListOf input slots bytes order) one = one ≡ false
 Obstructs meets s (Run input contexts steps trace order) one = one ≡ false
 Obstructs meets s (Check input certificate work order) one = one ≡ false
 Obstructs meets s (RunChecked input certificate contexts order) one = one ≡ false
+Obstructs meets s (Replay r) one = one ≡ false
 Obstructs meets s (Infer input least most deep output order) one = one ≡ false
 Obstructs meets s (Explain input subject lines order) one = one ≡ false
 Obstructs meets s (Harden h) one = IsInTheWay meets s h one
 Obstructs meets s (Certify c) one = IsAnyInTheWay meets s c one
 Obstructs meets s (Convert c) one = IsConversionInTheWay meets s c one
+Obstructs meets s (ToC e) one = one ≡ false
 Obstructs meets s (Follows f) one = one ≡ false
 Obstructs meets s (Migrate certificate output) one = one ≡ false
 
@@ -188,11 +195,13 @@ Does o m b old new before after (ListOf input slots bytes order) = Answered (Ima
 Does o m b old new before after (Run input contexts steps trace order) = λ status. RunSays o order old input.now contexts steps new before after status
 Does o m b old new before after (Check input certificate work order) = Answered (CheckSays o order old input.now certificate.now new work) before after
 Does o m b old new before after (RunChecked input certificate contexts order) = λ status. CheckedSays o order old input.now certificate.now contexts new before after status
+Does o m b old new before after (Replay r) = λ status. ReplayedSays o old r new before after status
 Does o m b old new before after (Infer input least most deep output order) = Answered (InferSays o m order old input.now least most output.now new) before after
 Does o m b old new before after (Explain input subject lines order) = ExplainWithSays o order old input.now subject lines new
 Does o m b old new before after (Harden h) = Answered (HardenSays o m old h new) before after
 Does o m b old new before after (Certify c) = Answered (CertifyWithSays o m b old c new) before after
 Does o m b old new before after (Convert c) = Answered (ConvertSays o b old c new) before after
+Does o m b old new before after (ToC e) = Answered (EmitSays o m old e new) before after
 Does o m b old new before after (Follows f) = Answered (FollowsSays o old f new) before after
 Does o m b old new before after (Migrate certificate output) = Answered (MigrateSays o m old certificate.now output.now new) before after
 
@@ -204,16 +213,18 @@ Misses o m b old new before after (ListOf input slots bytes order) = ImageFails 
 Misses o m b old new before after (Run input contexts steps trace order) = RunFails o order old input.now contexts steps new before after
 Misses o m b old new before after (Check input certificate work order) = LoadedFails o order old input.now certificate.now new
 Misses o m b old new before after (RunChecked input certificate contexts order) = CheckedFails o order old input.now certificate.now contexts new before after
+Misses o m b old new before after (Replay r) = ReplayedFails o old r new before after
 Misses o m b old new before after (Infer input least most deep output order) = InferFails o m order old input.now least most output.now new
 Misses o m b old new before after (Explain input subject lines order) = ExplainWithFails o order old input.now subject lines new
 Misses o m b old new before after (Harden h) = HardenFails o m old h new
 Misses o m b old new before after (Certify c) = CertifyWithFails o m b old c new
 Misses o m b old new before after (Convert c) = ConvertFails o b old c new
+Misses o m b old new before after (ToC e) = EmitFails o m old e new
 Misses o m b old new before after (Follows f) = FollowsFails o old f new
 Misses o m b old new before after (Migrate certificate output) = MigrateFails o m old certificate.now output.now new
 
 -- What stands on standard output where a request without a conflict failed: nothing new, or a beginning of its answer; behind the answers to
--- the lines before, where contexts are in lines. Of the words of `explain` nothing is said.
+-- the lines before, where contexts are in lines, and of packets a beginning of the answers to the first ones. Of the words of `explain` nothing is said.
 abbrev pub Leaves : {S : Type 0} → Opening S → Making S → Pairing S → S → S → Option (List ℕ) → Option (List ℕ) → Request → Type 0
 Leaves o m b old new before after (Groups input order) = Unfinished (ImageSays o order old input.now new GroupsSay) before after
 Leaves o m b old new before after (Asm input output order) = Unfinished (AsmSays o m order old input.now output.now new) before after
@@ -221,11 +232,13 @@ Leaves o m b old new before after (ListOf input slots bytes order) = Unfinished 
 Leaves o m b old new before after (Run input contexts steps trace order) = RunLeaves o order old input.now contexts steps new before after
 Leaves o m b old new before after (Check input certificate work order) = Unfinished (CheckSays o order old input.now certificate.now new work) before after
 Leaves o m b old new before after (RunChecked input certificate contexts order) = CheckedLeaves o order old input.now certificate.now contexts new before after
+Leaves o m b old new before after (Replay r) = ReplayedLeaves o old r new before after
 Leaves o m b old new before after (Infer input least most deep output order) = Unfinished (InferSays o m order old input.now least most output.now new) before after
 Leaves o m b old new before after (Explain input subject lines order) = ⊤
 Leaves o m b old new before after (Harden h) = Unfinished (HardenSays o m old h new) before after
 Leaves o m b old new before after (Certify c) = Unfinished (CertifyWithSays o m b old c new) before after
 Leaves o m b old new before after (Convert c) = Unfinished (ConvertSays o b old c new) before after
+Leaves o m b old new before after (ToC e) = Unfinished (EmitSays o m old e new) before after
 Leaves o m b old new before after (Follows f) = Unfinished (FollowsSays o old f new) before after
 Leaves o m b old new before after (Migrate certificate output) = Unfinished (MigrateSays o m old certificate.now output.now new) before after
 
@@ -237,11 +250,13 @@ NotMade o m b old new (ListOf input slots bytes order) = OpensFirst o (input.now
 NotMade o m b old new (Run input contexts steps trace order) = OpensFirst o (names_run input.now contexts) old new
 NotMade o m b old new (Check input certificate work order) = OpensFirst o (input.now ∷ certificate.now ∷ []) old new
 NotMade o m b old new (RunChecked input certificate contexts order) = OpensFirst o (names_checked input.now certificate.now contexts) old new
+NotMade o m b old new (Replay r) = OpensFirst o (names_replayed r) old new
 NotMade o m b old new (Infer input least most deep output order) = NotInferred o m order old input.now least most output.now new
 NotMade o m b old new (Explain input subject lines order) = OpensFirst o (behind_lines lines (names_explained input.now subject)) old new
 NotMade o m b old new (Harden h) = NotAllMade o m old h new
 NotMade o m b old new (Certify c) = NotCertifiedWith o m b old c new
 NotMade o m b old new (Convert c) = NotConverted o b old c new
+NotMade o m b old new (ToC e) = NotEmitted o m old e new
 NotMade o m b old new (Follows f) = OpensFirst o (f.original.now ∷ f.rewritten.now ∷ f.notes.now ∷ []) old new
 NotMade o m b old new (Migrate certificate output) = NotMigrated o m old certificate.now output.now new
 

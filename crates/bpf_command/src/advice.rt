@@ -59,6 +59,7 @@ pub(crate) fn after_refusal<H: Terminal>(aside: &H, request: Request<'_>) {
             order,
             ..
         } => ("", order, input, Some(certificate)),
+        Request::ToC(asked) => ("", asked.order, asked.input, Some(asked.certificate)),
         _ => return,
     };
     let order = order_word(order);
@@ -276,11 +277,15 @@ fn misfit_text(request: Request<'_>) -> Option<&'static str> {
         Request::Explain { lines: Some(_), .. } => Some(
             "--lines goes with CERT, --infer or --harden, and not with --dot",
         ),
+        Request::Replay(_) => Some("--counts goes with --packets FILE"),
         Request::Certify(_) => Some(
             "OUT, CERT, --notes and --changes lead to files of their own; CERT, --notes and --changes not to IN, and none of them to --lines",
         ),
         Request::Convert(_) => Some(
             "OUT and CERT lead to files of their own, not to IN; LEN is at least 8 for blocks, and 64 with --seccomp, which doesn't go with --plain",
+        ),
+        Request::ToC(_) => Some(
+            "--name is a letter, then up to 24 letters, digits and `_`, no keyword of C, and not `main`",
         ),
         Request::Harden(_) => Some(
             "OUT, --notes and --changes lead to files of their own, and neither --notes nor --changes to IN",

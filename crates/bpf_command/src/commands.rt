@@ -6,6 +6,8 @@ mod convert;
 mod explain;
 mod harden;
 mod infer;
+mod packets;
+mod to_c;
 mod trace;
 
 pub use certify::certified;
@@ -13,4 +15,6 @@ pub use convert::{conversion_conflict, converted, is_conversion_in_the_way};
 pub use explain::explained;
 pub use harden::hardened;
 pub use infer::inferred;
+pub use packets::replay;
+pub use to_c::emission_conflict;
 pub use trace::Trace;

@@ -11,11 +11,12 @@ ghost use Rattle.bpf_answers.specs.Told.{IsTold, Tells};
 use crate::advice::{after_failure, after_refusal};
 use crate::aside::Aside;
 use crate::commands::{
-    Trace, certified, conversion_conflict, converted, explained, hardened, inferred,
-    is_conversion_in_the_way,
+    Trace, certified, conversion_conflict, converted, emission_conflict, explained, hardened,
+    inferred, is_conversion_in_the_way, replay,
 };
 use crate::shown::tell_mistake;
 use bpf_answers::{BAD_WORDS, CLOSED, FAILED, Failure, REFUSED, tell};
+use bpf_command_c::emitted;
 use bpf_command_core::{
     assembled, checked, followed, grouped, listed, migrated, ran_checked_on, ran_on,
 };
@@ -207,10 +208,14 @@ fn conflict_in(request: Request<'_>) -> Option<Failure<'static>>
             contexts,
             ..
         } => thrice(input, certificate, contexts.name()),
+        Request::Replay(asked) => {
+            thrice(asked.input, asked.certificate, name_given(asked.packets))
+        }
         Request::Infer { least, most, .. } => out_of_order(least, most),
         Request::Harden(asked) => written_twice(asked.output, asked.notes, asked.changes),
         Request::Certify(asked) => certify_conflict(asked),
         Request::Convert(asked) => conversion_conflict(asked),
+        Request::ToC(asked) => emission_conflict(asked),
         Request::Follows(asked) => thrice(asked.original, asked.rewritten, asked.notes),
     }
 }
@@ -296,8 +301,8 @@ fn obstructs<P: Places>(places: &P, request: Request<'_>) -> Result<bool, AllocE
         Request::Convert(asked) => is_conversion_in_the_way(places, asked),
         Request::Groups { .. } | Request::Asm { .. } | Request::List { .. } => Ok(false),
         Request::Run { .. } | Request::Check { .. } | Request::RunChecked { .. } => Ok(false),
-        Request::Infer { .. } | Request::Explain { .. } => Ok(false),
-        Request::Follows(_) | Request::Migrate { .. } => Ok(false),
+        Request::Replay(_) | Request::Infer { .. } | Request::Explain { .. } => Ok(false),
+        Request::ToC(_) | Request::Follows(_) | Request::Migrate { .. } => Ok(false),
     }
 }
 
@@ -355,6 +360,7 @@ fn carry_out<'a, P: Places, W: Write, H: Aside>(
             contexts,
             order,
         } => ran_checked_on(alloc, places, out, input, certificate, contexts, order),
+        Request::Replay(asked) => replay(alloc, places, out, &*aside, asked),
         Request::Infer {
             input,
             least,
@@ -368,6 +374,7 @@ fn carry_out<'a, P: Places, W: Write, H: Aside>(
         Request::Harden(asked) => hardened(alloc, places, out, &*aside, asked),
         Request::Certify(asked) => certified(alloc, places, out, &*aside, asked),
         Request::Convert(asked) => converted(alloc, places, out, &*aside, asked),
+        Request::ToC(asked) => emitted(alloc, places, out, asked),
         Request::Follows(asked) => followed(alloc, places, out, asked),
         Request::Explain {
             input,

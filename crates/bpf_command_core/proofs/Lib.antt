@@ -1,3 +1,4 @@
 pub mod FollowedLemmas
 pub mod JudgedLemmas
 pub mod EachLemmas
+pub mod ReplayedLemmas

@@ -2,3 +2,4 @@ pub mod Printed
 pub mod Followed
 pub mod Names
 pub mod Given
+pub mod Replayed

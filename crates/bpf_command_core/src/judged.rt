@@ -102,7 +102,7 @@ fn line_of_context(alloc: Global, count: usize, least: u32, most: u32) -> Result
 }
 
 /// Prints that a context has another length than the certificate speaks of.
-fn refuse_context<'a, W: Write>(
+pub fn refuse_context<'a, W: Write>(
     alloc: Global,
     out: &mut W,
     count: usize,

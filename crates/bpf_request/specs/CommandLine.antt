@@ -8,12 +8,14 @@ use Rattle.bpf_insn.specs.declared.order.Order.{Order}
 use Rattle.bpf_insn.specs.declared.order.Order.TheVariants.{Little, Big}
 use Rattle.bpf_request.specs.declared.certifying.Certifying.{Certifying}
 use Rattle.bpf_request.specs.declared.contexts.Contexts.{Contexts}
+use Rattle.bpf_request.specs.declared.emitting.Emitting.{Emitting}
 use Rattle.bpf_request.specs.declared.converting.Converting.{Converting}
 use Rattle.bpf_request.specs.declared.contexts.Contexts.TheVariants.{Word, Bytes, Lines, Nothing, Several}
 use Rattle.bpf_request.specs.declared.following.Following.{Following}
 use Rattle.bpf_request.specs.declared.hardening.Hardening.{Hardening}
+use Rattle.bpf_request.specs.declared.replaying.Replaying.{Replaying}
 use Rattle.bpf_request.specs.declared.words.Request.{Request}
-use Rattle.bpf_request.specs.declared.words.Request.TheVariants.{Groups, Asm, List as ListOf, Run, Check, RunChecked, Infer, Harden, Certify, Convert, Follows, Migrate, Explain}
+use Rattle.bpf_request.specs.declared.words.Request.TheVariants.{Groups, Asm, List as ListOf, Run, Check, RunChecked, Replay, Infer, Harden, Certify, Convert, ToC, Follows, Migrate, Explain}
 use Rattle.bpf_request.specs.declared.subject.Subject.{Subject}
 use Rattle.bpf_request.specs.declared.subject.Told.{Told}
 use Rattle.bpf_request.specs.Explaining.{GivesSubject}
@@ -72,6 +74,12 @@ name_of (Lines name) = name.now
 name_of Nothing = []
 name_of Several = []
 
+-- which packets are to be run, and what is told of their answers
+abbrev pub IsReplaying : List Row → Replaying → Type 0
+IsReplaying rows r =
+    IsInput rows r.input.now r.order × (r.certificate.now ≡ word_of (codes "CERT") rows) × (option_map (λ s. s.now) r.packets ≡ first_of (codes "packets") rows)
+    × AreContexts rows r.contexts × IsFlag (one_of (codes "counts") rows) r.counts
+
 -- what CERT, `--infer`, `--most`, `--deep`, `--harden`, `--padded`, `--slot`, `--text` and `--dot` want explained
 abbrev pub IsSubject : List Row → Subject → Type 0
 IsSubject rows subject =
@@ -127,6 +135,16 @@ IsConverting rows c =
     × (c.output.now ≡ word_of (codes "OUT") rows) × (c.certificate.now ≡ word_of (codes "CERT") rows)
     × IsFlag (one_of (codes "plain") rows) c.plain × IsFlag (one_of (codes "seccomp") rows) c.seccomp × IsFlag (one_of (codes "raw") rows) c.raw
 
+-- the name of a function of C, where none is given
+abbrev pub usual_name : Text
+usual_name = codes "filter"
+
+-- which program is wanted as C, by which certificate, under which name, and where the text goes
+abbrev pub IsEmitting : List Row → Emitting → Type 0
+IsEmitting rows e =
+    IsInput rows e.input.now e.order × (e.certificate.now ≡ word_of (codes "CERT") rows) × (e.output.now ≡ word_of (codes "OUT") rows)
+    × (e.name.now ≡ unwrap_or (first_of (codes "name") rows) usual_name)
+
 -- which programs are to be compared, by which notes, for which contexts and runs
 abbrev pub IsFollowing : List Row → Following → Type 0
 IsFollowing rows f =
@@ -138,7 +156,7 @@ IsFollowing rows f =
 abbrev pub Asks : Text → List Row → Request → Type 0
 Asks name rows (Groups input order) =
     (name ≢ codes "asm") × (name ≢ codes "list") × (name ≢ codes "run") × (name ≢ codes "check") × (name ≢ codes "run-checked") × (name ≢ codes "infer")
-    × (name ≢ codes "harden") × (name ≢ codes "certify") × (name ≢ codes "convert") × (name ≢ codes "follows") × (name ≢ codes "migrate") × (name ≢ codes "explain") × IsInput rows input.now order
+    × (name ≢ codes "harden") × (name ≢ codes "certify") × (name ≢ codes "convert") × (name ≢ codes "to-c") × (name ≢ codes "follows") × (name ≢ codes "migrate") × (name ≢ codes "explain") × IsInput rows input.now order
 Asks name rows (Asm input output order) = (name ≡ codes "asm") × IsInput rows input.now order × (output.now ≡ word_of (codes "OUT") rows)
 Asks name rows (ListOf input slots bytes order) =
     (name ≡ codes "list") × IsInput rows input.now order × IsFlag (one_of (codes "slots") rows) slots × IsFlag (one_of (codes "bytes") rows) bytes
@@ -149,12 +167,15 @@ Asks name rows (Check input certificate work order) =
     (name ≡ codes "check") × IsInput rows input.now order × (certificate.now ≡ word_of (codes "CERT") rows) × IsFlag (one_of (codes "work") rows) work
 Asks name rows (RunChecked input certificate contexts order) =
     (name ≡ codes "run-checked") × IsInput rows input.now order × (certificate.now ≡ word_of (codes "CERT") rows) × AreContexts rows contexts
+    × (first_of (codes "packets") rows ≡ None) × IsFlag (one_of (codes "counts") rows) false
+Asks name rows (Replay r) = (name ≡ codes "run-checked") × IsReplaying rows r × ((is_some r.packets || r.counts) ≡ true)
 Asks name rows (Infer input least most deep output order) =
     (name ≡ codes "infer") × IsInput rows input.now order × IsCount 32 0 (one_of (codes "LEN") rows) least
     × IsCount 32 least (one_of (codes "most") rows) most × IsFlag (one_of (codes "deep") rows) deep × (output.now ≡ word_of (codes "OUT") rows)
 Asks name rows (Harden hardening) = (name ≡ codes "harden") × IsHardening rows hardening
 Asks name rows (Certify certifying) = (name ≡ codes "certify") × IsCertifying rows certifying
 Asks name rows (Convert converting) = (name ≡ codes "convert") × IsConverting rows converting
+Asks name rows (ToC emitting) = (name ≡ codes "to-c") × IsEmitting rows emitting
 Asks name rows (Follows following) = (name ≡ codes "follows") × IsFollowing rows following
 Asks name rows (Explain input subject lines order) =
     (name ≡ codes "explain") × IsInput rows input.now order × IsSubject rows subject × (option_map (λ s. s.now) lines ≡ first_of (codes "lines") rows)

@@ -4,15 +4,19 @@
 mod certifying;
 mod contexts;
 mod converting;
+mod emitting;
 mod following;
 mod hardening;
+mod replaying;
 mod subject;
 mod words;
 
 pub use certifying::Certifying;
 pub use contexts::Contexts;
 pub use converting::Converting;
+pub use emitting::Emitting;
 pub use following::Following;
 pub use hardening::Hardening;
+pub use replaying::Replaying;
 pub use subject::{Aspect, Clash, Subject, Told};
-pub use words::{Request, USUAL_TURNS, request_of};
+pub use words::{Request, USUAL_NAME, USUAL_TURNS, request_of};

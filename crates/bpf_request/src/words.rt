@@ -1,16 +1,18 @@
 //! The words of a command line.
 
-ghost use Rattle.std.specs.Prelude.{◌≡◌, IfOk, IfErr, map, option_map, true};
+ghost use Rattle.std.specs.Prelude.{◌≡◌, IfOk, IfErr, codes, map, option_map, true, unwrap_or};
 ghost use Rattle.std.specs.String.{string_bytes};
 ghost use Rattle.clap.specs.Words.{FailsBy, first_of, found_of, kind_of, one_of, rows_of, subcommand_of, takes};
-ghost use Rattle.bpf_request.specs.CommandLine.{AreContexts, Asks, GivenBy, IsAsked, IsCertifying, IsConverting, IsCount, IsFlag, IsFollowing, IsHardening, IsNumber, IsOrder, IsSubject, bpf, faults_in, word_of};
+ghost use Rattle.bpf_request.specs.CommandLine.{AreContexts, Asks, GivenBy, IsAsked, IsCertifying, IsConverting, IsCount, IsEmitting, IsFlag, IsFollowing, IsHardening, IsNumber, IsOrder, IsReplaying, IsSubject, bpf, faults_in, word_of};
 ghost use Rattle.clap.specs.declared.error.ErrorKind.TheVariants.{OutOfMemory};
 
 use crate::certifying::Certifying;
 use crate::contexts::Contexts;
 use crate::converting::Converting;
+use crate::emitting::Emitting;
 use crate::following::Following;
 use crate::hardening::Hardening;
+use crate::replaying::Replaying;
 use crate::subject::{Subject, Told, subject_of};
 use bpf_insn::Order;
 use bpf_words::command;
@@ -19,6 +21,9 @@ use std::alloc::Global;
 
 /// How often a loop that gets a counter may turn in one call of its function, where nothing is said.
 pub const USUAL_TURNS: u32 = 65_536;
+
+/// The name of a function of C, where none is given.
+pub const USUAL_NAME: &str = "filter";
 
 /// What a command line asks for. Images are of the byte order.
 #[derive(Clone, Copy)]
@@ -63,6 +68,8 @@ pub enum Request<'a> {
         contexts: Contexts<'a>,
         order: Order,
     },
+    /// The same on the packets of a capture.
+    Replay(Replaying<'a>),
     /// A certificate for an image and contexts of `least` to `most` bytes, by the deep search where that is asked for. `most`
     /// may be below `least`.
     Infer {
@@ -79,6 +86,8 @@ pub enum Request<'a> {
     Certify(Certifying<'a>),
     /// An image of a filter of classic BPF, with its certificate.
     Convert(Converting<'a>),
+    /// A function of C of an image that its certificate certifies.
+    ToC(Emitting<'a>),
     /// Whether notes show that one program keeps the meaning of another.
     Follows(Following<'a>),
     /// What the checker or the inferrer sees of a program, or why an input is refused, in words, with the lines of its source at a
@@ -101,6 +110,13 @@ fn word<'a>(matches: &ArgMatches<'a>, id: &str) -> &'a str
     ensures { result.now ≡ word_of id.now (rows_of (found_of matches.now)) }
 {
     matches.get_str(id).unwrap_or("")
+}
+
+/// The word of an argument, this one where there is none.
+fn word_or<'a>(matches: &ArgMatches<'a>, id: &str, default: &'a str) -> &'a str
+    ensures { result.now ≡ unwrap_or (first_of id.now (rows_of (found_of matches.now))) default.entry.now }
+{
+    matches.get_str(id).unwrap_or(default)
 }
 
 /// The word of an argument, None where there is none.
@@ -246,6 +262,19 @@ fn converting_in<'a>(matches: &ArgMatches<'a>) -> Converting<'a>
     }
 }
 
+/// What is wanted as C.
+fn emitting_in<'a>(matches: &ArgMatches<'a>) -> Emitting<'a>
+    ensures { IsEmitting (rows_of (found_of matches.now)) result }
+{
+    Emitting {
+        input: word(matches, "IN"),
+        certificate: word(matches, "CERT"),
+        output: word(matches, "OUT"),
+        name: word_or(matches, "name", USUAL_NAME),
+        order: order_of(matches),
+    }
+}
+
 /// Which programs are to be compared.
 fn following_in<'a>(matches: &ArgMatches<'a>) -> Following<'a>
     ensures { IsFollowing (rows_of (found_of matches.now)) result }
@@ -259,6 +288,36 @@ fn following_in<'a>(matches: &ArgMatches<'a>) -> Following<'a>
         untouched: number(matches, "untouched", 0),
         padded: has_flag(matches, "padded"),
         order: order_of(matches),
+    }
+}
+
+/// Which packets are to be run, if any are.
+fn replaying_in<'a>(matches: &ArgMatches<'a>) -> Replaying<'a>
+    ensures { IsReplaying (rows_of (found_of matches.now)) result }
+{
+    Replaying {
+        input: word(matches, "IN"),
+        certificate: word(matches, "CERT"),
+        packets: word_if(matches, "packets"),
+        contexts: contexts_of(matches),
+        counts: has_flag(matches, "counts"),
+        order: order_of(matches),
+    }
+}
+
+/// What the words of `run-checked` ask for.
+fn run_checked_in<'a>(matches: &ArgMatches<'a>) -> Request<'a>
+    ensures { Asks (codes "run-checked") (rows_of (found_of matches.now)) result }
+{
+    let asked = replaying_in(matches);
+    match (asked.packets, asked.counts) {
+        (None, false) => Request::RunChecked {
+            input: asked.input,
+            certificate: asked.certificate,
+            contexts: asked.contexts,
+            order: asked.order,
+        },
+        (Some(_), _) | (None, true) => Request::Replay(asked),
     }
 }
 
@@ -293,12 +352,7 @@ fn request_in<'a>(name: &str, matches: &ArgMatches<'a>) -> Request<'a>
             work: has_flag(matches, "work"),
             order,
         },
-        "run-checked" => Request::RunChecked {
-            input,
-            certificate: word(matches, "CERT"),
-            contexts: contexts_of(matches),
-            order,
-        },
+        "run-checked" => run_checked_in(matches),
         "infer" => {
             let least = number(matches, "LEN", 0);
             Request::Infer {
@@ -313,6 +367,7 @@ fn request_in<'a>(name: &str, matches: &ArgMatches<'a>) -> Request<'a>
         "harden" => Request::Harden(hardening_in(matches)),
         "certify" => Request::Certify(certifying_in(matches)),
         "convert" => Request::Convert(converting_in(matches)),
+        "to-c" => Request::ToC(emitting_in(matches)),
         "follows" => Request::Follows(following_in(matches)),
         "explain" => Request::Explain {
             input,

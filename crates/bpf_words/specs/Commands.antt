@@ -77,7 +77,7 @@ abbrev pub run_checked_places : App
 run_checked_places = with_rule (with_rule (new_app (codes "run-checked")) (place (codes "IN"))) (place (codes "CERT"))
 
 abbrev pub run_checked : App
-run_checked = with_rule (with_contexts run_checked_places) big
+run_checked = with_rule (with_rule (with_rule (with_contexts run_checked_places) (option (codes "packets"))) (flag (codes "counts"))) big
 
 -- the required word `LEN`, a number up to the most bytes of a context
 abbrev pub context_length : Rule
@@ -133,6 +133,12 @@ convert_places =
 abbrev pub convert : App
 convert = with_rule (with_rule (with_rule (with_rule convert_places (flag (codes "plain"))) (flag (codes "seccomp"))) (flag (codes "raw"))) big
 
+abbrev pub to_c_places : App
+to_c_places = with_rule (with_rule (with_rule (new_app (codes "to-c")) (place (codes "IN"))) (place (codes "CERT"))) (place (codes "OUT"))
+
+abbrev pub to_c : App
+to_c = with_rule (with_rule to_c_places (option (codes "name"))) big
+
 abbrev pub follows_places : App
 follows_places = with_rule (with_rule (with_rule (with_rule (new_app (codes "follows")) (place (codes "OLD"))) (place (codes "NEW"))) (place (codes "NOTES"))) context_length
 
@@ -166,6 +172,8 @@ explain =
 abbrev pub with_proposals : App
 with_proposals = with_subcommand (with_subcommand (with_subcommand (with_subcommand without_certificates check.top) run_checked.top) infer.top) harden.top
 
--- `bpf` with all thirteen
+-- `bpf` with all fourteen
 abbrev pub bpf : App
-bpf = with_subcommand (with_subcommand (with_subcommand (with_subcommand (with_subcommand with_proposals certify.top) convert.top) follows.top) migrate.top) explain.top
+bpf =
+    with_subcommand (with_subcommand (with_subcommand (with_subcommand (with_subcommand (with_subcommand with_proposals certify.top) convert.top) to_c.top) follows.top)
+    migrate.top) explain.top

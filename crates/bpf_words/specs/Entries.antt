@@ -3,7 +3,7 @@ use Rattle.std.specs.Prelude.{List}
 use Rattle.std.specs.List.{fold}
 use Rattle.clap.specs.Words.{App, Rule, new_app, new_rule, with_rule, with_subcommand}
 use Rattle.bpf_words.specs.declared.argument.Argument.{Argument}
-use Rattle.bpf_words.specs.declared.argument.Argument.TheVariants.{Place, Extra, Length, Flag, Named, Number, Steps, Trace, Otherwise}
+use Rattle.bpf_words.specs.declared.argument.Argument.TheVariants.{Place, Extra, Length, Flag, Named, Word, Number, Steps, Trace, Otherwise}
 use Rattle.bpf_words.specs.declared.table.Entry.{Entry}
 use Rattle.bpf_words.specs.Commands.{context_length, flag, number, option, otherwise, place, steps, trace}
 
@@ -14,6 +14,7 @@ rule (Extra id help) = new_rule id.now
 rule (Length help) = context_length
 rule (Flag id help) = flag id.now
 rule (Named id help) = option id.now
+rule (Word id name help) = option id.now
 rule (Number id name least most help) = number id.now least most
 rule (Steps help) = steps
 rule (Trace help) = trace

@@ -23,6 +23,8 @@ pub enum Argument {
     Flag(&'static str, &'static str),
     /// An option with the name of a file.
     Named(&'static str, &'static str),
+    /// An option with a word: what help calls the word.
+    Word(&'static str, &'static str, &'static str),
     /// An option with a number: what help calls the number, the least and the greatest.
     Number(&'static str, &'static str, i64, i64, &'static str),
     /// The option for the most steps.
@@ -99,6 +101,7 @@ pub fn arg_of<'a>(alloc: Global, argument: Argument) -> Arg<'a>
         Argument::Length(help) => bounded(place(alloc, "LEN", help), 0, MAX_CONTEXT as i64),
         Argument::Flag(id, help) => flag(alloc, id, help),
         Argument::Named(id, help) => option(alloc, id, "FILE", help),
+        Argument::Word(id, name, help) => option(alloc, id, name, help),
         Argument::Number(id, name, least, most, help) => bounded(
             option(alloc, id, name, help),
             least,

@@ -1,7 +1,7 @@
 //! The table of the commands, with the texts of their help.
 
 use crate::argument::Argument::{
-    self, Extra, Flag, Length, Named, Number, Otherwise, Place, Steps, Trace,
+    self, Extra, Flag, Length, Named, Number, Otherwise, Place, Steps, Trace, Word,
 };
 use bpf_insn::{FRAME_BYTES, MAX_CONTEXT, MAX_SLOTS};
 
@@ -28,6 +28,16 @@ const CONTEXT: Argument = Named(
 const CONTEXTS: Argument = Named(
     "contexts",
     "in place of HEX: contexts as HEX, one a line of FILE",
+);
+
+const PACKETS: Argument = Named(
+    "packets",
+    "in place of HEX: the packets of the capture FILE (pcap), each in a block as for `harden --padded`",
+);
+
+const COUNTS: Argument = Flag(
+    "counts",
+    "with --packets: prints each different result once, and how often it came",
 );
 
 const LENGTH: Argument = Length("the length of the contexts in bytes, at most 4096");
@@ -116,7 +126,16 @@ pub const SECOND: [Entry; 4] = [
     Entry {
         name: "run-checked",
         about: "Runs an image that its certificate certifies, and prints each result",
-        arguments: &[IMAGE, CERTIFICATE, HEX, CONTEXT, CONTEXTS, BIG],
+        arguments: &[
+            IMAGE,
+            CERTIFICATE,
+            HEX,
+            CONTEXT,
+            CONTEXTS,
+            PACKETS,
+            COUNTS,
+            BIG,
+        ],
     },
     Entry {
         name: "infer",
@@ -165,7 +184,7 @@ pub const SECOND: [Entry; 4] = [
 ];
 
 /// The others.
-pub const LAST: [Entry; 5] = [
+pub const LAST: [Entry; 6] = [
     Entry {
         name: "certify",
         about: "Writes an image and its certificate within a bound, hardened where it needs to be",
@@ -222,6 +241,21 @@ pub const LAST: [Entry; 5] = [
             Flag(
                 "raw",
                 "IN is struct sock_filter, 8 bytes for each instruction",
+            ),
+            BIG,
+        ],
+    },
+    Entry {
+        name: "to-c",
+        about: "Writes a program that its certificate certifies as a function of C11",
+        arguments: &[
+            IMAGE,
+            CERTIFICATE,
+            Place("OUT", "where the text goes"),
+            Word(
+                "name",
+                "F",
+                "the name of the function, a letter and up to 24 letters, digits and `_`, else `filter`",
             ),
             BIG,
         ],

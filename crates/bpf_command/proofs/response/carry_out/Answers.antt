@@ -21,6 +21,15 @@ returns-in-Run-clause-begun g c = rw c.in-Run.is c.ran_on.ensures.begun
 pub returns-in-RunChecked-clause-begun : goal.returns-in-RunChecked-clause-begun
 returns-in-RunChecked-clause-begun g c = rw c.in-RunChecked.is c.ran_checked_on.ensures.begun
 
+pub returns-in-Replay-clause-ok : goal.returns-in-Replay-clause-ok
+returns-in-Replay-clause-ok g c = rw c.in-Replay.is c.replay.ensures.ok
+
+pub returns-in-Replay-clause-err : goal.returns-in-Replay-clause-err
+returns-in-Replay-clause-err g c = rw c.in-Replay.is c.replay.ensures.err
+
+pub returns-in-Replay-clause-begun : goal.returns-in-Replay-clause-begun
+returns-in-Replay-clause-begun g c = rw c.in-Replay.is c.replay.ensures.begun
+
 pub returns-in-Certify-clause-ok : goal.returns-in-Certify-clause-ok
 returns-in-Certify-clause-ok g c = rw c.in-Certify.is c.certified.ensures.ok
 
@@ -44,3 +53,15 @@ returns-in-Convert-clause-begun g c = rw c.in-Convert.is c.converted.ensures.beg
 
 pub returns-in-Convert-clause-names : goal.returns-in-Convert-clause-names
 returns-in-Convert-clause-names g c = rw c.in-Convert.is c.converted.ensures.names
+
+pub returns-in-ToC-clause-ok : goal.returns-in-ToC-clause-ok
+returns-in-ToC-clause-ok g c = rw c.in-ToC.is c.emitted.ensures.ok
+
+pub returns-in-ToC-clause-err : goal.returns-in-ToC-clause-err
+returns-in-ToC-clause-err g c = rw c.in-ToC.is c.emitted.ensures.err
+
+pub returns-in-ToC-clause-begun : goal.returns-in-ToC-clause-begun
+returns-in-ToC-clause-begun g c = rw c.in-ToC.is c.emitted.ensures.begun
+
+pub returns-in-ToC-clause-names : goal.returns-in-ToC-clause-names
+returns-in-ToC-clause-names g c = rw c.in-ToC.is c.emitted.ensures.names

@@ -19,3 +19,7 @@ pub returns-in-Err-2 : goal.returns-in-Err-2
 returns-in-Err-2 g c =
     let other : kind_of c.in-Err-2.error ≢ OutOfMemory = search rules in
     inr (inr (inr (at_fault _ c.in-Err-2.error c.in-Err-2.ensures.judged other, refl, (refl, keeps _))))
+
+pub returns-else-status-eq-REFUSED : goal.returns-else-status-eq-REFUSED
+returns-else-status-eq-REFUSED g c =
+    inl (c.in-Ok.request, search rules, c.in-Ok.ensures.ok, search rules, search rules, keeps _)

@@ -1,0 +1,5 @@
+use Rattle.bpf_c.proofs.SaysLemmas.{says_more, says_of}
+use Rattle.bpf_c.proofs.memory.put_load.Goals as goal
+
+pub returns : goal.returns
+returns g c = says_more c.put.ensures (says_more (says_of c.size_word.ensures c.put-2.ensures) (says_more (says_of c.order_word.ensures c.put-3.ensures) (says_more c.put_register.ensures (says_more c.put-4.ensures (says_more c.put_place.ensures c.put-5.ensures)))))

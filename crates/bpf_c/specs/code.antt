@@ -1,0 +1,2 @@
+-- What the code keeps, in the shape that it has there.
+pub mod Says

@@ -1,0 +1,2 @@
+mod FillLemmas
+mod CaptureLemmas

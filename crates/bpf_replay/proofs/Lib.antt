@@ -1,0 +1,3 @@
+pub mod ReplayLemmas
+mod CountLemmas
+mod PutLemmas
