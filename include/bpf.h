@@ -65,8 +65,9 @@ struct bpf_refusal {
     uint32_t kind;      /* enum bpf_kind, but BPF_FAULT */
     uint32_t number;    /* from 1 */
     uint64_t place;     /* the slot, from 0; of BPF_CERTIFICATE and BPF_NOTES the line, from 1 */
-    uint64_t condition; /* of I4 and H7: the number of the checker's condition, 3 to 12; of H13: that of BPF_MISMATCH, 1 to 7; of BPF_IMAGE by
-                           bpf_follows: 0 of the old image, 1 of the new one; else 0 */
+    uint64_t condition; /* of I4 and H7: the number of the checker's condition, 3 to 12; of H13: that of BPF_MISMATCH, 1 to 7; of H14: the bound that
+                           is too great; of H15: the number of BPF_CHECK, 1 to 13; of BPF_IMAGE by bpf_follows: 0 of the old image, 1 of the new
+                           one; else 0 */
 };
 
 enum bpf_end {
@@ -82,6 +83,26 @@ struct bpf_outcome {
     uint64_t slot;   /* of the fault or refusal, else 0 */
     uint64_t value;  /* what r0 holds, else 0 */
     uint64_t steps;  /* the instructions done, of BPF_DONE and BPF_FAULTED; else 0 */
+};
+
+/* What is asked of a certification, as the options of `bpf certify`. */
+struct bpf_wish {
+    uint32_t bound;     /* the greatest bound that is paid for, in instructions; bpf_certify takes 0 for 1,000,000 */
+    uint32_t turns;     /* how often a loop that nothing counts may turn; 0: as often as is found to stay within the bound */
+    uint64_t otherwise; /* as in struct bpf_hardening */
+    uint32_t padded;    /* 1: the context is a block of a packet's length in eight bytes, the packet and padding; else 0 */
+    uint32_t unproved;  /* 0: a new image that isn't shown to keep the meaning of the old one is refused, by H13; 1: nobody shows it */
+};
+
+/* What was certified. */
+struct bpf_certified {
+    size_t image_len;       /* how many bytes the image has, at most BPF_IMAGE_MOST */
+    size_t certificate_len; /* and how many its certificate */
+    uint32_t bound;         /* the greatest number of instructions of a run */
+    uint32_t turns;         /* it is shown of runs of the old image that come to no instruction more often; 0 where it is the old one */
+    uint32_t untouched;     /* and that leave so many of the lowest bytes of each frame to r10 */
+    uint32_t is_rewritten;  /* 0: the image is the old one; 1: it is hardened */
+    uint32_t is_shown;      /* 1: it keeps the meaning of the old one, on those runs; 0: nobody showed it */
 };
 
 /* ---- the library's functions. In C and C++ call those below them, which look at what they are handed; from other languages these: no
@@ -113,6 +134,8 @@ int32_t bpf_host_infer(const uint8_t *image, size_t image_len, uint32_t order, u
 int32_t bpf_host_harden(const uint8_t *image, size_t image_len, uint32_t order, uint32_t size, uint32_t turns, uint64_t otherwise,
                         uint32_t padded, uint32_t unproved, uint32_t untouched, uint8_t *text, size_t text_len, size_t *wanted,
                         struct bpf_refusal *refusal);
+int32_t bpf_host_certify(const uint8_t *image, size_t image_len, uint32_t order, uint32_t size, const struct bpf_wish *wish, uint8_t *made,
+                         size_t made_len, uint8_t *text, size_t text_len, struct bpf_certified *certified, struct bpf_refusal *refusal);
 int32_t bpf_host_explain(const uint8_t *image, size_t image_len, uint32_t order, const uint8_t *certificate, size_t certificate_len,
                          uint32_t aspect, uint32_t slot, const uint8_t *lines, size_t lines_len, uint8_t *text, size_t text_len,
                          size_t *wanted, struct bpf_refusal *refusal);
@@ -321,7 +344,7 @@ static inline int32_t bpf_infer(const void *image, size_t image_len, uint32_t or
 /* What is asked of a hardening, as the options of `bpf harden`. */
 struct bpf_hardening {
     uint32_t turns;     /* how often a loop that nothing counts may turn; 0: 65,536 times */
-    uint32_t padded;    /* 1: the context is a block of a packet's length in eight bytes, the packet and padding; else 0 */
+    uint32_t padded;    /* 1: the context is a block of a packet's length in eight bytes, the packet, as much of it as fits, and padding; else 0 */
     uint64_t otherwise; /* r0 where a trap ends the program; a local function that may return any number returns it from a trap, and its
                            caller goes on */
     uint32_t unproved;  /* 0: a new image that isn't shown to keep the meaning of the old one is refused, by H13; 1: nobody shows it */
@@ -349,6 +372,41 @@ static inline int32_t bpf_harden(const void *image, size_t image_len, uint32_t o
     answer = bpf_host_harden(bpf_bytes(image), image_len, order, size, asked->turns ? asked->turns : usual.turns, asked->otherwise, asked->padded,
                              asked->unproved, asked->untouched, hardened ? (uint8_t *)hardened : &none, hardened_len, &count, &why);
     if ((answer == BPF_YES || answer == BPF_TOO_SMALL) && wanted) *wanted = count;
+    if (answer == BPF_NO && refusal) *refusal = why;
+    return answer;
+}
+
+/* Certifies an image for contexts of exactly `size` bytes, by a bound that is paid for: the image as it stands, where the deep search finds such a
+ * certificate, else hardened. `wish` may be null: a bound of 1,000,000, as many turns as stay within it, and all else 0. BPF_YES: the first
+ * certified->image_len bytes of `made` are an image, and the first certified->certificate_len bytes of `text` a certificate, of which bpf_verify
+ * and bpf_load say yes, with the bound that is told. Unless `unproved` is 1, the image ends with the old one's number on each context on which that one
+ * ends with a number, comes to no instruction more than certified->turns times, and goes by no other register than r10 to the lowest
+ * certified->untouched bytes of a frame. BPF_TOO_SMALL: *certified says what there is, and `made` or `text`, which may be null with the length 0, has
+ * less room. BPF_IMAGE_MOST bytes do for the one, and bpf_infer_size(BPF_IMAGE_MOST) for the other. BPF_NO: *refusal says why, by E or H; H14 is a bound
+ * that is too great. BPF_NO_MEMORY. BPF_BAD_CALL: an order, `padded` or `unproved` that isn't one, or `size` above 4,096. BPF_BAD_MEMORY: no bytes,
+ * `made` or `text` that lies in the image or in the other one, or an answer that lies in one of the three. */
+static inline int32_t bpf_certify(const void *image, size_t image_len, uint32_t order, uint32_t size, const struct bpf_wish *wish, void *made,
+                                  size_t made_len, char *text, size_t text_len, struct bpf_certified *certified, struct bpf_refusal *refusal) {
+    struct bpf_wish asked = {1000000, 0, 0, 0, 0};
+    struct bpf_certified told = {0, 0, 0, 0, 0, 0, 0};
+    struct bpf_refusal why = {0, 0, 0, 0};
+    uint8_t no_image = 0, no_text = 0;
+    int32_t answer;
+    if (!bpf_are_bytes(image, image_len) || !bpf_are_bytes(made, made_len) || !bpf_are_bytes(text, text_len)) return BPF_BAD_MEMORY;
+    if (bpf_overlap(made, made_len, image, image_len) || bpf_overlap(text, text_len, image, image_len)) return BPF_BAD_MEMORY;
+    if (bpf_overlap(made, made_len, text, text_len)) return BPF_BAD_MEMORY;
+    if (!bpf_is_apart(certified, sizeof *certified, image, image_len, made, made_len)) return BPF_BAD_MEMORY;
+    if (!bpf_is_apart(refusal, sizeof *refusal, image, image_len, made, made_len)) return BPF_BAD_MEMORY;
+    if (!bpf_is_apart(certified, sizeof *certified, text, text_len, NULL, 0)) return BPF_BAD_MEMORY;
+    if (!bpf_is_apart(refusal, sizeof *refusal, text, text_len, NULL, 0)) return BPF_BAD_MEMORY;
+    if (wish) {
+        uint32_t usual = asked.bound;
+        asked = *wish;
+        if (!asked.bound) asked.bound = usual;
+    }
+    answer = bpf_host_certify(bpf_bytes(image), image_len, order, size, &asked, made ? (uint8_t *)made : &no_image, made_len,
+                              text ? (uint8_t *)text : &no_text, text_len, &told, &why);
+    if ((answer == BPF_YES || answer == BPF_TOO_SMALL) && certified) *certified = told;
     if (answer == BPF_NO && refusal) *refusal = why;
     return answer;
 }

@@ -1,7 +1,7 @@
 #!/usr/bin/env python3
 """edits.py: whether each wrong body can be tried. Nothing is proved here: tests/wrong.py has the prover refuse them.
 
-  edits.py --name   writes each `fn:` line anew, where all texts stand in one function, and moves edits from must-fail/ and must-fail-too/
+  edits.py --name   writes each `fn:` line anew, where all texts stand in one function, and moves edits that stand in a folder of the kit by mistake
 
 A wrong body is a file crates/CRATE/wrong/function-does-wrong.edit, of lines
 
@@ -23,6 +23,10 @@ import sys
 
 ROOT = pathlib.Path(__file__).resolve().parent.parent
 FOLDER = "wrong"
+# `rt ci` tries the edits of these crates itself, in must-fail/, and proves each of the crates a second time for them.
+BY_THE_KIT = {"bpf_lines", "bpf_flat", "bpf_request", "bpf_host_runs", "bpf_command_core", "bpf_command"}
+# The wrong bodies of these crates are tried by hand, by the crate's name: the gate would take too long with them.
+BY_NAME = {"bpf_classic", "bpf_convert", "bpf_answers", "bpf_explain", "bpf_command_core", "bpf_command", "bpf_host_runs", "bpf_host_advice", "bpf_host"}
 
 # The mistakes that a toolchain like this is known for, each with the wrong bodies that make it.
 KNOWN = {
@@ -66,6 +70,7 @@ COMMANDS = {
     "run-checked": ["bpf_command_core/run-checked-tells-32-bits-of-the-number"],
 }
 CALLS = {
+    "bpf_host_certify": ["bpf_host_advice/certify-writes-the-old-image", "bpf_host_advice/certify-tells-another-bound"],
     "bpf_host_explain": ["bpf_host_advice/explain-says-yes-of-a-refused-program"],
     "bpf_host_explain_search": ["bpf_host_advice/explain_search-says-yes-of-a-refused-certificate"],
     "bpf_host_follows": ["bpf_host_advice/follows-judges-the-old-image-beside-itself"],
@@ -236,12 +241,18 @@ def looked_at():
         except BadEdit as why:
             faults.append(f"{path.relative_to(ROOT)}: {why}")
     faults += [f"{path.relative_to(ROOT)}: the kit would prove this crate a second time for it: wrong bodies stand in {FOLDER}/" for path in strays()]
-    return good, faults + faults_of_lists({edit.name for edit in good})
+    by_the_kit = {f"{path.parent.parent.name}/{path.stem}" for path in kits()}
+    return good, faults + faults_of_lists(by_the_kit | {edit.name for edit in good})
+
+
+def kits():
+    """The edits in folders of the kit."""
+    return sorted(ROOT.glob("crates/*/must-fail*/*.edit"))
 
 
 def strays():
-    """The edits in folders of the kit, which tries one of bpf_lines alone."""
-    return [it for it in sorted(ROOT.glob("crates/*/must-fail*/*.edit")) if it.parent != ROOT / "crates" / "bpf_lines" / "must-fail"]
+    """The edits in folders of the kit, of crates that it is not to prove a second time."""
+    return [it for it in kits() if it.parent.name != "must-fail" or it.parent.parent.name not in BY_THE_KIT]
 
 
 def name_functions():

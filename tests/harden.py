@@ -121,7 +121,7 @@ class Program:
 def contexts_of(rng, length):
     """Contexts whose bytes are often small, so that indexes often lie inside."""
     def byte():
-        return rng.randrange(max(length, 1)) if rng.random() < 0.6 else rng.choice([0, 1, 127, 128, 255, rng.randrange(256)])
+        return rng.randrange(min(max(length, 1), 256)) if rng.random() < 0.6 else rng.choice([0, 1, 127, 128, 255, rng.randrange(256)])
     return [bytes(byte() for _ in range(length)) for _ in range(12)]
 
 
@@ -238,13 +238,14 @@ def try_image(run, rng, length, order, tells):
 
 
 def try_blocks(run, rng, most, order):
-    """Hardens old.img for blocks, and compares it on packets of many lengths."""
+    """Hardens old.img for blocks, and compares it on packets of many lengths, of which a block has what it has room for."""
     why = run.hardened(most + 8, '--padded', *order)
     if why:
         return why
-    packets = [rng.choice(contexts_of(rng, rng.randrange(most + 1))) for _ in range(12)]
+    frames = [rng.choice(contexts_of(rng, rng.randrange(most + 1))) for _ in range(9)] + [rng.choice(contexts_of(rng, most + more)) for more in (1, 7, 300)]
     way = 'big' if order else 'little'
-    blocks = [len(p).to_bytes(8, way) + p + bytes(rng.randrange(256) for _ in range(most - len(p))) for p in packets]
+    packets = [frame[:most] for frame in frames]
+    blocks = [len(f).to_bytes(8, way) + p + bytes(rng.randrange(256) for _ in range(most - len(p))) for f, p in zip(frames, packets)]
     old = [run.on(['run', *order, 'old.img', '--steps', str(STEPS)], [packet])[0] for packet in packets]
     compare(run, order, list(zip(blocks, old)), not has_call(run, order))
     return 'blocks'

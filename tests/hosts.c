@@ -259,6 +259,56 @@ static void say_follows(uint32_t order, char **word) {
     free(old.at), free(new.at), free(notes.at);
 }
 
+/* How it is certified in exactly the room that it takes. */
+static void certify_in(uint32_t order, const struct bytes *from, uint32_t size, const struct bpf_wish *wish, struct bpf_certified want, char **names) {
+    struct bytes made = of_size(want.image_len), text = of_size(want.certificate_len);
+    struct bpf_certified told = {7, 7, 7, 7, 7, 7, 7};
+    struct bpf_verdict v;
+    memset(made.at, 7, made.len), memset(text.at, 7, text.len);
+    if (bpf_certify(from->at, from->len, order, size, wish, made.at, made.len - 1, (char *)text.at, text.len, &told, NULL) != BPF_TOO_SMALL) abort();
+    if (bpf_certify(from->at, from->len, order, size, wish, made.at, made.len, (char *)text.at, text.len - 1, NULL, NULL) != BPF_TOO_SMALL) abort();
+    for (size_t i = 0; i < made.len; i++)
+        if (made.at[i] != 7) abort();
+    for (size_t i = 0; i < text.len; i++)
+        if (text.at[i] != 7) abort();
+    if (told.image_len != want.image_len || told.certificate_len != want.certificate_len || told.bound != want.bound) abort();
+    if (bpf_certify(from->at, from->len, order, size, wish, made.at, made.len, (char *)text.at, text.len, &told, NULL) != BPF_YES) abort();
+    if (told.turns != want.turns || told.untouched != want.untouched || told.is_rewritten != want.is_rewritten || told.is_shown != want.is_shown) abort();
+    if (bpf_verify(made.at, made.len, order, text.at, text.len, &v, NULL) != BPF_YES || v.least != size || v.most != size || v.bound != want.bound) abort();
+    for (int i = 0; i < 2; i++) {
+        FILE *file = fopen(names[i], "wb");
+        struct bytes *it = i ? &text : &made;
+        if (!file || fwrite(it->at, 1, it->len, file) != it->len || fclose(file)) abort();
+    }
+    free(made.at), free(text.at);
+}
+
+/* certify ORDER IMAGE SIZE BOUND TURNS PADDED UNPROVED OUT CERT; the sizes are asked for first. */
+static void say_certify(uint32_t order, char **word) {
+    struct bytes from = read_file(word[0]);
+    const uint32_t size = (uint32_t)atol(word[1]);
+    const struct bpf_wish wish = {(uint32_t)strtoul(word[2], NULL, 10), (uint32_t)strtoul(word[3], NULL, 10), 0, (uint32_t)atol(word[4]), (uint32_t)atol(word[5])};
+    struct bpf_certified told = {7, 7, 7, 7, 7, 7, 7};
+    struct bpf_refusal why = {7, 7, 7, 7};
+    switch (bpf_certify(from.at, from.len, order, size, &wish, NULL, 0, NULL, 0, &told, &why)) {
+    case BPF_NO:
+        if (!bpf_refusal_text(why.kind, why.number, NULL, 0) || told.image_len != 7) abort();
+        if (why.number == 14 && why.condition <= wish.bound) abort();
+        printf("1 no %c%u at slot %u\n", (int)why.kind, (unsigned)why.number, (unsigned)why.place);
+        break;
+    case BPF_TOO_SMALL:
+        if (why.kind != 7 || told.image_len > BPF_IMAGE_MOST || told.certificate_len > bpf_infer_size(told.image_len)) abort();
+        certify_in(order, &from, size, &wish, told, word + 6);
+        printf("0 yes length %u bound %u", (unsigned)size, (unsigned)told.bound);
+        if (told.is_rewritten) printf(" hardened turns %u%s", (unsigned)told.turns, wish.padded ? " padded" : "");
+        if (told.untouched) printf(" untouched %u", (unsigned)told.untouched);
+        puts(told.is_shown ? "" : " unproved");
+        break;
+    default: abort();
+    }
+    free(from.at);
+}
+
 static void answer(char **word) {
     uint32_t order = strcmp(word[1], "big") ? BPF_LITTLE : BPF_BIG;
     struct bytes image = {NULL, 0}, second = {NULL, 0}, third = {NULL, 0};
@@ -268,6 +318,10 @@ static void answer(char **word) {
     }
     if (!strcmp(word[0], "follows")) {
         say_follows(order, word + 2);
+        return;
+    }
+    if (!strcmp(word[0], "certify")) {
+        say_certify(order, word + 2);
         return;
     }
     image = read_file(word[2]);
@@ -549,6 +603,39 @@ static void bad_following(void) {
     WANTS(why.kind == BPF_IMAGE && why.condition == 1, 1);
 }
 
+static void bad_certifying(void) {
+    const struct bpf_wish blocks = {9, 1, 0, 2, 0}, half = {9, 1, 0, 0, 2}, one = {1, 1, 0, 0, 0}, none = {0, 0, 0, 0, 0}, most = {UINT32_MAX, UINT32_MAX, 5, 0, 1};
+    uint8_t made[32] = "as it was";
+    char text[256] = "as it was";
+    struct bpf_certified told = {7, 7, 7, 7, 7, 7, 7};
+    struct bpf_refusal why = {7, 7, 7, 7};
+    WANTS(bpf_certify(NULL, 16, BPF_LITTLE, 0, NULL, made, 32, text, 256, &told, &why), BPF_BAD_MEMORY);
+    WANTS(bpf_certify(image, HUGE_LEN, BPF_LITTLE, 0, NULL, made, 32, text, 256, &told, &why), BPF_BAD_MEMORY);
+    WANTS(bpf_certify(IMAGE, BPF_LITTLE, 0, NULL, NULL, 32, text, 256, &told, &why), BPF_BAD_MEMORY);
+    WANTS(bpf_certify(IMAGE, BPF_LITTLE, 0, NULL, made, 32, NULL, 256, &told, &why), BPF_BAD_MEMORY);
+    WANTS(bpf_certify(made, 16, BPF_LITTLE, 0, NULL, made, 32, text, 256, &told, &why), BPF_BAD_MEMORY);
+    WANTS(bpf_certify(text, 16, BPF_LITTLE, 0, NULL, made, 32, text, 256, &told, &why), BPF_BAD_MEMORY);
+    WANTS(bpf_certify(IMAGE, BPF_LITTLE, 0, NULL, text + 128, 128, text, 129, &told, &why), BPF_BAD_MEMORY);
+    WANTS(bpf_certify(IMAGE, 2, 0, NULL, made, 32, text, 256, &told, &why), BPF_BAD_CALL);
+    WANTS(bpf_certify(IMAGE, BPF_LITTLE, 4097, NULL, made, 32, text, 256, &told, &why), BPF_BAD_CALL);
+    WANTS(bpf_certify(IMAGE, BPF_LITTLE, 0, &blocks, made, 32, text, 256, &told, &why), BPF_BAD_CALL);
+    WANTS(bpf_certify(IMAGE, BPF_LITTLE, 0, &half, made, 32, text, 256, &told, &why), BPF_BAD_CALL);
+    WANTS(told.bound == 7 && why.kind == 7, 1);
+    WANTS(bpf_certify(image, 15, BPF_LITTLE, 0, NULL, made, 32, text, 256, &told, &why), BPF_NO);
+    WANTS(why.kind == BPF_IMAGE && why.number == 1 && told.bound == 7, 1);
+    WANTS(bpf_certify(IMAGE, BPF_LITTLE, 0, &one, made, 32, text, 256, &told, &why), BPF_NO);
+    WANTS(why.kind == BPF_HARDENING && why.number == 14 && why.place == 0 && why.condition == 2 && told.bound == 7, 1);
+    WANTS(bpf_certify(IMAGE, BPF_LITTLE, 0, NULL, made, 15, text, 256, &told, NULL), BPF_TOO_SMALL);
+    WANTS(told.image_len == 16 && told.certificate_len > 7 && told.certificate_len < 256 && told.bound == 2, 1);
+    WANTS(told.turns == 0 && told.untouched == 0 && told.is_rewritten == 0 && told.is_shown == 1, 1);
+    WANTS(bpf_certify(IMAGE, BPF_LITTLE, 0, NULL, made, 32, text, told.certificate_len - 1, NULL, NULL), BPF_TOO_SMALL);
+    WANTS(!strcmp((char *)made, "as it was") && !strcmp(text, "as it was"), 1);
+    WANTS(bpf_certify(IMAGE, BPF_LITTLE, 0, &none, made, 32, text, 256, &told, NULL), BPF_YES);
+    WANTS(!memcmp(made, image, 16) && made[16] == 0 && text[told.certificate_len] == 0, 1);
+    WANTS(bpf_verify(made, told.image_len, BPF_LITTLE, text, told.certificate_len, NULL, NULL), BPF_YES);
+    WANTS(bpf_certify(IMAGE, BPF_LITTLE, 0, &most, made, 32, text, 256, NULL, NULL), BPF_YES);
+}
+
 static void sizes(void) {
     WANTS(bpf_infer_size(0), 64);
     WANTS(bpf_infer_size(16), 64 + 2 * 320 + 2 * 74 * 136);
@@ -607,6 +694,12 @@ static void bad_answers(void) {
     WANTS(bpf_harden(OWN, 0, NULL, room, 16, (void *)(room + 8), NULL), BPF_BAD_MEMORY);
     WANTS(bpf_harden(OWN, 0, NULL, room, 16, NULL, (void *)own), BPF_BAD_MEMORY);
     WANTS(bpf_harden(OWN, 0, NULL, room, 16, NULL, (void *)(room - 16)), BPF_BAD_MEMORY);
+    WANTS(bpf_certify(OWN, 0, NULL, room, 16, (char *)proof, 64, (void *)own, NULL), BPF_BAD_MEMORY);
+    WANTS(bpf_certify(OWN, 0, NULL, room, 16, (char *)proof, 64, (void *)(room + 8), NULL), BPF_BAD_MEMORY);
+    WANTS(bpf_certify(OWN, 0, NULL, room, 16, (char *)proof, 64, (void *)(proof + 56), NULL), BPF_BAD_MEMORY);
+    WANTS(bpf_certify(OWN, 0, NULL, room, 16, (char *)proof, 64, NULL, (void *)(own + 8)), BPF_BAD_MEMORY);
+    WANTS(bpf_certify(OWN, 0, NULL, room, 16, (char *)proof, 64, NULL, (void *)(room + 8)), BPF_BAD_MEMORY);
+    WANTS(bpf_certify(OWN, 0, NULL, room, 16, (char *)proof, 64, NULL, (void *)proof), BPF_BAD_MEMORY);
     WANTS(memcmp(own, before.at, all.len), 0);
     /* Behind all that is written there is room for them. */
     WANTS(bpf_harden(OWN, 0, NULL, room, 16, (void *)(room + 16), NULL), BPF_YES);
@@ -617,7 +710,7 @@ static void bad_answers(void) {
 }
 
 static void bad_texts(void) {
-    static const struct { char kind; uint32_t count; } kinds[] = {{'C', 13}, {'E', 10}, {'F', 9}, {'H', 13}, {'I', 5}, {'K', 5}, {'M', 7}, {'N', 2}};
+    static const struct { char kind; uint32_t count; } kinds[] = {{'C', 13}, {'E', 10}, {'F', 9}, {'H', 15}, {'I', 5}, {'K', 5}, {'M', 7}, {'N', 2}};
     char text[128] = "as it was";
     for (int i = 0; i < 8; i++) {
         WANTS(bpf_refusal_text((uint32_t)kinds[i].kind, 0, text, sizeof text), 0);
@@ -654,6 +747,7 @@ static int bad(void) {
     other_versions();
     bad_explanations();
     bad_following();
+    bad_certifying();
     sizes();
     bad_proposals();
     bad_answers();

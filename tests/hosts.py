@@ -90,7 +90,7 @@ CERTIFIED = {
     'c13': ('r0 = 0\nexit\n', 'bpfcert 1 0 2\nfn 0 1 *\nat 0 2\nr3 *\nend\n'),
 }
 
-KINDS = {f'{letter}{number}' for letter, first, last in [('C', 1, 13), ('E', 1, 8), ('F', 1, 9), ('I', 2, 4), ('K', 1, 3)] for number in range(first, last + 1)}
+KINDS = {f'{letter}{number}' for letter, first, last in [('C', 1, 13), ('E', 1, 8), ('F', 1, 9), ('H', 14, 14), ('I', 2, 4), ('K', 1, 3)] for number in range(first, last + 1)}
 
 
 def bpf(*words):
@@ -121,7 +121,7 @@ class Table:
     """Lines for hosts, and the command's answers to the same."""
 
     def __init__(self):
-        self.lines, self.wants, self.words = [], [], {}
+        self.lines, self.wants, self.words, self.made = [], [], {}, []
 
     def add(self, want, *words):
         self.lines.append(' '.join(map(str, words)))
@@ -139,6 +139,14 @@ class Table:
     def follows(self, order, old, new, notes, size, padded=0, turns=65536, untouched=0):
         words = [*(['--padded'] if padded else []), '--turns', turns, '--untouched', untouched]
         self.add(bpf('follows', *big(order), old, new, notes, size, *words), 'follows', order, old, new, notes, size, padded, turns, untouched)
+
+    def certify(self, order, image, size, bound=1000000, turns=0, padded=0, unproved=0):
+        """What is certified, and where the image and its certificate stand of both."""
+        here, there = FOLDER / f'{len(self.lines)}.here', FOLDER / f'{len(self.lines)}.there'
+        words = ['--bound', bound, *(['--turns', turns] if turns else []), *(['--padded'] if padded else []), *(['--unproved'] if unproved else [])]
+        done = subprocess.run([BPF, 'certify', *big(order), image, str(size), f'{there}.img', f'{there}.cert', *map(str, words)], capture_output=True, text=True, timeout=60)
+        self.add((done.returncode, done.stdout), 'certify', order, image, size, bound, turns, padded, unproved, f'{here}.img', f'{here}.cert')
+        self.made += [(f'{here}.{kind}', f'{there}.{kind}') for kind in ('img', 'cert')]
 
     def alone(self, image, certificate, context):
         self.add(bpf('run-checked', image, certificate, context), 'alone', 'little', image, len(context) // 2, context)
@@ -175,6 +183,8 @@ class Table:
         assert KINDS <= seen, sorted(KINDS - seen)
         for here, words in self.words.items():
             assert words and here.read_bytes() == words, (here, self.lines[int(here.stem)])
+        for here, there in map(lambda pair: map(pathlib.Path, pair), self.made):
+            assert here.exists() == there.exists() and (not there.exists() or here.read_bytes() == there.read_bytes()), here
         return len(got)
 
 
@@ -198,6 +208,16 @@ def fill_follows(table, images):
     for name in NO_IMAGES:
         table.follows('little', images[name]['little'], images['order.text']['little'], none, 16)
         table.follows('little', images['order.text']['little'], images[name]['little'], none, 16)
+
+
+def fill_certify(table, images):
+    """Images that stand as they are, that are hardened, and that aren't: for the greatest number of turns and for some, as blocks and not, with bounds that are too small."""
+    for name in ['every.text', 'order.text', *(f'{name}.text' for name in TEXTS), *(f'{path.stem}.text' for path in EXAMPLES.glob('*.asm'))]:
+        for order in ['little', 'big']:
+            for wish in [{}, {'bound': 1}, {'bound': 40}, {'turns': 3}, {'padded': 1}, {'unproved': 1}, {'turns': 9, 'padded': 1, 'unproved': 1}]:
+                table.certify(order, images[name][order], 16, **wish)
+    for name in NO_IMAGES:
+        table.certify('little', images[name]['little'], 16)
 
 
 def fill(table):
@@ -249,6 +269,7 @@ def fill(table):
             table.explain('little', path, **keys, slot=9, lines=lines)
             table.explain('little', path, **keys, graph=True)
     fill_follows(table, images)
+    fill_certify(table, images)
     for filter_of in [made_for.port, made_for.dns, made_for.checksum, made_for.histogram, made_for.rate, made_for.http]:
         path = EXAMPLES / f'c/{filter_of.__name__}.img'
         for context, _ in filter_of(random.Random(1)):
@@ -312,14 +333,15 @@ def texts():
         'C': texts_by_number('bpf_state', 'condition.rt'),
         'E': texts_by_number('bpf_insn', 'refusal.rt'),
         'F': texts_by_number('bpf_semantics', 'reason.rt'),
-        'H': [*texts_by_number('bpf_harden_notes'), "the hardened program isn't shown to keep the meaning"],
+        'H': [*texts_by_number('bpf_harden_notes'), "the hardened program isn't shown to keep the meaning",
+              'a run of the hardened program may take more instructions than are paid for', 'the checker refuses the certificate that was found'],
         'I': texts_by_number('bpf_infer_error'),
         'K': texts_by_number('bpf_cert'),
         'M': told['M'],
         'N': told['N'],
     }
     assert told == want, (told, want)
-    assert [len(it) for it in told.values()] == [13, 10, 9, 13, 5, 5, 7, 2], told
+    assert [len(it) for it in told.values()] == [13, 10, 9, 15, 5, 5, 7, 2], told
 
 
 def told(words, limit=None, **env):
@@ -339,7 +361,7 @@ def allocators():
     """With a host's own allocator, linked in or preloaded, each call answers as with the C library's, and keeps no block where a growth is refused."""
     port = [EXAMPLES / 'c/port.img', EXAMPLES / 'c/port.cert', '128', '128']
     usual = told([FOLDER / 'memory', *port])
-    assert len(usual) == 9 and all(it.startswith('1 ') for it in usual.values()), usual
+    assert len(usual) == 10 and all(it.startswith('1 ') for it in usual.values()), usual
     assert told([FOLDER / 'memory_own', *port]) == usual
     assert told([FOLDER / 'memory', *port], LD_PRELOAD=str(FOLDER / 'allocator.so')) == usual
     assert told([FOLDER / 'memory_own', 'refuse', *port]).keys() == {f'{name}:' for name in usual}
@@ -359,6 +381,9 @@ def limits():
         none = {answer for answer in found.values() if answer.startswith(nothing)}
         assert len(none) <= 1, found
         for name, answer in found.items():
+            if name == 'certify' and answer.split()[:2] == ['1', str(image.stat().st_size + int(usual['infer'].split()[1]))]:
+                # the image as it is, with the plain search's certificate
+                continue
             whole = [usual[name], usual[{'search': 'infer', 'explain_search': 'explain_infer'}.get(name, name)]]
             assert answer in none or answer in whole, (megabytes, name, answer, whole)
             seen.add((name, answer in none))

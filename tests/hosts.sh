@@ -72,8 +72,8 @@ fi
 rustc --edition 2024 -O -D warnings -L "$dir/lib" "$root/examples/hosts/filter.rs" -o "$dir/filter_rs"
 # A library of another version is told by both wrappers, and nothing else of it is called.
 mkdir "$dir/other"
-for call in loaded_size load run_loaded explain refusal_text; do
-    echo "void bpf_host_$call(void) { __builtin_trap(); }"
+for call in $(grep -oE '^[a-z0-9_]+ bpf_host_[a-z_]+' "$root/include/bpf.h" | cut -d ' ' -f 2); do
+    [ "$call" = bpf_host_version ] || echo "void $call(void) { __builtin_trap(); }"
 done >"$dir/other/other.c"
 echo 'unsigned bpf_host_version(void) { return 199; }' >>"$dir/other/other.c"
 "${CC:-cc}" -c "$dir/other/other.c" -o "$dir/other/other.o"

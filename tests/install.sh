@@ -66,7 +66,7 @@ makes_tree() {
     cp "$root/tests/prebuilt.sh" "$root/tests/library.sh" "$tree/tests"
     printf 'bpf_host staticlib:\nother:\nbpf:\n' >"$tree/crates.txt"
     echo one >"$tree/crates/bpf/src/main.rt"
-    touch "$tree"/crates/bpf_host/src/{lib,explaining}.rt "$tree/crates/bpf_host/specs/Lib.antt" "$tree/crates/other/src/lib.rt" "$tree/crates/bpf/proofs/Answers.antt"
+    touch "$tree"/crates/bpf_host/src/{lib,explaining,certifying}.rt "$tree/crates/bpf_host/specs/Lib.antt" "$tree/crates/other/src/lib.rt" "$tree/crates/bpf/proofs/Answers.antt"
     ln -s "$kit/toolchain" "$kit/c" "$kit/rlibs" "$dir/kit"
     cat >"$dir/kit/bin/rattle" <<'RATTLE'
 #!/usr/bin/env bash
@@ -347,7 +347,7 @@ tries_ci() {
 # What ./test and .ci/run call, with their tests in the place of which each says its name.
 tries_test() {
     local name names status=0 quick
-    names=$(grep -oE 'tests/[a-z]+\.(sh|py)' "$root/test" | sort -u)
+    names=$(grep -oE 'tests/[a-z_]+\.(sh|py)' "$root/test" | sort -u)
     for name in $names; do
         [ "$name" = tests/library.sh ] || printf '#!/bin/sh\necho "%s $*" >>"%s/ran"\n' "$name" "$dir" >"$tree/$name"
         chmod +x "$tree/$name"
@@ -425,7 +425,7 @@ version=$(sed -n 's/^Version: //p' "$dir/real/lib/pkgconfig/bpf_host.pc")
 number=$(sed -n 's/^#define BPF_HOST_VERSION //p' "$root/include/bpf.h")
 for named in "CHANGELOG.md:## $version, " "examples/hosts/bpf-host/Cargo.toml:version = \"$version\"" "examples/hosts/bpf-host/src/lib.rs:pub const VERSION: u32 = $number;" \
     "include/bpf.h:/* The version of this header, $version, "; do
-    grep -m 1 -e '^## ' -e '^version = ' -e '^pub const VERSION' -e 'The version of this header' "$root/${named%%:*}" | grep -qF -- "${named#*:}" ||
+    grep -m 1 -e '^## [0-9]' -e '^version = ' -e '^pub const VERSION' -e 'The version of this header' "$root/${named%%:*}" | grep -qF -- "${named#*:}" ||
         complains "${named%%:*} has another version than $version"
 done
 [ "$("$dir/real/bin/bpf" --version 2>&1 | head -n 1)" = "bpf $version" ] || complains "bpf --version isn't $version"

@@ -40,6 +40,14 @@ static int32_t harden(void) {
     return bpf_harden(image, image_len, BPF_LITTLE, most, NULL, made, sizeof made, &wanted, &why);
 }
 
+static int32_t certify(void) {
+    struct bpf_certified told = {7, 7, 7, 7, 7, 7, 7};
+    /* The image stands in front of its certificate. */
+    int32_t answer = bpf_certify(image, image_len, BPF_LITTLE, most, NULL, made, IMAGE_MOST, (char *)made + IMAGE_MOST, sizeof made - IMAGE_MOST, &told, &why);
+    if (answer == BPF_YES) wanted = told.image_len + told.certificate_len;
+    return answer;
+}
+
 static int32_t explain(void) {
     return bpf_explain(image, image_len, BPF_LITTLE, certificate, certificate_len, NULL, (char *)made, sizeof made, &wanted, &why);
 }
@@ -60,7 +68,7 @@ static const struct {
     const char *name;
     int32_t (*call)(void);
 } CALLS[] = {
-    {"verify", verify}, {"load", load}, {"infer", infer}, {"search", search}, {"harden", harden},
+    {"verify", verify}, {"load", load}, {"infer", infer}, {"search", search}, {"harden", harden}, {"certify", certify},
     {"explain", explain}, {"explain_infer", explain_infer}, {"explain_search", explain_search},
     {"explain_image", explain_image},
 };
@@ -138,11 +146,12 @@ int main(int argc, char **argv) {
     int refuses = argc > 1 && !strcmp(argv[1], "refuse");
     char **word = argv + 1 + refuses;
     take_stack();
-    puts("begun");
-    fflush(stdout);
     if (argc != 5 + refuses) return 2;
+    /* What is read takes memory, too, so that too narrow a limit ends the process here. */
     image_len = read_file(word[0], image, sizeof image);
     certificate_len = read_file(word[1], certificate, sizeof certificate);
+    puts("begun");
+    fflush(stdout);
     least = (uint32_t)atoi(word[2]), most = (uint32_t)atoi(word[3]);
     return refuses ? refuse() : tell();
 }

@@ -190,10 +190,10 @@ def links_on_full_disks():
 def links_that_lead_nowhere():
     os.symlink('round', 'round')
     os.symlink('nowhere/file', 'lost')
-    # (what the link leads to has a name that can't be said in UTF-8)
+    # (what the link leads to has a name that can't be said in UTF-8; the kit has no other word for that)
     write(b'b\xffd')
     os.symlink(b'b\xffd', 'latin')
-    for out, why in (('round', 'Too many levels of symbolic links'), ('lost', 'No such file or directory'), ('latin', '')):
+    for out, why in (('round', 'Too many levels of symbolic links'), ('lost', 'No such file or directory'), ('latin', 'File name too long')):
         require_refused(out, why=why)
     require('what stood there', read(b'b\xffd'), OLD)
 

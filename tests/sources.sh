@@ -172,7 +172,7 @@ for crate in "$crates"/*/; do
     bare=$({
         [ -z "$specs" ] || definitions $specs
         [ -z "$sources" ] || clauses $sources
-    } | grep -vE "/($defined)\.antt:[0-9]+: [a-z_]+ = (pos \()?($limits)\)?\$" | grep -E "(^|[^[:alnum:]_])($limits)([^[:alnum:]_]|\$)")
+    } | grep -vE "/($defined)\.antt:[0-9]+: [a-z_]+ = (pos \()?($limits)\)?\$" | grep -E ":[0-9]+:(.*[^[:alnum:]_])?($limits)([^[:alnum:]_]|\$)")
     if [ -n "$bare" ]; then
         echo "these clauses and definitions have a limit's number in place of its name:"
         echo "$bare"

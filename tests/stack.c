@@ -1,5 +1,5 @@
 /* stack.c IMAGE CERTIFICATE..: each call in a thread with the stack that docs/HOSTS.md says is enough: 16 KB for preparing and running, 64 KB for
- * judging, 128 KB for inferring, 256 KB for hardening, for judging notes and for searching deeply, 512 KB for explaining. Beside the images that are named one of the
+ * judging, 128 KB for inferring, 256 KB for hardening, for certifying, for judging notes and for searching deeply, 512 KB for explaining. Beside the images that are named one of the
  * greatest length is tried, and one whose run comes to eight frames. */
 #include <bpf.h>
 #include <pthread.h>
@@ -46,8 +46,10 @@ static void *harden(void *at) {
     struct job *job = at;
     struct bpf_refusal why;
     size_t wanted;
+    struct bpf_certified told;
     const struct bpf_following asked = {job->verdict.least, 0, 0, 0};
     job->wrong |= bpf_harden(job->image, job->image_len, BPF_LITTLE, job->verdict.least, NULL, NULL, 0, &wanted, &why) == BPF_BAD_CALL;
+    job->wrong |= bpf_certify(job->image, job->image_len, BPF_LITTLE, job->verdict.least, NULL, NULL, 0, NULL, 0, &told, &why) == BPF_BAD_CALL;
     job->wrong |= bpf_follows(job->image, job->image_len, job->image, job->image_len, BPF_LITTLE, "", 0, &asked, &why) != BPF_NO || why.kind != BPF_NOTES;
     job->wrong |= bpf_infer(job->image, job->image_len, BPF_LITTLE, job->verdict.least, job->verdict.most, 1, NULL, 0, &wanted, &why) == BPF_BAD_CALL;
     return NULL;

@@ -54,6 +54,17 @@ int main(int, char **argv) {
     const bpf::Bytes proposed = bpf::infer(image, BPF_LITTLE, 128, 128), hardened = bpf::harden(image, BPF_LITTLE, 128);
     want(bpf::Filter(image, proposed, BPF_LITTLE, 1000).run(block.data(), block.size()) == 0, "a certificate that is proposed");
     want(hardened == image, "what needs no hardening");
+    const bpf::Certified certified = bpf::certify(image, BPF_LITTLE, 128);
+    want(certified.image == image && certified.told.is_rewritten == 0 && certified.told.is_shown == 1, "what stands as it is");
+    want(bpf::Filter(image, certified.certificate, BPF_LITTLE, certified.told.bound).run(block.data(), block.size()) == 0, "a certificate that is found");
+    const bpf_wish one = {1, 0, 0, 0, 0};
+    thrown = false;
+    try {
+        bpf::certify(image, BPF_LITTLE, 128, &one);
+    } catch (const bpf::Refused &why) {
+        thrown = std::string(why.what()).compare(0, 14, "refused by H14") == 0;
+    }
+    want(thrown, "a bound of 1");
     const bpf_hardening two = {0, 2, 0, 0, 0};
     thrown = false;
     try {

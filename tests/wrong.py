@@ -1,7 +1,8 @@
 #!/usr/bin/env python3
 """wrong.py: has the prover refuse each wrong body of crates/*/wrong (tests/edits.py has their form and their list).
 
-  wrong.py [NAME..]      tries those of these crates, or all, over the libraries that `rt ci` left in crates/*/out/rlib
+  wrong.py [NAME..]      tries those of these crates, over the libraries that `rt ci` left in crates/*/out/rlib; without names, those
+                         of all crates but the ones that edits.py says are tried by name
 
   --alone                each in a check of its own, where others of its crate would stand in the same one
   --anew                 also those that were refused on this machine before, with the same texts and libraries
@@ -276,7 +277,7 @@ def main():
     if faults:
         print("\n".join(faults))
         return 1
-    found = [it for it in good if not asked.names or it.crate in asked.names or it.name in asked.names]
+    found = [it for it in good if it.name in asked.names or it.crate in asked.names or not asked.names and it.crate not in edits.BY_NAME]
     wants_libraries({it.crate for it in found}, asked.libraries)
     kept = [] if asked.anew or asked.sane else [it for it in found if (KEPT / key_of(it, asked.libraries)).is_file()]
     left = [it for it in found if it not in kept]

@@ -15,7 +15,7 @@ namespace bpf {
 
 using Bytes = std::vector<std::uint8_t>;
 
-/* Why nothing is loaded, proposed or hardened: the image is refused, or a bound is above what the host pays for. */
+/* Why nothing is loaded, proposed, hardened or certified: the image is refused, or a bound is above what the host pays for. */
 class Refused : public std::runtime_error {
 public:
     explicit Refused(const std::string &why) : std::runtime_error(why) {}
@@ -51,7 +51,7 @@ public:
      * std::bad_alloc.
      */
     Filter(const Bytes &image, const Bytes &certificate, bpf_order order, std::uint32_t greatest) {
-        bpf_refusal why;
+        bpf_refusal why{};
         std::int32_t answer;
         if (bpf_version() != BPF_HOST_VERSION) throw std::logic_error("libbpf_host.a is of another version than bpf.h");
         size_ = bpf_loaded_size(image.size());
@@ -93,7 +93,7 @@ template <class Call> std::string written(std::size_t room, const bpf_refusal &w
 /* A certificate for an image, on contexts of `least` to `most` bytes, by the deep search unless `deep` is false. Throws Refused,
  * std::invalid_argument, and std::bad_alloc. */
 inline Bytes infer(const Bytes &image, bpf_order order, std::uint32_t least, std::uint32_t most, bool deep = true) {
-    bpf_refusal why;
+    bpf_refusal why{};
     const std::string text = written(bpf_infer_size(image.size()), why, [&](char *at, std::size_t room, std::size_t *wanted) {
         return bpf_infer(image.data(), image.size(), order, least, most, deep, at, room, wanted, &why);
     });
@@ -103,11 +103,28 @@ inline Bytes infer(const Bytes &image, bpf_order order, std::uint32_t least, std
 /* What an image is hardened to, for contexts of `size` bytes; `asked` as in bpf_harden. Throws Refused, std::invalid_argument, and
  * std::bad_alloc. */
 inline Bytes harden(const Bytes &image, bpf_order order, std::uint32_t size, const bpf_hardening *asked = nullptr) {
-    bpf_refusal why;
+    bpf_refusal why{};
     const std::string made = written(BPF_IMAGE_MOST, why, [&](char *at, std::size_t room, std::size_t *wanted) {
         return bpf_harden(image.data(), image.size(), order, size, asked, at, room, wanted, &why);
     });
     return Bytes(made.begin(), made.end());
+}
+
+/* An image that was certified, its certificate, and what is told of both. */
+struct Certified {
+    Bytes image, certificate;
+    bpf_certified told;
+};
+
+/* An image certified for contexts of `size` bytes, hardened where it needs to be; `wish` as in bpf_certify. Throws Refused, also where no run within
+ * the bound is to be had, std::invalid_argument, and std::bad_alloc. */
+inline Certified certify(const Bytes &image, bpf_order order, std::uint32_t size, const bpf_wish *wish = nullptr) {
+    const std::size_t made_room = BPF_IMAGE_MOST, text_room = bpf_infer_size(BPF_IMAGE_MOST);
+    const std::unique_ptr<char[]> made(new char[made_room]), text(new char[text_room]);
+    bpf_certified told;
+    bpf_refusal why{};
+    expect_yes(bpf_certify(image.data(), image.size(), order, size, wish, made.get(), made_room, text.get(), text_room, &told, &why), why);
+    return {Bytes(made.get(), made.get() + told.image_len), Bytes(text.get(), text.get() + told.certificate_len), told};
 }
 
 /* What is known of an image under a certificate, or why one of the two is refused: the words of `bpf explain`. Throws

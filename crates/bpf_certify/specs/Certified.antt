@@ -1,12 +1,18 @@
 -- What is answered of a program and a bound.
-use Rattle.std.specs.Prelude.{◌≡◌, ℕ, ◌≤◌, false, Option, Some, None, IsTrue}
-use Rattle.bpf_insn.specs.Instruction.{Instructions}
+use Rattle.std.specs.Prelude.{◌≡◌, ℕ, ◌<◌, ◌≤◌, List, false, Option, Some, None, IfSome, IsTrue}
+use Rattle.bpf_insn.specs.Instruction.{Instructions, slots}
 use Rattle.bpf_insn.specs.Limits.{frame_bytes}
 use Rattle.bpf_cert.specs.View.{CertificateView}
+use Rattle.bpf_safety.specs.Certified.{IsLeastFlaw}
 use Rattle.bpf_check.specs.CheckedProgram.{IsCertifiedBy}
+use Rattle.bpf_check.specs.RefusalNumbers.{refusal_number, refusal_slot}
+use Rattle.bpf_check.specs.declared.refusal.Refusal.{Refusal}
 use Rattle.bpf_follows_law.specs.declared.notes.Bounds.{Bounds}
+use Rattle.bpf_follows_law.specs.declared.notes.Place.{Place}
+use Rattle.bpf_follows_law.specs.Matching.{Matches}
 use Rattle.bpf_follows_law.specs.Meaning.{KeepsMeaning}
-use Rattle.bpf_follows.specs.Mismatches.{mismatch_slot}
+use Rattle.bpf_follows.specs.Mismatches.{IsMismatch, mismatch_slot}
+use Rattle.bpf_follows.specs.declared.mismatch.Mismatch.{Mismatch}
 use Rattle.bpf_harden_notes.specs.RefusalNumbers.{harden_number, harden_slot}
 use Rattle.bpf_certify.specs.declared.wish.Wish.{Wish}
 use Rattle.bpf_certify.specs.declared.certified.Certified.{Certified}
@@ -26,6 +32,8 @@ certify_slot (Unshown m) = mismatch_slot m
 certify_slot (TooDear turns bound) = 0
 certify_slot (Uncertified r) = 0
 
+-- ---- what is certified
+
 -- the certificate certifies the program for contexts of this length, and its bound, which is this one, is at most what is asked for
 pub record IsPaid (program : Instructions) (certificate : CertificateView) (length most bound : ℕ) : Type 0 where
   pub certified : IsCertifiedBy program certificate
@@ -34,14 +42,30 @@ pub record IsPaid (program : Instructions) (certificate : CertificateView) (leng
   pub bound_is : certificate.steps ≡ bound
   pub within : bound ≤ most
 
+-- so many turns, if that is wished
+abbrev pub AreWished : Wish → ℕ → Type 0
+AreWished wish turns = IfSome wish.turns (λ wished. turns ≡ wished)
+
+-- runs for these contexts and turns
+abbrev pub runs_for : (length : ℕ) → Wish → (turns : ℕ) → Bounds
+runs_for length wish turns = record { length = length; padded = wish.padded; turns = turns; untouched = 0 }
+
+-- those of them that leave so many of the lowest bytes of each frame to r10
+abbrev pub leaving : Bounds → ℕ → Bounds
+leaving runs untouched = record { length = runs.length; padded = runs.padded; turns = runs.turns; untouched = untouched }
+
 -- the runs of which it is shown
 abbrev pub runs_of : ℕ → Wish → Rewritten → Bounds
-runs_of length wish r = record { length = length; padded = wish.padded; turns = r.turns; untouched = r.untouched }
+runs_of length wish r = leaving (runs_for length wish r.turns) r.untouched
 
--- The certificate is the new program's; and where it is told so, that one keeps the meaning of the old one, for the turns and the bytes that are told.
+-- The certificate is that of the new program, which has the old one's byte order, for the turns that are wished. Where it is told so, the notes
+-- show that it keeps the meaning of the old one, for the turns and the bytes that are told.
 pub record IsRewritten (old : Instructions) (length : ℕ) (wish : Wish) (c : Certified) (r : Rewritten) : Type 0 where
   pub paid : IsPaid r.hardened.program c.certificate length wish.bound c.bound
+  pub order_is : r.hardened.program.order ≡ old.order
+  pub turns_are : AreWished wish r.turns
   pub few : r.untouched ≤ frame_bytes
+  pub matches : IsTrue r.is_shown → Matches old r.hardened.program r.notes.items (runs_of length wish r)
   pub keeps : IsTrue r.is_shown → KeepsMeaning old r.hardened.program (runs_of length wish r)
 
 -- the certificate is the program's own, where nothing was rewritten and contexts aren't blocks
@@ -51,3 +75,38 @@ StandsFor old length wish c (Some r) = IsRewritten old length wish c r
 
 abbrev pub Answers : Instructions → ℕ → Wish → Certified → Type 0
 Answers old length wish c = StandsFor old length wish c c.rewritten
+
+-- ---- what is refused
+
+-- this fails first of notes for a new program, for the turns that are wished
+pub record IsUnshown (old : Instructions) (length : ℕ) (wish : Wish) (m : Mismatch) : Type 0 where
+  pub made : Instructions
+  pub notes : List (Option Place)
+  pub turns : ℕ
+  pub turns_are : AreWished wish turns
+  pub fails : IsMismatch old made notes (runs_for length wish turns) m
+
+-- memory ran out, or this fails first of notes for a new program and these runs
+abbrev pub IsUnjudged : (old made : Instructions) → Bounds → CertifyError → Type 0
+IsUnjudged old made runs (Unhardened e) = harden_slot e ≡ 0
+IsUnjudged old made runs (Unshown m) = (notes : List (Option Place)) × IsMismatch old made notes (leaving runs 0) m
+IsUnjudged old made runs (TooDear turns bound) = ⊥
+IsUnjudged old made runs (Uncertified r) = ⊥
+
+-- this is the first flaw of a program for which a certificate was found
+abbrev pub IsFlawed : Instructions → Refusal → Type 0
+IsFlawed program r = (c : CertificateView) × IsLeastFlaw program c (refusal_slot r) (refusal_number r)
+
+-- no certificate was found, or it is too dear, or doesn't certify
+abbrev pub IsUnpaid : Instructions → (turns most : ℕ) → CertifyError → Type 0
+IsUnpaid program turns most (Unhardened e) = harden_slot e ≡ 0
+IsUnpaid program turns most (Unshown m) = ⊥
+IsUnpaid program turns most (TooDear tried bound) = (tried ≡ turns) × (most < bound)
+IsUnpaid program turns most (Uncertified r) = IsFlawed program r
+
+-- H1 to H12 name a slot of the program; H13 what fails of notes; H14 a bound above the wish, with the turns that are wished; H15 a flaw
+abbrev pub IsRefused : Instructions → ℕ → Wish → CertifyError → Type 0
+IsRefused old length wish (Unhardened e) = harden_slot e < slots old.list
+IsRefused old length wish (Unshown m) = IsUnshown old length wish m
+IsRefused old length wish (TooDear turns bound) = AreWished wish turns × (wish.bound < bound)
+IsRefused old length wish (Uncertified r) = (made : Instructions) × IsFlawed made r

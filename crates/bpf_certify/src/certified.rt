@@ -1,11 +1,12 @@
 //! Certified programs.
 
-ghost use Rattle.std.specs.Prelude.{◌≡◌, ◌≤◌, false, IsTrue, IfOk, IfSome, MatchOption};
+ghost use Rattle.std.specs.Prelude.{◌≡◌, ◌<◌, ◌≤◌, ◌↔◌, ℕ, false, IsTrue, IfOk, IfErr, IfSome};
+ghost use Rattle.bpf_insn.specs.Instruction.{slots};
 ghost use Rattle.bpf_insn.specs.Limits.{frame_bytes, max_context};
-ghost use Rattle.bpf_follows_law.specs.Meaning.{KeepsMeaning};
 ghost use Rattle.bpf_follows_law.specs.Matching.{Matches};
-ghost use Rattle.bpf_follows.specs.Mismatches.{IsMismatch};
-ghost use Rattle.bpf_certify.specs.Certified.{Answers, IsPaid};
+ghost use Rattle.bpf_harden_notes.specs.declared.error.HardenError.TheVariants.{Memory, NoBudget};
+ghost use Rattle.bpf_certify.specs.Certified.{Answers, AreWished, IsPaid, IsRefused, IsUnjudged, IsUnpaid, certify_slot, leaving};
+ghost use Rattle.bpf_certify.specs.declared.error.CertifyError.TheVariants.{Unhardened};
 
 use crate::error::CertifyError;
 use crate::wish::Wish;
@@ -15,9 +16,9 @@ use bpf_follows::Mismatch;
 use bpf_follows_law::{Bounds, Place, matching_keeps_meaning};
 use bpf_harden::{Fitted, HardenError, Hardened, Options, Unfit, fit};
 use bpf_harden_follows::{Evidence, evidence_of};
-use bpf_infer::search;
+use bpf_infer::{InferError, search};
 use bpf_infer_base::Unwatched;
-use bpf_insn::{Code, Program};
+use bpf_insn::{Code, Order, Program};
 use std::alloc::Global;
 
 /// A program in the place of the one that was given, and what is shown of it.
@@ -63,18 +64,32 @@ struct Shown {
     notes: Vec<Option<Place>>,
 }
 
-/// A certificate with its bound, if it certifies the program for contexts of this length, and the bound is at most so much.
+/// The refusal where there is no certificate for a whole program.
+fn unfound() -> CertifyError
+    ensures { result ≡ Unhardened (NoBudget 0) }
+{
+    CertifyError::Unhardened(HardenError::NoBudget { slot: 0 })
+}
+
+/// A certificate with its bound, if one was found, for contexts of this length; the bound is at most so much; and it certifies the program.
 fn within_bound(
     program: &Program,
-    certificate: Certificate,
+    found: Option<Certificate>,
     length: u32,
     turns: u32,
     most: u32,
 ) -> Result<Paid, CertifyError>
-    ensures { IfOk result (λ p. IsPaid program.now p.certificate length most p.bound) }
+    ensures ok { IfOk result (λ p. IsPaid program.now p.certificate length most p.bound) }
+    ensures err { IfErr result (IsUnpaid program.now turns most) }
 {
+    let Some(certificate) = found else {
+        return Err(unfound());
+    };
+    if certificate.least() != length || certificate.most() != length {
+        return Err(unfound());
+    }
     let bound = certificate.steps();
-    if certificate.least() != length || certificate.most() != length || bound > most {
+    if bound > most {
         return Err(CertifyError::TooDear { turns, bound });
     }
     match check(program, &certificate) {
@@ -84,24 +99,42 @@ fn within_bound(
     Ok(Paid { certificate, bound })
 }
 
+/// Memory ran out.
+fn no_memory() -> CertifyError
+    ensures { result ≡ Unhardened Memory }
+{
+    CertifyError::Unhardened(HardenError::Memory)
+}
+
 /// The certificate of a program as it stands, if the deep search finds one within the bound.
-fn as_it_stands(alloc: Global, program: &Program, length: u32, wish: Wish) -> Option<Paid>
+fn as_it_stands(
+    alloc: Global,
+    program: &Program,
+    length: u32,
+    wish: Wish,
+) -> Result<Option<Paid>, CertifyError>
     requires { length ≤ max_context }
-    ensures { IfSome result (λ p. (wish.padded ≡ false) × IsPaid program.now p.certificate length wish.bound p.bound) }
+    ensures ok { IfOk result (λ found. IfSome found (λ p. (wish.padded ≡ false) × IsPaid program.now p.certificate length wish.bound p.bound)) }
+    ensures err { IfErr result (λ e. e ≡ Unhardened Memory) }
 {
     if wish.padded {
         // Of a block the program is given the packet, and not what its certificate speaks of.
-        return None;
+        return Ok(None);
     }
     match search(alloc, program, length, length, &mut Unwatched) {
-        Ok(certificate) => within_bound(program, certificate, length, 0, wish.bound).ok(),
-        Err(_) => None,
+        Ok(certificate) => {
+            let found = within_bound(program, Some(certificate), length, 0, wish.bound);
+            Ok(found.ok())
+        }
+        Err(InferError::Memory) => Err(no_memory()),
+        Err(_) => Ok(None),
     }
 }
 
 /// Nothing is shown, and nothing was looked at.
 fn unseen(alloc: Global) -> Shown
-    ensures { result.is_shown ≡ false }
+    ensures few { result.untouched ≡ 0 }
+    ensures unshown { result.is_shown ≡ false }
 {
     Shown {
         untouched: 0,
@@ -111,14 +144,25 @@ fn unseen(alloc: Global) -> Shown
     }
 }
 
-/// Whether what was found shows that the new program keeps the meaning of the old one.
-fn is_shown(old: &Program, new: &Program, found: &Evidence, runs: Bounds) -> bool
-    requires { MatchOption found.now.mismatch (Matches old.now new.now found.now.notes.items runs) (IsMismatch old.now new.now found.now.notes.items runs) }
-    ensures keeps { IsTrue result → KeepsMeaning old.now new.now runs }
+/// What was found, as it is told.
+fn seen(found: Evidence, is_shown: bool) -> Shown
+    ensures untouched { result.untouched ≡ found.untouched }
+    ensures shown { result.is_shown ≡ is_shown }
+    ensures notes { result.notes.items ≡ found.notes.items }
 {
-    let _slots = Code::slots(old);
-    matching_keeps_meaning();
-    found.mismatch.is_none()
+    Shown {
+        untouched: found.untouched,
+        is_shown,
+        mismatch: found.mismatch,
+        notes: found.notes,
+    }
+}
+
+/// Whether two byte orders are the same.
+fn same_order(a: Order, b: Order) -> bool
+    ensures { IsTrue result ↔ (a ≡ b) }
+{
+    a == b
 }
 
 /// What is shown of a hardened program: that it keeps the meaning of the old one, or it is refused, but where what isn't proved is wanted, too.
@@ -129,28 +173,48 @@ fn judged(
     runs: Bounds,
     wish: Wish,
 ) -> Result<Shown, CertifyError>
+    ensures order { IfOk result (λ _. new.now.program.order ≡ old.now.order) }
     ensures few { IfOk result (λ s. s.untouched ≤ frame_bytes) }
-    ensures keeps { IfOk result (λ s. IsTrue s.is_shown → KeepsMeaning old.now new.now.program (record { length = runs.length; padded = runs.padded; turns = runs.turns; untouched = s.untouched })) }
+    ensures shows { IfOk result (λ s. IsTrue s.is_shown → Matches old.now new.now.program s.notes.items (leaving runs s.untouched)) }
     ensures all { wish.unproved ≡ false → IfOk result (λ s. IsTrue s.is_shown) }
+    ensures err { IfErr result (IsUnjudged old.now new.now.program runs) }
 {
+    if !same_order(new.program.order(), old.order()) {
+        return Err(CertifyError::Unshown(Mismatch::Order));
+    }
     if wish.unproved && !wish.notes {
         return Ok(unseen(alloc));
     }
     let Ok(found) = evidence_of(alloc, old, new, runs) else {
-        return Err(CertifyError::Unhardened(HardenError::Memory));
+        return Err(no_memory());
     };
-    let untouched = found.untouched;
-    let shown = Bounds { untouched, ..runs };
-    let is_shown = is_shown(old, &new.program, &found, shown);
-    if let (Some(mismatch), false) = (found.mismatch, wish.unproved) {
-        return Err(CertifyError::Unshown(mismatch));
+    match found.mismatch {
+        None => Ok(seen(found, true)),
+        Some(_) if wish.unproved => Ok(seen(found, false)),
+        Some(mismatch) => Err(CertifyError::Unshown(mismatch)),
     }
-    Ok(Shown {
-        untouched,
-        is_shown,
-        mismatch: found.mismatch,
-        notes: found.notes,
-    })
+}
+
+/// The turns that are wished, or those that were found.
+fn turns_of(wish: Wish, found: u32) -> u32
+    ensures { AreWished wish result }
+{
+    wish.turns.unwrap_or(found)
+}
+
+/// Why a program isn't hardened for the wish.
+fn refusal_of(unfit: Unfit, program: &Program, wish: Wish) -> CertifyError
+    ensures { (length : ℕ) → IsRefused program.now length wish result }
+{
+    let slots = Code::slots(program);
+    match unfit {
+        Unfit::Refused(error) => CertifyError::Unhardened(error.within(slots)),
+        Unfit::TooDear { turns, bound } if bound > wish.bound => {
+            let turns = turns_of(wish, turns);
+            CertifyError::TooDear { turns, bound }
+        }
+        Unfit::TooDear { .. } => unfound(),
+    }
 }
 
 /// The program hardened for the wish, which isn't judged yet.
@@ -161,6 +225,8 @@ fn hardened(
     wish: Wish,
 ) -> Result<Fitted, CertifyError>
     requires { length ≤ max_context }
+    ensures ok { IfOk result (λ fitted. AreWished wish fitted.turns) }
+    ensures err { IfErr result (IsRefused program.now length wish) }
 {
     let options = Options {
         turns: 0,
@@ -169,27 +235,51 @@ fn hardened(
         everywhere: false,
     };
     match fit(alloc, program, length, &options, wish.bound, wish.turns) {
-        Ok(fitted) => Ok(fitted),
-        Err(Unfit::Refused(error)) => {
-            let error = error.within(Code::slots(program));
-            Err(CertifyError::Unhardened(error))
-        }
-        Err(Unfit::TooDear { turns, bound }) => Err(CertifyError::TooDear { turns, bound }),
+        Ok(Fitted { hardened, turns }) => Ok(Fitted {
+            hardened,
+            turns: turns_of(wish, turns),
+        }),
+        Err(unfit) => Err(refusal_of(unfit, program, wish)),
     }
 }
 
-/// A program hardened for the wish, judged.
-fn as_hardened(
+/// A hardened program and its certificate, which is no longer in what was done.
+fn taken(hardened: Hardened) -> (Hardened, Option<Certificate>)
+    ensures program { result.0.program ≡ hardened.program }
+{
+    let Hardened {
+        program,
+        certificate,
+        slots,
+        functions,
+        notes,
+    } = hardened;
+    let rest = Hardened {
+        program,
+        certificate: None,
+        slots,
+        functions,
+        notes,
+    };
+    (rest, certificate)
+}
+
+/// A program that was hardened for the wish, judged.
+fn as_fitted(
     alloc: Global,
     program: &Program,
+    fitted: Fitted,
     length: u32,
     wish: Wish,
 ) -> Result<Certified, CertifyError>
-    requires { length ≤ max_context }
+    requires { AreWished wish fitted.turns }
     ensures ok { IfOk result (Answers program.now length wish) }
     ensures shown { wish.unproved ≡ false → IfOk result (λ c. IfSome c.rewritten (λ r. IsTrue r.is_shown)) }
+    ensures err { IfErr result (IsRefused program.now length wish) }
 {
-    let Fitted { hardened, turns } = hardened(alloc, program, length, wish)?;
+    let _slots = Code::slots(program);
+    matching_keeps_meaning();
+    let Fitted { hardened, turns } = fitted;
     let runs = Bounds {
         length,
         padded: wish.padded,
@@ -197,24 +287,14 @@ fn as_hardened(
         untouched: 0,
     };
     let shown = judged(alloc, program, &hardened, runs, wish)?;
-    let Hardened {
-        program: new,
-        certificate,
-        slots,
-        functions,
-        notes,
-    } = hardened;
-    let Some(certificate) = certificate else {
-        return Err(CertifyError::Unhardened(HardenError::NoBudget { slot: 0 }));
-    };
-    let Paid { certificate, bound } = within_bound(&new, certificate, length, turns, wish.bound)?;
-    let hardened = Hardened {
-        program: new,
-        certificate: None,
-        slots,
-        functions,
-        notes,
-    };
+    let (hardened, found) = taken(hardened);
+    let Paid { certificate, bound } = within_bound(
+        &hardened.program,
+        found,
+        length,
+        turns,
+        wish.bound,
+    )?;
     Ok(Certified {
         rewritten: Some(Rewritten {
             hardened,
@@ -227,6 +307,22 @@ fn as_hardened(
         certificate,
         bound,
     })
+}
+
+/// A program hardened for the wish, judged.
+fn as_hardened(
+    alloc: Global,
+    program: &Program,
+    length: u32,
+    wish: Wish,
+) -> Result<Certified, CertifyError>
+    requires { length ≤ max_context }
+    ensures ok { IfOk result (Answers program.now length wish) }
+    ensures shown { wish.unproved ≡ false → IfOk result (λ c. IfSome c.rewritten (λ r. IsTrue r.is_shown)) }
+    ensures err { IfErr result (IsRefused program.now length wish) }
+{
+    let fitted = hardened(alloc, program, length, wish)?;
+    as_fitted(alloc, program, fitted, length, wish)
 }
 
 /// A certificate for contexts of `length` bytes, at most 4,096, whose bound is within the wish: of the program as it stands where the deep search
@@ -244,8 +340,11 @@ pub fn certify(
     requires { length ≤ max_context }
     ensures ok { IfOk result (Answers program.now length wish) }
     ensures shown { wish.unproved ≡ false → IfOk result (λ c. IfSome c.rewritten (λ r. IsTrue r.is_shown)) }
+    ensures err { IfErr result (IsRefused program.now length wish) }
+    ensures slot { IfErr result (λ e. certify_slot e < slots program.now.list) }
 {
-    match as_it_stands(alloc, program, length, wish) {
+    let _slots = Code::slots(program);
+    match as_it_stands(alloc, program, length, wish)? {
         Some(Paid { certificate, bound }) => Ok(Certified {
             rewritten: None,
             certificate,

@@ -2,7 +2,6 @@
 
 ghost use Rattle.std.specs.Prelude.{◌≡◌, ◌+◌, ◌<◌, ◌≤◌, ℕ, length, IfSome, IfNone, None};
 ghost use Rattle.bpf_classic.specs.Valid.{max_filter, names_no_cell, has_bad_constant, leads_outside, is_no_word, is_mod, is_not_in_seccomp, is_extension, not_for, fault_of, fault_of_raw, fault_at, IsLowestFault};
-ghost use Rattle.bpf_classic.specs.Machine.{divides, shifts};
 ghost use Rattle.bpf_classic.specs.Codes.{instruction_of};
 
 use crate::instruction::{Classic, LoadSize, Op, Source};
@@ -27,24 +26,6 @@ fn names_no_cell(i: &Classic) -> bool
     }
 }
 
-fn divides(op: Op) -> bool
-    ensures { result ≡ divides op }
-{
-    match op {
-        Op::Div | Op::Mod => true,
-        Op::Add | Op::Sub | Op::Mul | Op::Or | Op::And | Op::Lsh | Op::Rsh | Op::Xor => false,
-    }
-}
-
-fn shifts(op: Op) -> bool
-    ensures { result ≡ shifts op }
-{
-    match op {
-        Op::Lsh | Op::Rsh => true,
-        Op::Add | Op::Sub | Op::Mul | Op::Div | Op::Or | Op::And | Op::Mod | Op::Xor => false,
-    }
-}
-
 fn has_bad_constant(i: &Classic) -> bool
     ensures { result ≡ has_bad_constant i.now }
 {
@@ -52,7 +33,7 @@ fn has_bad_constant(i: &Classic) -> bool
         Classic::Alu {
             op,
             source: Source::K(k),
-        } => (divides(op) && k == 0) || (shifts(op) && k >= 32),
+        } => (op.divides() && k == 0) || (op.shifts() && k >= 32),
         Classic::Alu {
             op: _,
             source: Source::X,

@@ -37,6 +37,31 @@ pub enum Op {
     Xor,
 }
 
+impl Op {
+    ghost use Rattle.std.specs.Prelude.{◌≡◌};
+    ghost use Rattle.bpf_classic.specs.Machine.{divides, shifts};
+
+    /// Whether it divides, so that a second operand of 0 answers 0.
+    pub fn divides(self) -> bool
+        ensures { result ≡ divides self }
+    {
+        match self {
+            Op::Div | Op::Mod => true,
+            Op::Add | Op::Sub | Op::Mul | Op::Or | Op::And | Op::Lsh | Op::Rsh | Op::Xor => false,
+        }
+    }
+
+    /// Whether it shifts.
+    pub fn shifts(self) -> bool
+        ensures { result ≡ shifts self }
+    {
+        match self {
+            Op::Lsh | Op::Rsh => true,
+            Op::Add | Op::Sub | Op::Mul | Op::Div | Op::Or | Op::And | Op::Mod | Op::Xor => false,
+        }
+    }
+}
+
 /// The test of a conditional jump on A and a second operand, as unsigned numbers. Set holds where `A & operand` isn't zero.
 #[derive(Clone, Copy, Debug, PartialEq, Eq)]
 pub enum Test {

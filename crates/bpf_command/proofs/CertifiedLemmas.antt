@@ -5,6 +5,7 @@ use Rattle.bpf_insn.specs.Image.{image}
 use Rattle.bpf_insn.specs.Limits.{max_context}
 use Rattle.bpf_cert.specs.View.{CertificateView}
 use Rattle.bpf_cert.specs.Spelling.{certificate_text}
+use Rattle.bpf_follows_law.specs.declared.notes.Place.{Place}
 use Rattle.bpf_certify.specs.Certified.{Answers as IsAnswer, IsPaid, StandsFor}
 use Rattle.bpf_certify.specs.declared.certified.Certified.{Certified}
 use Rattle.bpf_certify.specs.declared.certified.Rewritten.{Rewritten}
@@ -23,7 +24,7 @@ use Rattle.bpf_answers.specs.Told.{OutputFails}
 use Rattle.bpf_answers.specs.declared.certified.Certification.{Certification}
 use Rattle.bpf_answers.specs.declared.failure.Failure.{Failure}
 use Rattle.bpf_answers.specs.declared.failure.Failure.TheVariants.{CannotRead, CannotWrite, NoMemory}
-use Rattle.bpf_command.specs.Certified.{AllPut, Behind, Certifies, CertifyFails, CertifySays, CertifyWithFails, CertifyWithSays, IsLoaded, IsMadeOf, NoPair, NotAllPut, NotAllStand, NotCertified, NotCertifiedWith, made_of, most_of, program_of, refused_as, rewriting_of, told_of, wish_of}
+use Rattle.bpf_command.specs.Certified.{AllPut, Behind, Certifies, CertifyFails, CertifySays, CertifyWithFails, CertifyWithSays, IsMadeOf, IsRefusedBy, NoPair, NotAllPut, NotAllStand, NotCertified, NotCertifiedWith, made_of, most_of, notes_of, program_of, refused_as, rewriting_of, told_of, wish_of}
 use Rattle.bpf_command.specs.Explained.{LinesAt}
 use Rattle.bpf_command.specs.Hardened.{BothStand, NotBothPut, NotBothStand}
 
@@ -35,14 +36,15 @@ paid_for program c length d None stands = stands.1
 paid_for program c length d (Some r) stands = stands.paid
 
 made_for : (program : Instructions) (c : Certifying) (length : ℕ) (d : Certified) (rewritten : Option Rewritten) → StandsFor program length (wish_of c) d rewritten
-    → (c.unproved ≡ false → IfSome rewritten (λ r. IsTrue r.is_shown)) → IsMadeOf program (program_of program rewritten) c length (rewriting_of c rewritten)
-made_for program c length d None stands shown = (refl, stands.0)
-made_for program c length d (Some r) stands shown = record { padded_is = refl; shown = shown; keeps = stands.keeps }
+    → (c.unproved ≡ false → IfSome rewritten (λ r. IsTrue r.is_shown)) → IsMadeOf program (program_of program rewritten) c length (notes_of rewritten) (rewriting_of c rewritten)
+made_for program c length d None stands shown = (refl, stands.0, refl)
+made_for program c length d (Some r) stands shown =
+    record { padded_is = refl; turns_are = stands.turns_are; order_is = stands.order_is; shown = shown; matches = stands.matches; keeps = stands.keeps }
 
 -- what was found for the program at the name is certified as it is told
 pub certifies_of : {S : Type 0} (opening : Opening S) (old : S) (c : Certifying) (new : S) (program : Instructions) (length : ℕ) (d : Certified)
     → (c.length ≤ max_context → length ≡ c.length) → LoadsImage opening c.order old c.input.now new program → IsAnswer program length (wish_of c) d
-    → (c.unproved ≡ false → IfSome d.rewritten (λ r. IsTrue r.is_shown)) → Certifies opening old c new (made_of program d) d.certificate (told_of c length d)
+    → (c.unproved ≡ false → IfSome d.rewritten (λ r. IsTrue r.is_shown)) → Certifies opening old c new (made_of program d) d.certificate (notes_of d.rewritten) (told_of c length d)
 certifies_of opening old c new program length d short loads answers shown = record {
   program = program;
   loads = loads;
@@ -52,17 +54,18 @@ certifies_of opening old c new program length d short loads answers shown = reco
 }
 
 -- the same of what is made, and told, of it
-pub certifies_as : {S : Type 0} (opening : Opening S) (old : S) (c : Certifying) (new : S) (made other : Instructions) (certificate : CertificateView) (told also : Certification) → made ≡ other → told ≡ also
-    → Certifies opening old c new other certificate also → Certifies opening old c new made certificate told
-certifies_as opening old c new made other certificate told also same_made same_told certifies =
-    subst (λ m. Certifies opening old c new m certificate told) (sym same_made) (subst (λ t. Certifies opening old c new other certificate t) (sym same_told) certifies)
+pub certifies_as : {S : Type 0} (opening : Opening S) (old : S) (c : Certifying) (new : S) (made other : Instructions) (certificate : CertificateView) (notes : List (Option Place)) (told also : Certification)
+    → made ≡ other → told ≡ also → Certifies opening old c new other certificate notes also → Certifies opening old c new made certificate notes told
+certifies_as opening old c new made other certificate notes told also same_made same_told certifies =
+    subst (λ m. Certifies opening old c new m certificate notes told) (sym same_made) (subst (λ t. Certifies opening old c new other certificate notes t) (sym same_told) certifies)
 
 -- what is answered of a program that isn't certified
-pub refused_said : {S : Type 0} (o : Opening S) (m : Making S) (b : Pairing S) (old : S) (c : Certifying) (new : S) (error : CertifyError) → IsLoaded o old c new → CertifySays o m b old c new (refused_as error)
-refused_said o m b old c new (errors.Unhardened e) loaded = loaded
-refused_said o m b old c new (errors.Unshown d) loaded = loaded
-refused_said o m b old c new (errors.TooDear turns bound) loaded = loaded
-refused_said o m b old c new (errors.Uncertified r) loaded = loaded
+pub refused_said : {S : Type 0} (o : Opening S) (m : Making S) (b : Pairing S) (old : S) (c : Certifying) (new : S) (error : CertifyError) → IsRefusedBy o old c new (refused_as error)
+    → CertifySays o m b old c new (refused_as error)
+refused_said o m b old c new (errors.Unhardened e) refused = refused
+refused_said o m b old c new (errors.Unshown d) refused = refused
+refused_said o m b old c new (errors.TooDear turns bound) refused = refused
+refused_said o m b old c new (errors.Uncertified r) refused = refused
 
 -- ---- what is put at the names
 
@@ -97,7 +100,7 @@ pair_left (Err f) m b old c made certificate new (inr first) = inr (inl first.1)
 
 -- ---- why they can't be put there
 
-IsOfWriting : Failure → Type 0
+abbrev IsOfWriting : Failure → Type 0
 IsOfWriting (CannotWrite name) = Unit {0}
 IsOfWriting NoMemory = Unit {0}
 IsOfWriting failure = ⊥
@@ -120,23 +123,23 @@ of_writing : {S : Type 0} (m : Making S) (b : Pairing S) (old : S) (c : Certifyi
 of_writing m b old c made certificate new f (inl fails) = no_pair b old c made certificate new f fails
 of_writing m b old c made certificate new f (inr fails) = no_texts m fails.0 (hardening_of c) new f fails.2
 
-fails_of : {S : Type 0} (o : Opening S) (m : Making S) (b : Pairing S) (old : S) (c : Certifying) (between new : S) (made : Instructions) (certificate : CertificateView) (told : Certification) (f : Failure)
-    → Certifies o old c between made certificate told → IsOfWriting f → NotAllPut m b between c made certificate new f → CertifyFails o m b old c new f
-fails_of o m b old c between new made certificate told (CannotWrite name) certifies writing fails = inr (between, made, certificate, told, certifies, fails)
-fails_of o m b old c between new made certificate told NoMemory certifies writing fails = tt
-fails_of o m b old c between new made certificate told (CannotRead name) certifies writing fails = absurd writing
-fails_of o m b old c between new made certificate told failure certifies writing fails = absurd writing
+fails_of : {S : Type 0} (o : Opening S) (m : Making S) (b : Pairing S) (old : S) (c : Certifying) (between new : S) (made : Instructions) (certificate : CertificateView) (notes : List (Option Place)) (told : Certification) (f : Failure)
+    → Certifies o old c between made certificate notes told → IsOfWriting f → NotAllPut m b between c made certificate new f → CertifyFails o m b old c new f
+fails_of o m b old c between new made certificate notes told (CannotWrite name) certifies writing fails = inr (between, made, certificate, notes, told, certifies, fails)
+fails_of o m b old c between new made certificate notes told NoMemory certifies writing fails = tt
+fails_of o m b old c between new made certificate notes told (CannotRead name) certifies writing fails = absurd writing
+fails_of o m b old c between new made certificate notes told failure certifies writing fails = absurd writing
 
-pub puts_fail : {S A : Type 0} (result : Result A Failure) (o : Opening S) (m : Making S) (b : Pairing S) (old : S) (c : Certifying) (between new : S) (made : Instructions) (certificate : CertificateView) (told : Certification)
-    → Certifies o old c between made certificate told → IfErr result (NotAllPut m b between c made certificate new) → IfErr result (CertifyFails o m b old c new)
-puts_fail (Ok s) o m b old c between new made certificate told certifies fails = tt
-puts_fail (Err f) o m b old c between new made certificate told certifies fails =
-    fails_of o m b old c between new made certificate told f certifies (of_writing m b between c made certificate new f fails) fails
+pub puts_fail : {S A : Type 0} (result : Result A Failure) (o : Opening S) (m : Making S) (b : Pairing S) (old : S) (c : Certifying) (between new : S) (made : Instructions) (certificate : CertificateView) (notes : List (Option Place)) (told : Certification)
+    → Certifies o old c between made certificate notes told → IfErr result (NotAllPut m b between c made certificate new) → IfErr result (CertifyFails o m b old c new)
+puts_fail (Ok s) o m b old c between new made certificate notes told certifies fails = tt
+puts_fail (Err f) o m b old c between new made certificate notes told certifies fails =
+    fails_of o m b old c between new made certificate notes told f certifies (of_writing m b between c made certificate new f fails) fails
 
-pub puts_left : {S A : Type 0} (result : Result A Failure) (o : Opening S) (m : Making S) (b : Pairing S) (old : S) (c : Certifying) (between new : S) (made : Instructions) (certificate : CertificateView) (told : Certification)
-    → Certifies o old c between made certificate told → IfErr result (λ _. NotAllStand m b between c made certificate new) → IfErr result (λ _. NotCertified o m b old c new)
-puts_left (Ok s) o m b old c between new made certificate told certifies left = tt
-puts_left (Err f) o m b old c between new made certificate told certifies left = inr (inl (between, made, certificate, told, certifies, left))
+pub puts_left : {S A : Type 0} (result : Result A Failure) (o : Opening S) (m : Making S) (b : Pairing S) (old : S) (c : Certifying) (between new : S) (made : Instructions) (certificate : CertificateView) (notes : List (Option Place)) (told : Certification)
+    → Certifies o old c between made certificate notes told → IfErr result (λ _. NotAllStand m b between c made certificate new) → IfErr result (λ _. NotCertified o m b old c new)
+puts_left (Ok s) o m b old c between new made certificate notes told certifies left = tt
+puts_left (Err f) o m b old c between new made certificate notes told certifies left = inr (inl (between, made, certificate, notes, told, certifies, left))
 
 output_fails : {S : Type 0} (o : Opening S) (m : Making S) (b : Pairing S) (old : S) (c : Certifying) (new : S) (f : Failure) → OutputFails f → CertifyFails o m b old c new f
 output_fails o m b old c new (CannotWrite name) fails = inl fails

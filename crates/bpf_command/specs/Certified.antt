@@ -7,9 +7,10 @@ use Rattle.bpf_cert.specs.View.{CertificateView}
 use Rattle.bpf_cert.specs.Spelling.{certificate_text}
 use Rattle.bpf_follows_law.specs.declared.notes.Bounds.{Bounds}
 use Rattle.bpf_follows_law.specs.declared.notes.Place.{Place}
+use Rattle.bpf_follows_law.specs.Matching.{Matches}
 use Rattle.bpf_follows_law.specs.Meaning.{KeepsMeaning}
 use Rattle.bpf_follows_notes.specs.NotesText.{notes_text}
-use Rattle.bpf_certify.specs.Certified.{IsPaid}
+use Rattle.bpf_certify.specs.Certified.{IsPaid, IsRefused}
 use Rattle.bpf_certify.specs.declared.certified.Certified.{Certified}
 use Rattle.bpf_certify.specs.declared.certified.Rewritten.{Rewritten}
 use Rattle.bpf_certify.specs.declared.error.CertifyError.{CertifyError}
@@ -52,26 +53,30 @@ wish_of c = record { bound = most_of c; turns = c.turns; otherwise = c.otherwise
 abbrev pub runs_told : ℕ → Rewriting → Bounds
 runs_told length r = record { length = length; padded = r.padded; turns = r.turns; untouched = r.untouched }
 
--- What is told of a hardened program: without `--unproved` it is shown; and what is shown keeps the meaning of the program at IN, for the very
--- contexts, turns and bytes left to r10 that are told.
-pub record IsRewriting (program made : Instructions) (c : Certifying) (length : ℕ) (r : Rewriting) : Type 0 where
+-- What is told of a hardened program, which has the byte order of the one at IN, for the turns that are asked for: without `--unproved` it is
+-- shown; and what is shown keeps the meaning of the program at IN, since the notes match, for the very contexts, turns and bytes left to r10
+-- that are told.
+pub record IsRewriting (program made : Instructions) (c : Certifying) (length : ℕ) (notes : List (Option Place)) (r : Rewriting) : Type 0 where
   pub padded_is : r.padded ≡ c.padded
+  pub turns_are : IfSome c.turns (λ asked. r.turns ≡ asked)
+  pub order_is : made.order ≡ program.order
   pub shown : c.unproved ≡ false → IsTrue r.is_shown
+  pub matches : IsTrue r.is_shown → Matches program made notes (runs_told length r)
   pub keeps : IsTrue r.is_shown → KeepsMeaning program made (runs_told length r)
 
 -- the program is the one at IN, and contexts aren't blocks; or it was hardened
-abbrev pub IsMadeOf : Instructions → Instructions → Certifying → ℕ → Option Rewriting → Type 0
-IsMadeOf program made c length None = (made ≡ program) × (c.padded ≡ false)
-IsMadeOf program made c length (Some r) = IsRewriting program made c length r
+abbrev pub IsMadeOf : Instructions → Instructions → Certifying → ℕ → List (Option Place) → Option Rewriting → Type 0
+IsMadeOf program made c length notes None = (made ≡ program) × (c.padded ≡ false) × (notes ≡ [])
+IsMadeOf program made c length notes (Some r) = IsRewriting program made c length notes r
 
 -- The image is a program's. The certificate certifies the program that was made of it, for contexts of the length that is told, which is the one
 -- that was asked for, with the bound that is told, which is at most the one that was asked for.
-pub record Certifies {S : Type 0} (opening : Opening S) (old : S) (c : Certifying) (new : S) (made : Instructions) (certificate : CertificateView) (told : Certification) : Type 0 where
+pub record Certifies {S : Type 0} (opening : Opening S) (old : S) (c : Certifying) (new : S) (made : Instructions) (certificate : CertificateView) (notes : List (Option Place)) (told : Certification) : Type 0 where
   pub program : Instructions
   pub loads : LoadsImage opening c.order old c.input.now new program
   pub length_is : c.length ≤ max_context → told.length ≡ c.length
   pub paid : IsPaid made certificate told.length (most_of c) told.bound
-  pub is_made : IsMadeOf program made c told.length told.rewriting
+  pub is_made : IsMadeOf program made c told.length notes told.rewriting
 
 -- the program for which the certificate is
 abbrev pub program_of : Instructions → Option Rewritten → Instructions
@@ -127,10 +132,6 @@ NotAllStand m b old c made certificate new =
 
 -- ---- the answers
 
--- the image is a program's, of which nothing is written
-abbrev pub IsLoaded : {S : Type 0} → Opening S → S → Certifying → S → Type 0
-IsLoaded opening old c new = (p : Instructions) × LoadsImage opening c.order old c.input.now new p
-
 -- what is answered where a program isn't certified
 abbrev pub refused_as : CertifyError → Answer
 refused_as (errors.Unhardened e) = NotHardened e
@@ -138,26 +139,33 @@ refused_as (errors.Unshown m) = NotShown m
 refused_as (errors.TooDear turns bound) = TooDear
 refused_as (errors.Uncertified r) = Uncertified
 
+-- The image is a program's, for which what is asked for is refused, and this is answered. Nothing is written.
+abbrev pub IsRefusedBy : {S : Type 0} → Opening S → S → Certifying → S → Answer → Type 0
+IsRefusedBy opening old c new answer =
+    (p : Instructions) × (length : ℕ) × (error : CertifyError) × LoadsImage opening c.order old c.input.now new p
+    × (c.length ≤ max_context → length ≡ c.length) × IsRefused p length (wish_of c) error × (answer ≡ refused_as error)
+
 -- what was certified is put at its names
 abbrev pub Stands : {S : Type 0} → Opening S → Making S → Pairing S → S → Certifying → S → Certification → Type 0
 Stands {S} o m b old c new told =
     (between : S) × (made : Instructions) × (certificate : CertificateView) × (notes : List (Option Place)) × (text : List ℕ)
-    × Certifies o old c between made certificate told × IfSome c.notes (λ _. text ≡ notes_text notes) × AllPut m b between c made certificate text new
+    × Certifies o old c between made certificate notes told × IfSome c.notes (λ _. text ≡ notes_text notes) × AllPut m b between c made certificate text new
 
 -- OUT, CERT and the texts stand at their names; or none of them is opened
 abbrev pub CertifySays : {S : Type 0} → Opening S → Making S → Pairing S → S → Certifying → S → Answer → Type 0
 CertifySays o m b old c new (NoImage e) = ImageRefused o c.order old c.input.now new e
-CertifySays o m b old c new (NotHardened e) = IsLoaded o old c new
-CertifySays o m b old c new (NotShown d) = IsLoaded o old c new
-CertifySays o m b old c new TooDear = IsLoaded o old c new
-CertifySays o m b old c new Uncertified = IsLoaded o old c new
+CertifySays o m b old c new (NotHardened e) = IsRefusedBy o old c new (NotHardened e)
+CertifySays o m b old c new (NotShown d) = IsRefusedBy o old c new (NotShown d)
+CertifySays o m b old c new TooDear = IsRefusedBy o old c new TooDear
+CertifySays o m b old c new Uncertified = IsRefusedBy o old c new Uncertified
 CertifySays o m b old c new (IsCertified told) = Stands o m b old c new told
 CertifySays o m b old c new answer = ⊥
 
 -- something was certified, of which this holds
 abbrev pub Behind : {S : Type 0} → Opening S → S → Certifying → (S → Instructions → CertificateView → Type 0) → Type 0
 Behind {S} o old c holds =
-    (between : S) × (made : Instructions) × (certificate : CertificateView) × (told : Certification) × Certifies o old c between made certificate told × holds between made certificate
+    (between : S) × (made : Instructions) × (certificate : CertificateView) × (notes : List (Option Place)) × (told : Certification)
+    × Certifies o old c between made certificate notes told × holds between made certificate
 
 abbrev pub CertifyFails : {S : Type 0} → Opening S → Making S → Pairing S → S → Certifying → S → Failure → Type 0
 CertifyFails o m b old c new (CannotRead name) = ImageFails o old c.input.now new (CannotRead name)

@@ -241,7 +241,7 @@ fn is_in_the_way<P: Places>(places: &P, asked: Hardening<'_>) -> Result<bool, Al
     let both = meet_either(places, asked.notes, asked.changes)?;
     let image = meets_one(places, asked.input, asked.notes)?;
     let source = meets_one(places, asked.input, asked.changes)?;
-    Ok(notes || changes || both || image || source)
+    Ok(notes | changes | both | image | source)
 }
 
 /// Whether a certificate would come in the place of other things that are written, or of the image.
@@ -255,7 +255,7 @@ fn is_certificate_in_the_way<P: Places>(
     let notes = meets_one(places, asked.certificate, asked.notes)?;
     let changes = meets_one(places, asked.certificate, asked.changes)?;
     let image = places.lead_to_one(asked.input, asked.certificate)?;
-    Ok(output || notes || changes || image)
+    Ok(output | notes | changes | image)
 }
 
 /// Whether something that is written would come in the place of the lines of the source.
@@ -266,7 +266,7 @@ fn are_lines_in_the_way<P: Places>(places: &P, asked: Certifying<'_>) -> Result<
     let certificate = meets_one(places, asked.certificate, asked.lines)?;
     let notes = meet_either(places, asked.notes, asked.lines)?;
     let changes = meet_either(places, asked.changes, asked.lines)?;
-    Ok(output || certificate || notes || changes)
+    Ok(output | certificate | notes | changes)
 }
 
 /// Whether what is written of a certification would come in the place of other things that are, or of what is read.
@@ -276,7 +276,7 @@ fn is_any_in_the_way<P: Places>(places: &P, asked: Certifying<'_>) -> Result<boo
     let hardened = is_in_the_way(places, asked.hardening())?;
     let certificate = is_certificate_in_the_way(places, asked)?;
     let lines = are_lines_in_the_way(places, asked)?;
-    Ok(hardened || certificate || lines)
+    Ok(hardened | certificate | lines)
 }
 
 /// Whether names of a request lead to one file where they may not.

@@ -16,9 +16,9 @@ const READS_OTHER: u8 = 5;
 
 /// What was asked for, and the table of the lines of the program's source, which may be empty.
 #[derive(Clone, Copy)]
-pub(crate) struct Source<'a> {
+pub(crate) struct Source<'a, 'b> {
     pub asked: Certifying<'a>,
-    pub lines: &'a [u8],
+    pub lines: &'b [u8],
 }
 
 /// Tells a sentence in a line of its own, with the line of the source at a slot, if it is known. Whether it can be written makes no
@@ -95,7 +95,7 @@ pub(crate) fn tell_image<H: Aside>(aside: &H, error: DecodeError) {
 }
 
 /// Tells why a program isn't certified, with its slot and the line of its source, if that is known.
-pub(crate) fn tell_refusal<H: Aside>(aside: &H, source: Source<'_>, error: CertifyError) {
+pub(crate) fn tell_refusal<H: Aside>(aside: &H, source: Source<'_, '_>, error: CertifyError) {
     let Source { asked, lines } = source;
     match error {
         CertifyError::Unhardened(error) => {

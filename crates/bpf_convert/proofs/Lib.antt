@@ -2,4 +2,15 @@ pub mod Steps
 pub mod Values
 pub mod Places
 pub mod Machine
+pub mod Frame
+pub mod Known
+pub mod Plain
+pub mod Operations
+pub mod Jumps
+pub mod Loading
 pub mod Simulation
+pub mod Narrow
+pub mod Answering
+pub mod Entry
+pub mod Theorem
+pub mod Tables

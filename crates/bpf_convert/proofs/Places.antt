@@ -38,7 +38,7 @@ alike_cond false a b a' b' x y = y
 alike_both : (a b a' b' : List Insn) → Alike a a' → Alike b b' → Alike (a ++ b) (a' ++ b')
 alike_both a b a' b' x y = length-append a b ∙ ap₂ (λ m n. m + n) x y ∙ sym (length-append a' b')
 
-alike_jump : (k d e : ℕ) → Alike (jump_code k d) (jump_code k e)
+pub alike_jump : (k d e : ℕ) → Alike (jump_code k d) (jump_code k e)
 alike_jump k d e = alike_cond (k == 0) [] (Ja (pos d) ∷ []) [] (Ja (pos e) ∷ []) refl refl
 
 alike_unless : (o : Option Cond) (source : Source) (d e : ℕ) → Alike (unless_code o source d) (unless_code o source e)

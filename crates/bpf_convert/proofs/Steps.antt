@@ -1,7 +1,9 @@
 -- Runs from their front, and which instructions stand at which slots.
-use Rattle.std.proofs.Common.{◌≡◌, ℕ, zero, suc, ◌+◌, ◌-◌, ◌≤◌, List, [], ◌∷◌, ◌++◌, length, drop, get_or, Bool, true, false, cond, Option, Some, None, refl, sym, ap, ap₂, ◌∙◌, subst, arith, append_assoc, length-append}
-use Rattle.std.specs.Prelude.{map, option_and_then, flat_map, ◌&&◌}
-use Rattle.std.proofs.lemmas.Bool.{false≢true}
+use Rattle.std.proofs.Common.{◌≡◌, ℕ, zero, suc, ◌+◌, ◌-◌, ◌<◌, ◌≤◌, List, [], ◌∷◌, ◌++◌, length, drop, get_or, Bool, true, false, cond, Option, Some, None, refl, sym, ap, ap₂, ◌∙◌, subst, arith, append_assoc, length-append}
+use Rattle.std.specs.Prelude.{map, max, option_and_then, flat_map, ◌&&◌}
+use Rattle.std.proofs.lemmas.Int.{clamps}
+use Rattle.std.proofs.lemmas.List.{get_or-drop, drop-drop}
+use Rattle.std.proofs.lemmas.Bool.{false≢true, cond_both}
 use Rattle.bpf_insn.specs.Instruction.{Instructions, slots_of, layout, insn_at}
 use Rattle.bpf_insn.specs.declared.order.Order.{Order}
 use Rattle.bpf_insn.specs.declared.instruction.Insn.{Insn}
@@ -10,6 +12,48 @@ use Rattle.bpf_semantics.specs.State.{State, number_of_register}
 use Rattle.bpf_semantics.specs.Step.{does, step_of, Step, finish_of, Finish, result_of_exit}
 use Rattle.bpf_semantics.specs.Run.{Steps}
 use Rattle.bpf_insn.specs.declared.instruction.Reg.TheVariants.{R0}
+use Rattle.bpf_convert.specs.Longest.{longest_of, longest_ways}
+
+-- ---- where instructions stand
+
+-- the longest way from a slot on
+abbrev pub far : Instructions → ℕ → ℕ
+far p slot = get_or (longest_ways p.list) slot 0
+
+pub record Stands (p : Instructions) (slot : ℕ) (i : Insn) : Type 0 where
+  pub insn : insn_at p.list slot ≡ Some i
+  pub ways : far p slot ≡ longest_of i (drop (slot + 1) (longest_ways p.list))
+
+abbrev pub HasAt : Instructions → ℕ → List Insn → Type 0
+HasAt p slot [] = Unit {0}
+HasAt p slot (i ∷ is) = Stands p slot i × HasAt p (slot + 1) is
+
+pub has_back : (p : Instructions) (slot : ℕ) (a b : List Insn) → HasAt p slot (a ++ b) → HasAt p (slot + length a) b
+has_back p slot [] b h = let e : slot ≡ slot + 0 = omega arith in subst (λ n. HasAt p n b) e h
+has_back p slot (i ∷ a) b h =
+    let e : slot + 1 + length a ≡ slot + length (i ∷ a) = omega arith in
+    subst (λ n. HasAt p n b) e (has_back p (slot + 1) a b h.1)
+
+-- ---- a step brings a run nearer to its end
+
+pub record Moves (p : Instructions) (s t : State) : Type 0 where
+  pub step : Step p s t
+  pub less : far p t.top.slot < far p s.top.slot
+
+-- an instruction that stands at the slot is done
+pub doing : (p : Instructions) (s t : State) (i : Insn) → Stands p s.top.slot i → does p.order i s ≡ Some t → far p t.top.slot < longest_of i (drop (s.top.slot + 1) (longest_ways p.list)) → Moves p s t
+unfolding step_of
+doing p s t i here d less = record { step = ap (option_and_then (λ i. does p.order i s)) here.insn ∙ d; less = omega (arith, here.ways) }
+
+-- the longest way from so far behind a slot, and from the next slot
+pub far_behind : (p : Instructions) (slot k : ℕ) → get_or (drop (slot + 1) (longest_ways p.list)) k 0 ≡ far p (slot + 1 + k)
+far_behind p slot k = get_or-drop (slot + 1) (longest_ways p.list) k 0
+
+pub far_next : (p : Instructions) (slot : ℕ) → far p (slot + 1) < 1 + get_or (drop (slot + 1) (longest_ways p.list)) 0 0
+far_next p slot =
+    let n : slot + 1 + 0 ≡ slot + 1 = omega arith in
+    let e : get_or (drop (slot + 1) (longest_ways p.list)) 0 0 ≡ far p (slot + 1) = far_behind p slot 0 ∙ ap (far p) n in
+    omega (arith, e)
 
 -- ---- a run ends with v from here
 
@@ -18,22 +62,36 @@ pub record Ends (p : Instructions) (s : State) (v : ℕ) : Type 0 where
   pub last : State
   pub leads : Steps p count s last
   pub ends : Finish p last v
+  pub within : count < far p s.top.slot
 
 front : (p : Instructions) (k : ℕ) (s t u : State) → Step p s t → Steps p k t u → Steps p (suc k) s u
 front p zero s t u step e = (s, refl, subst (λ x. Step p s x) (sym e) step)
 front p (suc k) s t u step h = (h.0, front p k s t h.0 step h.1, h.2)
 
-pub after : (p : Instructions) (s t : State) (v : ℕ) → Step p s t → Ends p t v → Ends p s v
-after p s t v step e = record { count = suc e.count; last = e.last; leads = front p e.count s t e.last step e.leads; ends = e.ends }
+pub after : (p : Instructions) (s t : State) (v : ℕ) → Moves p s t → Ends p t v → Ends p s v
+after p s t v moves e =
+    record {
+      count = suc e.count;
+      last = e.last;
+      leads = front p e.count s t e.last moves.step e.leads;
+      ends = e.ends;
+      within = omega (arith, e.within, moves.less);
+    }
 
--- an instruction that stands at the slot is done
-pub doing : (p : Instructions) (s t : State) (i : Insn) → insn_at p.list s.top.slot ≡ Some i → does p.order i s ≡ Some t → Step p s t
-unfolding step_of
-doing p s t i e d = ap (option_and_then (λ i. does p.order i s)) e ∙ d
+-- a test that leads one way or the other
+pub either : (p : Instructions) (s : State) (b : Bool) (t u : State) (v : ℕ) → Moves p s (cond b t u) → (b ≡ true → Ends p t v) → (b ≡ false → Ends p u v) → Ends p s v
+either p s b t u v moves there here = after p s (cond b t u) v moves (cond_both b t u (λ x. Ends p x v) there here)
 
-pub ending : (p : Instructions) (s : State) (v : ℕ) → insn_at p.list s.top.slot ≡ Some Exit → s.waiting ≡ [] → number_of_register s R0 ≡ Some v → Ends p s v
+pub ending : (p : Instructions) (s : State) (v : ℕ) → Stands p s.top.slot Exit → s.waiting ≡ [] → number_of_register s R0 ≡ Some v → Ends p s v
 unfolding finish_of
-ending p s v e w r = record { count = 0; last = s; leads = refl; ends = ap (option_and_then (λ i. result_of_exit s.waiting (number_of_register s R0) i)) e ∙ ap₂ (λ ws o. result_of_exit ws o Exit) w r }
+ending p s v here w r =
+    record {
+      count = 0;
+      last = s;
+      leads = refl;
+      ends = ap (option_and_then (λ i. result_of_exit s.waiting (number_of_register s R0) i)) here.insn ∙ ap₂ (λ ws o. result_of_exit ws o Exit) w r;
+      within = omega (arith, here.ways);
+    }
 
 -- ---- instructions of one slot each
 
@@ -70,26 +128,31 @@ pub narrow_layout : (is : List Insn) → AreNarrow is → layout is ≡ map Some
 narrow_layout [] h = refl
 narrow_layout (i ∷ is) h = ap₂ (λ xs ys. xs ++ ys) (slots_narrow i h.0) (narrow_layout is h.1)
 
--- ---- where instructions stand
-
-abbrev pub HasAt : Instructions → ℕ → List Insn → Type 0
-HasAt p slot [] = Unit {0}
-HasAt p slot (i ∷ is) = (insn_at p.list slot ≡ Some i) × HasAt p (slot + 1) is
-
-pub has_back : (p : Instructions) (slot : ℕ) (a b : List Insn) → HasAt p slot (a ++ b) → HasAt p (slot + length a) b
-has_back p slot [] b h = let e : slot ≡ slot + 0 = omega arith in subst (λ n. HasAt p n b) e h
-has_back p slot (i ∷ a) b h =
-    let e : slot + 1 + length a ≡ slot + length (i ∷ a) = omega arith in
-    subst (λ n. HasAt p n b) e (has_back p (slot + 1) a b h.1)
+-- ---- all instructions of a program stand where they do
 
 at_seam : (pre : List Insn) (i : Insn) (is : List Insn) → get_or (map Some (pre ++ i ∷ is)) (length pre) None ≡ Some i
 at_seam [] i is = refl
 at_seam (j ∷ pre) i is = at_seam pre i is
 
+ways_behind : (pre is : List Insn) → drop (length pre) (longest_ways (pre ++ is)) ≡ longest_ways is
+ways_behind [] is = refl
+ways_behind (i ∷ pre) is = ways_behind pre is
+
+stands : (p : Instructions) (pre : List Insn) (i : Insn) (is : List Insn) → layout p.list ≡ map Some p.list → p.list ≡ pre ++ i ∷ is → Stands p (length pre) i
+stands p pre i is flat e =
+    let ways : drop (length pre) (longest_ways p.list) ≡ longest_ways (i ∷ is) = ap (λ list. drop (length pre) (longest_ways list)) e ∙ ways_behind pre (i ∷ is) in
+    let n : length pre ≡ length pre + 0 = omega arith in
+    let behind : drop (length pre + 1) (longest_ways p.list) ≡ longest_ways is = sym (drop-drop 1 (length pre) (longest_ways p.list)) ∙ ap (drop 1) ways in
+    record {
+      insn = ap (λ cells. get_or cells (length pre) None) (flat ∙ ap (map Some) e) ∙ at_seam pre i is;
+      ways =
+          ap (λ k. get_or (longest_ways p.list) k 0) n ∙ sym (get_or-drop (length pre) (longest_ways p.list) 0 0) ∙ ap (λ ws. get_or ws 0 0) ways
+          ∙ ap (longest_of i) (sym behind);
+    }
+
 pub has_all : (p : Instructions) (is pre : List Insn) → layout p.list ≡ map Some p.list → p.list ≡ pre ++ is → HasAt p (length pre) is
 has_all p [] pre flat e = tt
 has_all p (i ∷ is) pre flat e =
-    let here : insn_at p.list (length pre) ≡ Some i = ap (λ cells. get_or cells (length pre) None) (flat ∙ ap (map Some) e) ∙ at_seam pre i is in
     let n : length (pre ++ i ∷ []) ≡ length pre + 1 = omega (arith, length-append pre (i ∷ [])) in
     let rest = has_all p is (pre ++ i ∷ []) flat (e ∙ sym (append_assoc pre (i ∷ []) is)) in
-    (here, subst (λ m. HasAt p m is) n rest)
+    (stands p pre i is flat e, subst (λ m. HasAt p m is) n rest)

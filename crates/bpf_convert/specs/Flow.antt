@@ -20,6 +20,21 @@ abbrev pub is_x : Register → Bool
 is_x A = false
 is_x X = true
 
+-- a constant has 32 bits
+abbrev pub is_word : ℕ → Bool
+is_word k = nat_le k 0xffffffff
+
+abbrev pub source_word : Source → Bool
+source_word (K k) = is_word k
+source_word FromX = true
+
+abbrev pub has_word : Classic → Bool
+has_word (Constant to k) = is_word k
+has_word (Alu op source) = source_word source
+has_word (JumpIf test source jt jf) = source_word source
+has_word (Return k) = is_word k
+has_word _ = true
+
 -- ---- what an instruction reads and sets
 
 abbrev pub reads_a : Classic → Bool
@@ -93,9 +108,9 @@ leads_on a (Return k) rest = true
 leads_on a ReturnA rest = true
 leads_on a _ rest = leads_to a (slice_get rest 0)
 
--- what an instruction reads is set, the exit is there if it is led to, and what follows knows no more
+-- its constant has 32 bits, what an instruction reads is set, the exit is there if it is led to, and what follows knows no more
 abbrev pub agrees : Layout → Annotated → List Annotated → Bool
-agrees l a rest = implies (reads_a a.insn) a.a && (implies (reads_x a.insn) a.x && (implies (uses_trap l a) l.trap && (is_beyond l a.insn || leads_on a a.insn rest)))
+agrees l a rest = has_word a.insn && (implies (reads_a a.insn) a.a && (implies (reads_x a.insn) a.x && (implies (uses_trap l a) l.trap && (is_beyond l a.insn || leads_on a a.insn rest))))
 
 abbrev pub all_agree : Layout → List Annotated → Bool
 all_agree l [] = true

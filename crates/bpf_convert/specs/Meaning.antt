@@ -1,16 +1,20 @@
 -- What a filter is given by a context, and what it is that a program answers what the filter does.
-use Rattle.std.specs.Prelude.{◌≡◌, ℕ, ◌^◌, ◌<◌, min, List, length, take, drop, map, Option, Some, if◌then◌else◌, ⊤}
+use Rattle.std.specs.Prelude.{◌≡◌, ℕ, ◌+◌, ◌<◌, ◌≤◌, slice_index, min, List, length, take, drop, map, true, Option, Some, if◌then◌else◌, ⊤}
+use Rattle.bpf_insn.specs.Limits.{max_context}
 use Rattle.bpf_insn.specs.Laws.{AreBytes}
 use Rattle.bpf_insn.specs.Order.{number_of}
 use Rattle.bpf_insn.specs.Instruction.{Instructions}
 use Rattle.bpf_insn.specs.declared.order.Order.TheVariants.{Big}
-use Rattle.bpf_insn.specs.declared.instruction.Insn.{Insn}
 use Rattle.bpf_semantics.specs.Run.{IsDone}
 use Rattle.bpf_classic.specs.Machine.{Given, answer}
+use Rattle.bpf_classic.specs.Valid.{IsFilter}
 use Rattle.bpf_classic.specs.declared.instruction.Classic.{Classic}
-use Rattle.bpf_classic.specs.declared.instruction.Classic.TheVariants.{Constant, Alu, JumpIf, Return}
-use Rattle.bpf_classic.specs.declared.instruction.Source.TheVariants.{K}
-use Rattle.bpf_convert.specs.Template.{head, room, is_block, is_swapped, is_masked, whole}
+use Rattle.bpf_classic.specs.declared.refusal.Kind.{Kind}
+use Rattle.bpf_convert.specs.Longest.{longest}
+use Rattle.bpf_convert.specs.Flow.{is_sound}
+use Rattle.bpf_convert.specs.Template.{head, room, is_block, is_swapped, is_masked, ahead_in, entry, whole}
+use Rattle.bpf_convert.specs.declared.layout.Form.{Form}
+use Rattle.bpf_convert.specs.declared.layout.Form.TheVariants.{Blocks, Plain, Seccomp}
 use Rattle.bpf_convert.specs.declared.layout.Layout.{Layout}
 use Rattle.bpf_convert.specs.declared.layout.Annotated.{Annotated}
 
@@ -31,10 +35,17 @@ given l context =
       masks = is_masked l;
     }
 
+-- a block has eight bytes in front of the packet, `struct seccomp_data` has 64 bytes
+abbrev pub HasForm : Form → List ℕ → Type 0
+HasForm Blocks context = 8 ≤ length context
+HasForm Plain context = ⊤
+HasForm Seccomp context = length context ≡ 64
+
 -- any bytes of the layout's length are a context
 pub record IsContext (l : Layout) (context : List ℕ) : Type 0 where
   pub length_is : length context ≡ l.length
   pub bytes : AreBytes context
+  pub form : HasForm l.form context
 
 abbrev pub insns : List Annotated → List Classic
 insns filter = map (λ a. a.insn) filter
@@ -42,14 +53,37 @@ insns filter = map (λ a. a.insn) filter
 abbrev pub program_of : Layout → List Annotated → Instructions
 program_of l filter = record { order = l.order; list = whole l filter }
 
--- on each context the program ends with what the filter answers
-abbrev pub Simulates : Layout → List Annotated → Type 0
-Simulates l filter = (context : List ℕ) (v : ℕ) → IsContext l context → answer (given l context) (insns filter) ≡ Some v → (n : ℕ) × IsDone (program_of l filter) context v n
+-- what `convert` gives: the program, the form of its contexts, the filter's instructions with what is known in front of each, and the
+-- slot at which the template of each begins
+pub record Conversion : Type 0 where
+  pub program : Instructions
+  pub layout : Layout
+  pub marked : List Annotated
+  pub starts : List ℕ
 
--- constants have 32 bits
-abbrev pub HasWord : Classic → Type 0
-HasWord (Constant to k) = k < 2 ^ 32
-HasWord (Alu op (K k)) = k < 2 ^ 32
-HasWord (JumpIf test (K k) jt jf) = k < 2 ^ 32
-HasWord (Return k) = k < 2 ^ 32
-HasWord _ = ⊤
+-- the templates stand behind the entry, one after another
+abbrev pub HasStarts : Layout → List Annotated → List ℕ → Type 0
+HasStarts l marked starts = (length starts ≡ length marked) × ((at : ℕ) → at < length marked → slice_index starts at ≡ length (entry l marked) + ahead_in l marked at)
+
+-- a program that is converted: the templates of the filter's instructions, marked with what agrees along every way
+pub record IsConverted (kind : Kind) (filter : List Classic) (l : Layout) (marked : List Annotated) (p : Instructions) : Type 0 where
+  pub valid : IsFilter kind filter
+  pub same : insns marked ≡ filter
+  pub sound : is_sound l marked ≡ true
+  pub short : l.length ≤ max_context
+  pub program : p ≡ program_of l marked
+
+-- what the filter answers the program ends with, within the longest way through it
+pub record EndsAlike (filter : List Classic) (l : Layout) (p : Instructions) (context : List ℕ) : Type 0 where
+  pub value : ℕ
+  pub answers : answer (given l context) filter ≡ Some value
+  pub steps : ℕ
+  pub within : steps ≤ longest p.list
+  pub done : IsDone p context value steps
+
+-- on each context
+abbrev pub KeepsAnswers : List Classic → Layout → Instructions → Type 0
+KeepsAnswers filter l p = (context : List ℕ) → IsContext l context → EndsAlike filter l p context
+
+abbrev pub ConversionKeepsAnswers : Type 0
+ConversionKeepsAnswers = (kind : Kind) (filter : List Classic) (l : Layout) (marked : List Annotated) (p : Instructions) → IsConverted kind filter l marked p → KeepsAnswers filter l p

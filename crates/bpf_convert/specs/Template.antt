@@ -1,6 +1,6 @@
 -- What each instruction of a filter becomes. The accumulator A is r0, the index register X is r3, each with zeros above 32 bits; r1 is the
 -- context, r2 how many bytes of the packet are there, r4 is scratch, and the cell M[i] is the frame's slot i + 1.
-use Rattle.std.specs.Prelude.{ℕ, ◌+◌, ◌-◌, ◌*◌, ◌%◌, ◌==◌, nat_lt, nat_le, min, ℤ, pos, ◌-ℤ◌, Bool, true, false, not, ◌&&◌, List, [], ◌∷◌, ◌++◌, length, get_or, drop, flat_map, Option, Some, None, if◌then◌else◌}
+use Rattle.std.specs.Prelude.{◌≡◌, ℕ, ◌+◌, ◌-◌, ◌*◌, ◌%◌, ◌==◌, nat_lt, nat_le, min, ℤ, pos, ◌-ℤ◌, Bool, true, false, not, ◌&&◌, List, [], ◌∷◌, ◌++◌, length, get_or, drop, flat_map, Option, Some, None, if◌then◌else◌}
 use Rattle.std.specs.List.{list_any, range_with_len}
 use Rattle.std.specs.Int.{cast_signed, w32}
 use Rattle.bpf_insn.specs.declared.order.Order.{Order}
@@ -251,6 +251,9 @@ most_slots = 30000
 
 abbrev pub from_on : List ℕ → ℕ → ℕ
 from_on table at = min (get_or table at 0) most_slots
+
+abbrev pub IsTable : Layout → List Annotated → List ℕ → Type 0
+IsTable l list table = (length table ≡ length list) × ((at : ℕ) → from_on table at ≡ total l (drop at list))
 
 abbrev pub way : List ℕ → ℕ → ℕ → ℕ
 way table from k = from_on table from - from_on table (from + k)

@@ -1,18 +1,21 @@
 //! The program of a filter.
 
-ghost use Rattle.std.specs.Prelude.{◌≡◌, ◌≤◌, ◌++◌, length, true, IfOk, OnOk};
+ghost use Rattle.std.specs.Prelude.{◌≡◌, ◌≤◌, ◌+◌, ◌-◌, length, map, IfOk};
 ghost use Rattle.bpf_insn.specs.Limits.{max_context};
 ghost use Rattle.bpf_classic.specs.Valid.{max_filter};
-ghost use Rattle.bpf_convert.specs.Template.{room_insns, zero_if};
+ghost use Rattle.bpf_convert.specs.Template.{entry, whole, from_on, IsTable};
+ghost use Rattle.bpf_convert.specs.Meaning.{insns, program_of, IsConverted, HasStarts, KeepsAnswers};
 
-use crate::emit::{alu, cell_offset, constant, emit, test_wide};
 use crate::flow::{is_sound, reads_a, reads_x, uses_trap};
+use crate::laws::conversion_keeps_answers;
 use crate::layout::{Annotated, Form, Layout};
 use crate::marks::annotate;
 use crate::ways::from_on;
+use crate::writing::{put_entry, put_templates, slots_from};
 use bpf_classic::{Classic, Filter};
-use bpf_insn::{AluOp, BuildError, Cond, Insn, Operand, Order, Program, Reg, Size, Width};
+use bpf_insn::{BuildError, Insn, Order, Program};
 use std::alloc::{AllocError, Global};
+use std::marker::Model;
 
 /// A filter's program, and what is known of it.
 #[derive(Drop)]
@@ -23,115 +26,12 @@ pub struct Converted {
     starts: Vec<u16>,
 }
 
-/// How many slots stand from the template of each instruction on: each is written once, with no distances, and counted.
-fn slots_from(alloc: Global, layout: &Layout, list: &[Annotated]) -> Result<Vec<u16>, AllocError>
-    requires { layout.now.length ≤ max_context }
-{
-    let mut table = Vec::with_capacity(alloc, list.len())?;
-    for _a in list {
-        table.push(0u16)?;
-    }
-    let mut scratch = Vec::with_capacity(alloc, 8)?;
-    let mut slots = 0u16;
-    for back in 0..list.len() {
-        let at = list.len() - 1 - back;
-        scratch.clear();
-        emit(&mut scratch, layout, &list[at], &[], 0)?;
-        slots = slots.saturating_add(scratch.len().min(8) as u16);
-        if let Some(place) = table.get_mut(at) {
-            *place = slots;
-        }
-    }
-    Ok(table)
-}
+impl Model for Converted {
+    ghost use Rattle.bpf_convert.specs.Meaning.{Conversion};
 
-/// Whether an instruction loads a cell.
-fn is_loaded(list: &[Annotated], wanted: u32) -> bool {
-    for a in list {
-        if let Classic::Cell { cell, .. } = a.insn {
-            if a.reached && cell == wanted {
-                return true;
-            }
-        }
-    }
-    false
-}
+    ghost Value = { Conversion };
 
-fn put_zero(out: &mut Vec<Insn>, dst: Reg) -> Result<(), AllocError>
-    ensures { OnOk result (out.new.items ≡ out.old.items ++ zero_if true dst) }
-{
-    out.push(Insn::Alu {
-        op: AluOp::Mov,
-        width: Width::W64,
-        dst,
-        src: Operand::Imm(0),
-    })?;
-    Ok(())
-}
-
-/// How many bytes of the packet are there: as a block says, but not more than it can hold.
-fn put_room(out: &mut Vec<Insn>, layout: &Layout) -> Result<(), AllocError>
-    ensures { OnOk result (out.new.items ≡ out.old.items ++ room_insns layout.now) }
-{
-    out.push(Insn::Load {
-        size: Size::DW,
-        dst: Reg::R2,
-        src: Reg::R1,
-        off: 0,
-    })?;
-    let room = constant(layout.room());
-    out.push(test_wide(Cond::Le, Reg::R2, room, 1))?;
-    out.push(Insn::Alu {
-        op: AluOp::Mov,
-        width: Width::W64,
-        dst: Reg::R2,
-        src: room,
-    })?;
-    Ok(())
-}
-
-/// The entry: how many bytes are there, and zeros where something may be read before anything has set it.
-fn put_entry(out: &mut Vec<Insn>, layout: &Layout, list: &[Annotated]) -> Result<(), AllocError> {
-    if matches!(layout.form, Form::Blocks) {
-        put_room(out, layout)?;
-    }
-    if layout.zero_a {
-        put_zero(out, Reg::R0)?;
-    }
-    if layout.zero_x {
-        put_zero(out, Reg::R3)?;
-    }
-    for cell in 0..16 {
-        if is_loaded(list, cell) {
-            out.push(Insn::StoreImm {
-                size: Size::DW,
-                dst: Reg::R10,
-                off: cell_offset(cell),
-                imm: 0,
-            })?;
-        }
-    }
-    Ok(())
-}
-
-/// The templates one after another, and the exit that answers 0 behind them.
-fn put_templates(
-    out: &mut Vec<Insn>,
-    layout: &Layout,
-    list: &[Annotated],
-    table: &[u16],
-) -> Result<(), AllocError>
-    requires few { length list.now ≤ max_filter }
-    requires short { layout.now.length ≤ max_context }
-{
-    for at in 0..list.len() {
-        emit(out, layout, &list[at], table, at + 1)?;
-    }
-    if layout.trap {
-        out.push(alu(AluOp::Mov, Reg::R0, Operand::Imm(0)))?;
-        out.push(Insn::Exit)?;
-    }
-    Ok(())
+    ghost view = { λ c. record { program = c.program; layout = c.layout; marked = c.list.items; starts = c.starts.items } };
 }
 
 /// Whether an instruction may read A before anything has set it.
@@ -190,19 +90,21 @@ fn annotated(
     ensures length { IfOk result (λ r. r.0.length ≡ layout.now.length) }
     ensures form { IfOk result (λ r. r.0.form ≡ layout.now.form) }
     ensures order { IfOk result (λ r. r.0.order ≡ layout.now.order) }
+    ensures same { IfOk result (λ r. insns r.1.items ≡ filter.now) }
 {
     let list = annotate(alloc, filter, layout)?;
     let zeros = with(layout, reads_unset_a(&list), reads_unset_x(&list), false);
-    let list = if zeros.zero_a || zeros.zero_x {
-        annotate(alloc, filter, &zeros)?
-    } else {
-        list
-    };
-    let trap = needs_trap(&zeros, &list);
-    Ok((with(&zeros, zeros.zero_a, zeros.zero_x, trap), list))
+    if !zeros.zero_a && !zeros.zero_x {
+        let trap = needs_trap(&zeros, &list);
+        return Ok((with(&zeros, false, false, trap), list));
+    }
+    let again = annotate(alloc, filter, &zeros)?;
+    let trap = needs_trap(&zeros, &again);
+    Ok((with(&zeros, zeros.zero_a, zeros.zero_x, trap), again))
 }
 
-/// The program of a filter, for contexts of `length` bytes in a form: from 0 to 4,096, of blocks at least 8, of seccomp 64.
+/// The program of a filter, for contexts of `length` bytes in a form: from 0 to 4,096, of blocks at least 8, of seccomp 64. On each
+/// such context it ends with what the filter answers, within the longest way through it. `Memory` if memory runs out.
 pub fn convert(
     alloc: Global,
     filter: &Filter,
@@ -211,7 +113,14 @@ pub fn convert(
     order: Order,
 ) -> Result<Converted, BuildError>
     requires { length ≤ max_context }
+    ensures converted { IfOk result (λ c. IsConverted filter.now.kind filter.now.list c.layout c.marked c.program) }
+    ensures answers { IfOk result (λ c. KeepsAnswers filter.now.list c.layout c.program) }
+    ensures starts { IfOk result (λ c. HasStarts c.layout c.marked c.starts) }
+    ensures form { IfOk result (λ c. c.layout.form ≡ form) }
+    ensures length { IfOk result (λ c. c.layout.length ≡ length) }
+    ensures order { IfOk result (λ c. c.layout.order ≡ order) }
 {
+    conversion_keeps_answers();
     let layout = Layout {
         form,
         length,
@@ -224,29 +133,14 @@ pub fn convert(
     let Ok((layout, list)) = annotated(alloc, instructions, &layout) else {
         return Err(BuildError::Memory);
     };
-    if list.len() != instructions.len() || !is_sound(&layout, &list) {
+    if !is_sound(&layout, &list) {
         return Err(BuildError::Length);
     }
-    let Ok(table) = slots_from(alloc, &layout, &list) else {
-        return Err(BuildError::Memory);
-    };
-    let Ok((out, first)) = written(alloc, &layout, &list, &table) else {
-        return Err(BuildError::Memory);
-    };
-    let program = Program::new(alloc, out, order)?;
-    let Ok(starts) = starts_of(alloc, &table, first) else {
-        return Err(BuildError::Memory);
-    };
-    Ok(Converted {
-        program,
-        layout,
-        list,
-        starts,
-    })
+    written(alloc, layout, list)
 }
 
 /// The whole program, and how many slots its entry has.
-fn written(
+fn put_all(
     alloc: Global,
     layout: &Layout,
     list: &[Annotated],
@@ -254,6 +148,9 @@ fn written(
 ) -> Result<(Vec<Insn>, usize), AllocError>
     requires few { length list.now ≤ max_filter }
     requires short { layout.now.length ≤ max_context }
+    requires table { IsTable layout.now list.now table.now }
+    ensures whole { IfOk result (λ r. r.0.items ≡ whole layout.now list.now) }
+    ensures entry { IfOk result (λ r. r.1 ≡ length (entry layout.now list.now)) }
 {
     let mut out = Vec::with_capacity(alloc, usize::from(from_on(table, 0)) + 24)?;
     put_entry(&mut out, layout, list)?;
@@ -262,35 +159,75 @@ fn written(
     Ok((out, first))
 }
 
+/// The program of instructions that are marked, with what is known of it.
+fn written(alloc: Global, layout: Layout, list: Vec<Annotated>) -> Result<Converted, BuildError>
+    requires few { length list.items ≤ max_filter }
+    requires short { layout.length ≤ max_context }
+    ensures program { IfOk result (λ c. c.program ≡ program_of layout list.items) }
+    ensures layout { IfOk result (λ c. c.layout ≡ layout) }
+    ensures marked { IfOk result (λ c. c.marked ≡ list.items) }
+    ensures starts { IfOk result (λ c. HasStarts layout list.items c.starts) }
+{
+    let Ok(table) = slots_from(alloc, &layout, &list) else {
+        return Err(BuildError::Memory);
+    };
+    let Ok((out, first)) = put_all(alloc, &layout, &list, &table) else {
+        return Err(BuildError::Memory);
+    };
+    let Ok(starts) = starts_of(alloc, &table, first) else {
+        return Err(BuildError::Memory);
+    };
+    match Program::new(alloc, out, layout.order) {
+        Ok(program) => Ok(Converted {
+            program,
+            layout,
+            list,
+            starts,
+        }),
+        Err(error) => Err(error),
+    }
+}
+
 /// The slot at which the template of each instruction begins.
-fn starts_of(alloc: Global, table: &[u16], first: usize) -> Result<Vec<u16>, AllocError> {
+fn starts_of(alloc: Global, table: &[u16], first: usize) -> Result<Vec<u16>, AllocError>
+    requires { first ≤ 21 }
+    ensures { IfOk result (λ starts. starts.items ≡ map (λ slots. first + (from_on table.now 0 - slots)) table.now) }
+{
     let mut starts = Vec::with_capacity(alloc, table.len())?;
     for slots in table {
-        starts.push(
-            (first.min(1000) as u16).saturating_add(from_on(table, 0).saturating_sub(*slots)),
-        )?;
+        starts.push(first as u16 + from_on(table, 0).saturating_sub(*slots))?;
     }
     Ok(starts)
 }
 
 impl Converted {
+    ghost use Rattle.std.specs.Prelude.{◌≡◌};
+
     /// The program.
-    pub fn program(&self) -> &Program {
+    pub fn program(&self) -> &Program
+        ensures { result.now ≡ self.now.program }
+    {
         &self.program
     }
 
     /// The form and length of its contexts.
-    pub fn layout(&self) -> &Layout {
+    pub fn layout(&self) -> &Layout
+        ensures { result.now ≡ self.now.layout }
+    {
         &self.layout
     }
 
     /// The instructions of the filter, with what is known in front of each.
-    pub fn list(&self) -> &[Annotated] {
+    pub fn list(&self) -> &[Annotated]
+        ensures { result.now ≡ self.now.marked }
+    {
         &self.list
     }
 
     /// The slot at which the template of each instruction begins.
-    pub fn starts(&self) -> &[u16] {
+    pub fn starts(&self) -> &[u16]
+        ensures { result.now ≡ self.now.starts }
+    {
         &self.starts
     }
 }

@@ -1,25 +1,18 @@
 //! The templates: what each instruction of a filter becomes.
 
-ghost use Rattle.std.specs.Prelude.{◌≡◌, ◌++◌, ◌≤◌, ◌+◌, ℕ, [], ◌∷◌, pos, length, OnOk};
+ghost use Rattle.std.specs.Prelude.{◌≡◌, ◌++◌, ◌≤◌, OnOk};
 ghost use Rattle.bpf_insn.specs.Limits.{max_context};
-ghost use Rattle.bpf_insn.specs.declared.instruction.Width.TheVariants.{W32, W64};
-ghost use Rattle.bpf_insn.specs.declared.instruction.Insn.TheVariants.{Alu as AluInsn, Ja, JumpIf as JumpIfInsn};
 ghost use Rattle.bpf_classic.specs.Valid.{max_filter};
-ghost use Rattle.bpf_classic.specs.Machine.{same_op, same_test, divides, shifts};
-ghost use Rattle.bpf_convert.specs.Template.{constant, reg_of, operand_of, cell_offset, swap_of, length_test, at_code, index_code, header_code, any_load_code, length_insn, is_register, alu_code, inverse, jump_code, unless_code, if_code, plain_code, template, from_on, way, need};
+ghost use Rattle.bpf_classic.specs.Machine.{same_op, same_test};
+ghost use Rattle.bpf_convert.specs.Template.{reg_of, operand_of, cell_offset, length_insn, is_register, alu_code, inverse, jump_code, unless_code, if_code, plain_code, template, from_on, way};
 
-use crate::layout::{Annotated, Form, Layout, bytes, end_bits, head, insn_size, is_beyond, need};
+use crate::insns::{alu, constant, ja, put, test_low};
+use crate::layout::{Annotated, Form, Layout};
+use crate::loads::put_load;
 use crate::ways::{from_on, way};
-use bpf_classic::{Classic, LoadSize, Op, Register, Source, Test};
-use bpf_insn::{AluOp, Cond, EndKind, Insn, Operand, Reg, Size, Width};
+use bpf_classic::{Classic, Op, Register, Source, Test};
+use bpf_insn::{AluOp, Cond, Insn, Operand, Reg, Size, Width};
 use std::alloc::AllocError;
-
-/// The constant of an instruction.
-pub fn constant(k: u32) -> Operand
-    ensures { result ≡ constant k }
-{
-    Operand::Imm(k.cast_signed())
-}
 
 fn reg_of(register: Register) -> Reg
     ensures { result ≡ reg_of register }
@@ -84,198 +77,6 @@ fn inverse(test: Test) -> Option<Cond>
     }
 }
 
-fn put(out: &mut Vec<Insn>, insns: &[Insn]) -> Result<(), AllocError>
-    ensures { OnOk result (out.new.items ≡ out.old.items ++ insns.now) }
-{
-    out.extend_from_slice(insns)?;
-    Ok(())
-}
-
-/// An operation on low halves.
-pub fn alu(op: AluOp, dst: Reg, src: Operand) -> Insn
-    ensures { result ≡ AluInsn op W32 dst src }
-{
-    Insn::Alu {
-        op,
-        width: Width::W32,
-        dst,
-        src,
-    }
-}
-
-fn ja(distance: u16) -> Insn
-    requires { distance ≤ 32767 }
-    ensures { result ≡ Ja (pos distance) }
-{
-    Insn::Ja {
-        off: distance as i16,
-    }
-}
-
-/// A test of A's or X's low half.
-fn test_low(cond: Cond, dst: Reg, src: Operand, distance: u16) -> Insn
-    requires { distance ≤ 32767 }
-    ensures { result ≡ JumpIfInsn cond W32 dst src (pos distance) }
-{
-    Insn::JumpIf {
-        cond,
-        width: Width::W32,
-        dst,
-        src,
-        off: distance as i16,
-    }
-}
-
-/// A test of all 64 bits.
-pub fn test_wide(cond: Cond, dst: Reg, src: Operand, distance: u16) -> Insn
-    requires { distance ≤ 32767 }
-    ensures { result ≡ JumpIfInsn cond W64 dst src (pos distance) }
-{
-    Insn::JumpIf {
-        cond,
-        width: Width::W64,
-        dst,
-        src,
-        off: distance as i16,
-    }
-}
-
-/// The slots of the byte swap behind a load.
-fn swap_slots(layout: &Layout, size: LoadSize) -> u16
-    ensures same { result ≡ length (swap_of layout.now size) }
-    ensures few { result ≤ 1 }
-{
-    if layout.is_swapped() && end_bits(size).is_some() {
-        1
-    } else {
-        0
-    }
-}
-
-fn put_swap(out: &mut Vec<Insn>, layout: &Layout, size: LoadSize) -> Result<(), AllocError>
-    ensures { OnOk result (out.new.items ≡ out.old.items ++ swap_of layout.now size) }
-{
-    if !layout.is_swapped() {
-        return Ok(());
-    }
-    match end_bits(size) {
-        Some(bits) => put(
-            out,
-            &[Insn::End {
-                kind: EndKind::Be,
-                bits,
-                dst: Reg::R0,
-            }],
-        ),
-        None => Ok(()),
-    }
-}
-
-/// The test that as many bytes are there as an instruction needs, where that isn't known; the trap is `to` slots from the end of the
-/// template, of which `behind` slots follow.
-fn put_length_test(
-    out: &mut Vec<Insn>,
-    a: &Annotated,
-    behind: u16,
-    to: u16,
-) -> Result<(), AllocError>
-    requires few { need a.now.insn ≤ max_context }
-    requires near { to ≤ 30000 }
-    requires short { behind ≤ 10 }
-    ensures { OnOk result (out.new.items ≡ out.old.items ++ length_test a.now behind to) }
-{
-    let need = need(&a.insn);
-    if need <= u64::from(a.known) {
-        return Ok(());
-    }
-    let test = test_wide(Cond::Lt, Reg::R2, constant(need as u32), to + behind);
-    put(out, &[test])
-}
-
-fn put_at(
-    out: &mut Vec<Insn>,
-    layout: &Layout,
-    a: &Annotated,
-    place: (LoadSize, u32),
-    to: u16,
-) -> Result<(), AllocError>
-    requires few { need a.now.insn ≤ max_context }
-    requires low { place.1 ≤ max_context }
-    requires near { to ≤ 30000 }
-    ensures { OnOk result (out.new.items ≡ out.old.items ++ at_code layout.now a.now place.0 place.1 to) }
-{
-    let (size, k) = place;
-    put_length_test(out, a, 1 + swap_slots(layout, size), to)?;
-    let load = Insn::Load {
-        size: insn_size(size),
-        dst: Reg::R0,
-        src: Reg::R1,
-        off: (head(layout.form) + k) as i16,
-    };
-    put(out, &[load])?;
-    put_swap(out, layout, size)
-}
-
-fn put_index(
-    out: &mut Vec<Insn>,
-    layout: &Layout,
-    size: LoadSize,
-    k: u32,
-    to: u16,
-) -> Result<(), AllocError>
-    requires low { k ≤ max_context }
-    requires near { to ≤ 30000 }
-    ensures { OnOk result (out.new.items ≡ out.old.items ++ index_code layout.now size k to) }
-{
-    let index = alu(AluOp::Mov, Reg::R4, Operand::Reg(Reg::R3));
-    let end = Insn::Alu {
-        op: AluOp::Add,
-        width: Width::W64,
-        dst: Reg::R4,
-        src: constant(k + bytes(size)),
-    };
-    let distance = to + (2 + swap_slots(layout, size));
-    let test = test_wide(Cond::Gt, Reg::R4, Operand::Reg(Reg::R2), distance);
-    let at = Insn::Alu {
-        op: AluOp::Add,
-        width: Width::W64,
-        dst: Reg::R4,
-        src: Operand::Reg(Reg::R1),
-    };
-    let load = Insn::Load {
-        size: insn_size(size),
-        dst: Reg::R0,
-        src: Reg::R4,
-        off: head(layout.form) as i16 - bytes(size) as i16,
-    };
-    put(out, &[index, end, test, at, load])?;
-    put_swap(out, layout, size)
-}
-
-fn put_header(
-    out: &mut Vec<Insn>,
-    layout: &Layout,
-    a: &Annotated,
-    k: u32,
-    to: u16,
-) -> Result<(), AllocError>
-    requires few { need a.now.insn ≤ max_context }
-    requires low { k ≤ max_context }
-    requires near { to ≤ 30000 }
-    ensures { OnOk result (out.new.items ≡ out.old.items ++ header_code layout.now a.now k to) }
-{
-    put_length_test(out, a, 3, to)?;
-    let load = Insn::Load {
-        size: Size::B,
-        dst: Reg::R3,
-        src: Reg::R1,
-        off: (head(layout.form) + k) as i16,
-    };
-    let low = alu(AluOp::And, Reg::R3, Operand::Imm(15));
-    let words = alu(AluOp::Lsh, Reg::R3, Operand::Imm(2));
-    put(out, &[load, low, words])
-}
-
 fn length_insn(form: Form, offset: i16, dst: Reg) -> Insn
     ensures { result ≡ length_insn form offset dst }
 {
@@ -288,25 +89,6 @@ fn length_insn(form: Form, offset: i16, dst: Reg) -> Insn
         },
         Form::Plain => alu(AluOp::Mov, dst, Operand::Reg(Reg::R2)),
         Form::Seccomp => alu(AluOp::Mov, dst, Operand::Imm(64)),
-    }
-}
-
-/// Whether an operation divides.
-pub fn divides(op: Op) -> bool
-    ensures { result ≡ divides op }
-{
-    match op {
-        Op::Div | Op::Mod => true,
-        Op::Add | Op::Sub | Op::Mul | Op::Or | Op::And | Op::Lsh | Op::Rsh | Op::Xor => false,
-    }
-}
-
-fn shifts(op: Op) -> bool
-    ensures { result ≡ shifts op }
-{
-    match op {
-        Op::Lsh | Op::Rsh => true,
-        Op::Add | Op::Sub | Op::Mul | Op::Div | Op::Or | Op::And | Op::Mod | Op::Xor => false,
     }
 }
 
@@ -331,11 +113,11 @@ fn put_alu(
     ensures { OnOk result (out.new.items ≡ out.old.items ++ alu_code layout.now op source to) }
 {
     let insn = alu(alu_op(op), Reg::R0, operand_of(source));
-    if is_register(source) && divides(op) {
+    if is_register(source) && op.divides() {
         let test = test_low(Cond::Eq, Reg::R3, Operand::Imm(0), to + 1);
         return put(out, &[test, insn]);
     }
-    if is_register(source) && shifts(op) && !layout.is_masked() {
+    if is_register(source) && op.shifts() && !layout.is_masked() {
         let test = test_low(Cond::Lt, Reg::R3, Operand::Imm(32), 1);
         let zero = alu(AluOp::Mov, Reg::R0, Operand::Imm(0));
         return put(out, &[test, zero, insn]);
@@ -398,33 +180,6 @@ fn put_if(
     let jump = test_low(cond_of(test), Reg::R0, operand_of(source), to_true + behind);
     put(out, &[jump])?;
     put_jump(out, u32::from(jf), to_false)
-}
-
-/// What an instruction becomes that loads from beyond every packet.
-fn put_trap(out: &mut Vec<Insn>, to: u16) -> Result<(), AllocError>
-    requires { to ≤ 30000 }
-    ensures { OnOk result (out.new.items ≡ out.old.items ++ Ja (pos to) ∷ []) }
-{
-    put(out, &[ja(to)])
-}
-
-fn put_load(out: &mut Vec<Insn>, layout: &Layout, a: &Annotated, to: u16) -> Result<(), AllocError>
-    requires few { layout.now.length ≤ max_context }
-    requires near { to ≤ 30000 }
-    ensures { OnOk result (out.new.items ≡ out.old.items ++ any_load_code layout.now a.now a.now.insn to) }
-{
-    if is_beyond(layout, &a.insn) {
-        return put_trap(out, to);
-    }
-    match a.insn {
-        Classic::At { size, k } => put_at(out, layout, a, (size, k), to),
-        Classic::Index { size, k } => put_index(out, layout, size, k, to),
-        Classic::Header { k } => put_header(out, layout, a, k, to),
-        Classic::Constant { .. } | Classic::Length { .. } | Classic::Cell { .. } => Ok(()),
-        Classic::Store { .. } | Classic::Alu { .. } | Classic::Neg => Ok(()),
-        Classic::Jump { .. } | Classic::JumpIf { .. } | Classic::Return { .. } => Ok(()),
-        Classic::ReturnA | Classic::Tax | Classic::Txa => Ok(()),
-    }
 }
 
 /// Writes what an instruction becomes that is neither a load from the packet nor a jump.

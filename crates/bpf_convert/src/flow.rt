@@ -1,13 +1,43 @@
 //! Whether what instructions are marked with agrees along every way: one look at each instruction and at those that it leads to.
 
 ghost use Rattle.std.specs.Prelude.{◌≡◌, ◌+◌, ◌≤◌, length, option_copied};
-ghost use Rattle.bpf_classic.specs.Machine.{divides};
 ghost use Rattle.bpf_convert.specs.Template.{is_register};
-ghost use Rattle.bpf_convert.specs.Flow.{is_a, is_x, reads_a, reads_x, sets_a, sets_x, tests_length, leads_to_trap, uses_trap, known_behind, leads_to, leads_on, agrees, all_agree, starts_well, is_sound};
+ghost use Rattle.bpf_convert.specs.Flow.{is_word, source_word, has_word, is_a, is_x, reads_a, reads_x, sets_a, sets_x, tests_length, leads_to_trap, uses_trap, known_behind, leads_to, leads_on, agrees, all_agree, starts_well, is_sound};
 
-use crate::emit::{divides, is_register};
+use crate::emit::is_register;
 use crate::layout::{Annotated, Layout, is_beyond, need};
-use bpf_classic::{Classic, Register};
+use bpf_classic::{Classic, Register, Source};
+
+fn is_word(k: u32) -> bool
+    ensures { result ≡ is_word k }
+{
+    k <= u32::MAX
+}
+
+fn source_word(source: Source) -> bool
+    ensures { result ≡ source_word source }
+{
+    match source {
+        Source::K(k) => is_word(k),
+        Source::X => true,
+    }
+}
+
+/// Whether the constant of an instruction has 32 bits, as each one has: the program's meaning rests on it.
+fn has_word(insn: &Classic) -> bool
+    ensures { result ≡ has_word insn.now }
+{
+    match *insn {
+        Classic::Constant { k, .. } => is_word(k),
+        Classic::Return { k } => is_word(k),
+        Classic::Alu { op: _, source } => source_word(source),
+        Classic::JumpIf { source, .. } => source_word(source),
+        Classic::Length { .. } | Classic::Cell { .. } | Classic::Store { .. } => true,
+        Classic::At { .. } | Classic::Index { .. } | Classic::Header { .. } => true,
+        Classic::Neg | Classic::Jump { .. } | Classic::ReturnA => true,
+        Classic::Tax | Classic::Txa => true,
+    }
+}
 
 fn is_a(register: Register) -> bool
     ensures { result ≡ is_a register }
@@ -100,7 +130,7 @@ fn leads_to_trap(layout: &Layout, a: &Annotated) -> bool
     match a.insn {
         Classic::At { .. } | Classic::Header { .. } => tests_length(layout, a),
         Classic::Index { .. } => true,
-        Classic::Alu { op, source } => is_register(source) && divides(op),
+        Classic::Alu { op, source } => is_register(source) && op.divides(),
         Classic::Constant { .. } | Classic::Length { .. } | Classic::Cell { .. } => false,
         Classic::Store { .. } | Classic::Neg | Classic::Jump { .. } => false,
         Classic::JumpIf { .. } | Classic::Return { .. } | Classic::ReturnA => false,
@@ -156,7 +186,8 @@ fn leads_on(a: &Annotated, rest: &[Annotated]) -> bool
 fn agrees(layout: &Layout, a: &Annotated, rest: &[Annotated]) -> bool
     ensures { result ≡ agrees layout.now a.now rest.now }
 {
-    (!reads_a(&a.insn) || a.a)
+    has_word(&a.insn)
+        && (!reads_a(&a.insn) || a.a)
         && (!reads_x(&a.insn) || a.x)
         && (!uses_trap(layout, a) || layout.trap)
         && (is_beyond(layout, &a.insn) || leads_on(a, rest))

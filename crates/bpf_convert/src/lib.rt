@@ -4,9 +4,14 @@
 mod converter;
 pub mod emit;
 mod flow;
+pub mod insns;
+mod laws;
 pub mod layout;
+pub mod loads;
 mod marks;
 pub mod ways;
+mod writing;
 
 pub use converter::{Converted, convert};
+pub use laws::conversion_keeps_answers;
 pub use layout::{Annotated, Form, Layout};

@@ -1,8 +1,9 @@
 //! What is known in front of each instruction: a forward pass, since jumps lead forward. Where ways meet, what all of them know is
 //! known. That it holds is seen again by `flow`, on what this pass found.
 
-ghost use Rattle.std.specs.Prelude.{◌≤◌, length};
+ghost use Rattle.std.specs.Prelude.{◌≡◌, ◌≤◌, length, IfOk};
 ghost use Rattle.bpf_classic.specs.Valid.{max_filter};
+ghost use Rattle.bpf_convert.specs.Meaning.{insns};
 
 use crate::flow::{known_behind, sets_a, sets_x};
 use crate::layout::{Annotated, Layout, is_beyond};
@@ -20,30 +21,37 @@ fn behind(a: &Annotated) -> Annotated {
     }
 }
 
-/// Leads one more way to an instruction: what both know is known.
-fn arrive(list: &mut Vec<Annotated>, at: usize, from: &Annotated) {
-    if at >= list.len() {
-        return;
-    }
-    let old = list[at];
-    let joined = if old.reached {
-        Annotated {
+/// An instruction with what two ways to it know, the second of which is new.
+fn joined(old: &Annotated, from: &Annotated) -> Annotated
+    ensures { result.insn ≡ old.now.insn }
+{
+    if old.reached {
+        return Annotated {
             insn: old.insn,
             reached: true,
             known: old.known.min(from.known),
             a: old.a && from.a,
             x: old.x && from.x,
-        }
-    } else {
-        Annotated {
-            insn: old.insn,
-            reached: true,
-            known: from.known,
-            a: from.a,
-            x: from.x,
-        }
-    };
-    list[at] = joined;
+        };
+    }
+    Annotated {
+        insn: old.insn,
+        reached: true,
+        known: from.known,
+        a: from.a,
+        x: from.x,
+    }
+}
+
+/// Leads one more way to an instruction: what both know is known.
+fn arrive(list: &mut Vec<Annotated>, at: usize, from: &Annotated)
+    ensures { insns list.new.items ≡ insns list.old.items }
+{
+    if at >= list.len() {
+        return;
+    }
+    let new = joined(&list[at], from);
+    list[at] = new;
 }
 
 /// How many instructions an instruction may pass over, one way and another.
@@ -62,6 +70,7 @@ fn passes(insn: &Classic) -> (Option<u32>, Option<u32>) {
 /// Leads on from an instruction to each one that may follow.
 fn lead_on(list: &mut Vec<Annotated>, layout: &Layout, at: usize)
     requires { at ≤ max_filter }
+    ensures { insns list.new.items ≡ insns list.old.items }
 {
     let a = match list.get(at) {
         Some(a) => *a,
@@ -80,13 +89,9 @@ fn lead_on(list: &mut Vec<Annotated>, layout: &Layout, at: usize)
     }
 }
 
-/// Each instruction with what is known in front of it.
-pub fn annotate(
-    alloc: Global,
-    filter: &[Classic],
-    layout: &Layout,
-) -> Result<Vec<Annotated>, AllocError>
-    requires { length filter.now ≤ max_filter }
+/// Each instruction, none of them reached.
+fn unreached(alloc: Global, filter: &[Classic]) -> Result<Vec<Annotated>, AllocError>
+    ensures { IfOk result (λ v. insns v.items ≡ filter.now) }
 {
     let mut list = Vec::with_capacity(alloc, filter.len())?;
     for insn in filter {
@@ -98,12 +103,27 @@ pub fn annotate(
             x: false,
         })?;
     }
-    if let Some(first) = list.get_mut(0) {
-        first.reached = true;
-        first.known = layout.known_first();
-        first.a = layout.zero_a;
-        first.x = layout.zero_x;
-    }
+    Ok(list)
+}
+
+/// Each instruction with what is known in front of it.
+pub fn annotate(
+    alloc: Global,
+    filter: &[Classic],
+    layout: &Layout,
+) -> Result<Vec<Annotated>, AllocError>
+    requires { length filter.now ≤ max_filter }
+    ensures { IfOk result (λ v. insns v.items ≡ filter.now) }
+{
+    let mut list = unreached(alloc, filter)?;
+    let entry = Annotated {
+        insn: Classic::ReturnA,
+        reached: true,
+        known: layout.known_first(),
+        a: layout.zero_a,
+        x: layout.zero_x,
+    };
+    arrive(&mut list, 0, &entry);
     for at in 0..filter.len() {
         lead_on(&mut list, layout, at);
     }

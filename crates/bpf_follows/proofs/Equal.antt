@@ -9,7 +9,7 @@ use Rattle.bpf_follows_law.specs.declared.notes.Area.{Area}
 use Rattle.bpf_follows_law.specs.declared.notes.Area.TheVariants.{Given, Own}
 use Rattle.bpf_follows_law.specs.contracts.notes.AreaPartialEq.TheImpl as area_eq
 use Rattle.bpf_follows_law.specs.declared.notes.Kind.{Kind}
-use Rattle.bpf_follows_law.specs.declared.notes.Kind.TheVariants.{Nothing, Unset, Same, Both, Number, Natural, Inner, Length, Sized, Closing, Ending, Head, Offset, Fixed, Within, Start, Base, Moved, Address, Saved, Kept, Constant, Counter, Turn, Alone, Returns}
+use Rattle.bpf_follows_law.specs.declared.notes.Kind.TheVariants.{Nothing, Unset, Same, Both, Number, Natural, Inner, Length, Closing, Ending, Head, Offset, Fixed, Within, Start, Base, Moved, Address, Saved, Kept, Constant, Counter, Turn, Alone, Returns}
 use Rattle.bpf_follows_law.specs.contracts.notes.KindPartialEq.TheImpl as kind_eq
 
 area_same : (a b : Area) → (area_eq.ghosts).eq a b ≡ true → a ≡ b
@@ -34,7 +34,6 @@ kind_same (Inner a0 a1) (Inner b0 b1) e =
     let h = both_true (a0 == b0) (a1 == b1) e in
     ap (λ x. Inner x a1) (eqb-true a0 b0 h.0) ∙ ap (λ x. Inner b0 x) (eqb-true a1 b1 h.1)
 kind_same (Length a0) (Length b0) e = ap Length (eqb-true a0 b0 e)
-kind_same (Sized a0) (Sized b0) e = ap Sized (eqb-true a0 b0 e)
 kind_same (Ending a0) (Ending b0) e = ap Ending (eqb-true a0 b0 e)
 kind_same (Closing a0 a1) (Closing b0 b1) e =
     let h = both_true (a0 == b0) (int_eq a1 b1) e in
@@ -81,7 +80,6 @@ kind_self (Number a0 a1) = and_from _ _ ((Decides-eqb a0 a0).1 refl) ((Decides-e
 kind_self (Natural a0) = (Decides-eqb a0 a0).1 refl
 kind_self (Inner a0 a1) = and_from _ _ ((Decides-eqb a0 a0).1 refl) ((Decides-eqb a1 a1).1 refl)
 kind_self (Length a0) = (Decides-eqb a0 a0).1 refl
-kind_self (Sized a0) = (Decides-eqb a0 a0).1 refl
 kind_self (Ending a0) = (Decides-eqb a0 a0).1 refl
 kind_self (Closing a0 a1) = and_from _ _ ((Decides-eqb a0 a0).1 refl) ((Decides-int_eq a1 a1).1 refl)
 kind_self Head = refl

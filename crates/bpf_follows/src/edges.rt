@@ -3,14 +3,14 @@
 ghost use Rattle.std.specs.Prelude.{◌≡◌, ◌<◌, ◌↔◌, ℕ, IsTrue};
 ghost use Rattle.bpf_insn.specs.Limits.{max_slots};
 ghost use Rattle.bpf_follows_law.specs.Relation.{places, kind_in, kinds_of, known, Gives};
-ghost use Rattle.bpf_follows_law.specs.Matching.{kinds_along, start_kinds, Arrives, Enters, Starts};
+ghost use Rattle.bpf_follows_law.specs.Matching.{kinds_along, start_slot, start_kinds, Arrives, Enters, Starts};
 
+use crate::cut::cuts;
 use crate::extras::extras;
 use crate::kinds::{gives, kind_of, place_at, start_kinds};
 use crate::returned::kind_along;
 use bpf_follows_law::{Bounds, Kinds, PLACES, Place, Site};
 use bpf_insn::Code;
-use bpf_packets::HEAD_BYTES;
 
 /// An edge of the old program, and the new one's that is to follow it: where they lead.
 #[derive(Clone, Copy)]
@@ -88,16 +88,23 @@ pub fn enters<N: Code>(
     }
 }
 
-/// Whether the new program begins with the entry of what stands for the old one's start. A block has room for its packet's length.
+/// The new slot at which the entry of what stands for the old program's start is, behind what cuts a packet's length.
+fn start_slot(padded: bool) -> u32
+    ensures { result ≡ start_slot padded }
+{
+    if padded { 3 } else { 0 }
+}
+
+/// Whether the new program begins with the entry of what stands for the old one's start, in blocks behind what cuts a packet's length.
 pub fn starts<N: Code>(new: &N, notes: &[Option<Place>], bounds: Bounds) -> bool
     ensures { IsTrue result ↔ Starts notes.now (N.program new.now) bounds }
 {
-    if bounds.padded && bounds.length < HEAD_BYTES {
+    if bounds.padded && !cuts(new, bounds.length) {
         return false;
     }
     let edge = Edge {
         slot: 0,
-        new_slot: 0,
+        new_slot: start_slot(bounds.padded),
         taken: true,
     };
     enters(new, notes, bounds.turns, start_kinds(bounds), edge)

@@ -2,7 +2,7 @@
 
 ghost use Rattle.std.specs.Prelude.{◌≡◌, pos, ◌+ℤ◌, ◌-ℤ◌};
 ghost use Rattle.bpf_packets.specs.Blocks.{head_bytes};
-ghost use Rattle.bpf_follows_law.specs.Guards.{range_of, offset_range, fixed_in, added_to, added_range, is_near, clipped, natural_part, bounds_range, range_in, is_most, is_least, is_other, is_long, end_in, is_before, is_behind, ends_behind, is_reached, reached, reached_by, reaches, passes_constant, passes, at_most, at_least, passed_by};
+ghost use Rattle.bpf_follows_law.specs.Guards.{range_of, offset_range, fixed_in, added_to, added_range, is_near, clipped, natural_part, bounds_range, range_in, is_most, is_least, is_other, end_in, is_before, is_behind, ends_behind, is_reached, reached, reached_by, reaches, passes_constant, passes, at_most, at_least, passed_by};
 
 use crate::areas::{first_of, same_area, size_of};
 use crate::extras::{is_taken, offset_in};
@@ -184,16 +184,6 @@ fn is_other(imm: i32, kind: Kind) -> bool
 
 // ---- the end of a block's packet
 
-/// Whether the packet isn't longer than a constant.
-fn is_long(imm: i32, kind: Kind) -> bool
-    ensures { result ≡ is_long imm kind }
-{
-    match kind {
-        Kind::Length { most } => u64::from(most) <= extended(imm),
-        _ => false,
-    }
-}
-
 /// A displacement, so much farther.
 fn farther(displacement: i32, by: u32) -> i64
     ensures { result ≡ (displacement +ℤ pos by) }
@@ -322,7 +312,6 @@ pub fn passes(front: Option<Front>, kinds: &Kinds, insn: &Insn) -> bool
         (Some(front), Cond::Gt, Operand::Reg(src)) => {
             ends_behind(&front, offset_in(dst, kind), kind_in(kinds, src))
         }
-        (None, Cond::Gt, Operand::Imm(imm)) => is_long(imm, kind),
         _ => false,
     }
 }

@@ -2,9 +2,9 @@
 
 ghost use Rattle.std.specs.Prelude.{◌≡◌, ◌<◌, IfSome};
 ghost use Rattle.bpf_follows_law.specs.Relation.{places};
-ghost use Rattle.bpf_follows_law.specs.Extras.{frame_slot, own_kind, kept_kind, free_slot, stored, given_in, closing, start_at, starting, restored, taken, packet_length, constant_put, moved_by};
+ghost use Rattle.bpf_follows_law.specs.Extras.{frame_slot, own_kind, kept_kind, free_slot, stored, given_in, closing, start_at, starting, restored, taken, constant_put, moved_by};
 
-use crate::extras::{copied, is_base, is_same};
+use crate::extras::{copied, is_same};
 use crate::frame::{is_r10, slot_of};
 use crate::kinds::{REGISTERS, is_free, is_register, kind_in, kind_of};
 use bpf_follows_law::{Area, Kind, Kinds};
@@ -144,20 +144,6 @@ fn taken(kinds: &Kinds, dst: Reg, src: Reg, off: i16) -> Option<(u8, Kind)>
     Some((dst as u8, restored(dst, kind_in(kinds, dst), kind)))
 }
 
-/// What a register holds behind a load of a packet's length, with which its block begins.
-fn packet_length(kinds: &Kinds, dst: Reg, src: Reg, off: i16) -> Option<(u8, Kind)>
-    ensures exact { result ≡ packet_length kinds.now dst src off }
-    ensures inside { IfSome result (λ w. w.0 < places) }
-{
-    if is_r10(dst) || !is_base(kind_in(kinds, src)) || off != 0 {
-        return None;
-    }
-    match kind_in(kinds, dst) {
-        Kind::Sized { most } => Some((dst as u8, Kind::Length { most })),
-        _ => None,
-    }
-}
-
 /// The slot to which an instruction stores a constant, and what it holds then.
 fn constant_put(kinds: &Kinds, insn: &Insn) -> Option<(u8, Kind)>
     ensures exact { result ≡ constant_put kinds.now insn.now }
@@ -176,7 +162,7 @@ fn constant_put(kinds: &Kinds, insn: &Insn) -> Option<(u8, Kind)>
     Some((REGISTERS + slot, Kind::Constant { value: imm }))
 }
 
-/// What an extra instruction puts into a slot, or takes out of one, or loads of a block: the place, and what it holds then.
+/// What an extra instruction puts into a slot, or takes out of one: the place, and what it holds then.
 pub fn moved_by(kinds: &Kinds, insn: &Insn) -> Option<(u8, Kind)>
     ensures exact { result ≡ moved_by kinds.now insn.now }
     ensures inside { IfSome result (λ w. w.0 < places) }
@@ -197,10 +183,7 @@ pub fn moved_by(kinds: &Kinds, insn: &Insn) -> Option<(u8, Kind)>
         off,
     } = *insn
     {
-        return match taken(kinds, dst, src, off) {
-            Some(found) => Some(found),
-            None => packet_length(kinds, dst, src, off),
-        };
+        return taken(kinds, dst, src, off);
     }
     constant_put(kinds, insn)
 }

@@ -342,7 +342,7 @@ fn given_kinds(padded: bool, length: u32) -> (Kind, Kind)
 {
     if padded {
         let most = length.saturating_sub(HEAD_BYTES);
-        (Kind::Head, Kind::Sized { most })
+        (Kind::Head, Kind::Length { most })
     } else {
         let number = Kind::Number {
             least: length,

@@ -3,6 +3,7 @@
 
 mod ahead;
 mod areas;
+mod cut;
 mod edges;
 mod exact;
 mod extras;

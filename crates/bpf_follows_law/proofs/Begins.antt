@@ -12,11 +12,10 @@ use Rattle.bpf_follows_law.specs.Meaning.{visits, is_at}
 use Rattle.bpf_packets.specs.Blocks.{head_bytes}
 use Rattle.bpf_follows_law.specs.Areas.{first_of}
 use Rattle.bpf_follows_law.specs.Relation.{kind_in}
-use Rattle.bpf_follows_law.specs.Matching.{start_kinds, is_framed, is_far_store}
+use Rattle.bpf_follows_law.specs.Matching.{start_slot, start_kinds, is_framed, is_far_store}
 use Rattle.bpf_follows_law.proofs.Onward.{Rooms, Stays}
 use Rattle.bpf_follows_law.proofs.Owns.{Owns}
 use Rattle.bpf_follows_law.proofs.Between.{Between}
-use Rattle.bpf_follows_law.proofs.Extra.{HoldsLength}
 use Rattle.bpf_follows_law.proofs.Awaits.{Takes, Awaited}
 use Rattle.std.proofs.lemmas.Bool.{false≢true}
 use Rattle.bpf_insn.specs.declared.instruction.Insn.{Insn}
@@ -71,12 +70,15 @@ abbrev pub AllStay : (p : Instructions) (rooms : Rooms) (k : ℕ) (s t : State) 
 AllStay p rooms zero s t e = Unit {0}
 AllStay p rooms (suc k) s t (mid, run, step) = AllStay p rooms k s mid run × Stays p rooms mid
 
--- the old machine's first state
-pub record Begins (old : Instructions) (notes : List (Option Place)) (bounds : Bounds) (packet : Option ℕ) (context : List ℕ) (first : State) : Type 0 where
+-- The old machine's first state, and the new machine's behind what it begins with.
+pub record Begins (old new : Instructions) (notes : List (Option Place)) (bounds : Bounds) (packet : Option ℕ) (context : List ℕ) (first : State) : Type 0 where
   pub state : IsState first
   pub owns : Owns first
   pub awaited : Awaited (Takes notes bounds.turns) first
   pub at_slot : first.top.slot ≡ 0
   pub context_is : first.context ≡ context
-  pub holds : (n : ℕ) → packet ≡ Some n → HoldsLength old.order context n
-  pub between : Between old.order notes bounds.turns (record { visits = λ slot. 0; packet = packet }) (kind_in (start_kinds bounds)) first (start context)
+  pub count : ℕ
+  pub begun : State
+  pub steps : Steps new count (start context) begun
+  pub begun_at : begun.top.slot ≡ start_slot bounds.padded
+  pub between : Between old.order notes bounds.turns (record { visits = λ slot. 0; packet = packet }) (kind_in (start_kinds bounds)) first begun

@@ -16,7 +16,7 @@ use Rattle.bpf_semantics.specs.declared.value.Value.TheVariants.{Number, Pointer
 use Rattle.bpf_semantics.specs.declared.value.Region.TheVariants.{Frame as FrameAt}
 use Rattle.bpf_follows_law.specs.declared.notes.Area.TheVariants.{Given, Own}
 use Rattle.bpf_follows_law.specs.declared.notes.Kind.{Kind}
-use Rattle.bpf_follows_law.specs.declared.notes.Kind.TheVariants.{Nothing, Unset, Same, Number as NumberKind, Natural, Inner, Length, Sized, Closing, Ending, Head, Offset, Fixed, Within, Start, Base, Moved, Address, Constant, Counter, Turn, Alone, Returns, Both, Saved, Kept}
+use Rattle.bpf_follows_law.specs.declared.notes.Kind.TheVariants.{Nothing, Unset, Same, Number as NumberKind, Natural, Inner, Length, Closing, Ending, Head, Offset, Fixed, Within, Start, Base, Moved, Address, Constant, Counter, Turn, Alone, Returns, Both, Saved, Kept}
 use Rattle.bpf_follows_law.specs.declared.notes.Place.{Place}
 use Rattle.bpf_follows_law.specs.Relation.{Past, Kinds, Gives, weaker, kinds_of, EachPair, FitsKind, FitsSlot, FrameFollows, FrameWaits, register_in, is_of_other, is_alone, places, place_at, received, kinds_waiting}
 use Rattle.bpf_follows_law.specs.Extras.{is_same}
@@ -70,7 +70,6 @@ held_by_call off (NumberKind least most) = refl
 held_by_call off (Natural half) = refl
 held_by_call off (Inner least most) = refl
 held_by_call off (Length most) = refl
-held_by_call off (Sized most) = refl
 held_by_call off (Closing by offset) = refl
 held_by_call off (Ending by) = refl
 held_by_call off Head = refl
@@ -101,7 +100,6 @@ own_held off (NumberKind least most) = refl
 own_held off (Natural half) = refl
 own_held off (Inner least most) = refl
 own_held off (Length most) = refl
-own_held off (Sized most) = refl
 own_held off (Closing by offset) = refl
 own_held off (Ending by) = refl
 own_held off Head = refl
@@ -137,7 +135,6 @@ module _ (ends : Order) (notes : List (Option Place)) (turns : ℕ) (passed : Pa
   handed_fits old more r (Natural half) new e f = fits_moved turns passed old more r r (Natural half) new refl e f
   handed_fits old more r (Inner least most) new e f = record { value = Pointer (FrameAt f.frame) f.offset; old_is = e ∙ f.old_is; new_is = f.new_is }
   handed_fits old more r (Length most) new e f = fits_moved turns passed old more r r (Length most) new refl e f
-  handed_fits old more r (Sized most) new e f = fits_moved turns passed old more r r (Sized most) new refl e f
   handed_fits old more r (Closing by offset) new e f = fits_moved turns passed old more r r (Closing by offset) new refl e f
   handed_fits old more r (Ending by) new e f = fits_moved turns passed old more r r (Ending by) new refl e f
   handed_fits old more r Head new e f = fits_moved turns passed old more r r Head new refl e f

@@ -1,6 +1,6 @@
 -- Extra instructions of the new program that write registers: it does them alone, and what they make of them is as is said.
-use Rattle.std.proofs.Common.{◌≡◌, ℕ, zero, suc, ◌+◌, ◌-◌, ◌<◌, ◌≤◌, ◌⊎◌, inl, inr, ◌==◌, ◌^◌, Bool, true, false, cond, List, [], ◌∷◌, Option, Some, None, length, get_or, set, refl, sym, ap, ap₂, ◌∙◌, subst, arith}
-use Rattle.std.specs.Prelude.{take, drop, ◌&&◌, nat_lt, ℤ, pos, negsuc, ◌+ℤ◌, ◌-ℤ◌, option_and_then, if◌then◌else◌}
+use Rattle.std.proofs.Common.{◌≡◌, ℕ, zero, suc, ◌+◌, ◌-◌, ◌<◌, ◌≤◌, ◌⊎◌, inl, inr, ◌==◌, ◌^◌, Bool, true, false, cond, List, [], ◌∷◌, Option, Some, None, get_or, set, refl, sym, ap, ap₂, ◌∙◌, subst, arith}
+use Rattle.std.specs.Prelude.{◌&&◌, nat_lt, ℤ, pos, negsuc, ◌+ℤ◌, ◌-ℤ◌, option_and_then, if◌then◌else◌}
 use Rattle.std.specs.Option.{option_or}
 use Rattle.std.specs.Ordering.{int_eq}
 use Rattle.std.proofs.lemmas.Option.{none-some, same_Some, option_and_then_some}
@@ -9,7 +9,6 @@ use Rattle.std.proofs.lemmas.Bool.Decides.{Decides-int_eq}
 use Rattle.std.proofs.lemmas.Int.{ints}
 use Rattle.std.proofs.lemmas.List.{length-set, get_or-set_same, get_or-set_other}
 use Rattle.bpf_insn.specs.Arithmetic.{modulo, alu, extended}
-use Rattle.bpf_insn.specs.Order.{number_of}
 use Rattle.bpf_insn.specs.Instruction.{Instructions, register_number, insn_at}
 use Rattle.bpf_insn.specs.declared.order.Order.{Order}
 use Rattle.bpf_insn.specs.declared.instruction.Reg.{Reg}
@@ -22,7 +21,6 @@ use Rattle.bpf_insn.specs.declared.instruction.Insn.{Insn}
 use Rattle.bpf_insn.specs.declared.instruction.Insn.TheVariants.{Alu}
 use Rattle.bpf_insn.proofs.RegisterLemmas.{reg_below}
 use Rattle.bpf_semantics.specs.State.{State, register, with_register, at_slot}
-use Rattle.bpf_semantics.specs.Memory.{inside}
 use Rattle.bpf_semantics.specs.Step.{does, next, operand, same_region, alu_result, wrapped, Step, step_of}
 use Rattle.bpf_semantics.specs.Flat.{addresses}
 use Rattle.bpf_semantics.specs.declared.value.Value.{Value}
@@ -79,15 +77,6 @@ pub record InFront (passed : Past) (turns : ℕ) (front : Front) (s : State) : T
   pub packet : (n : ℕ) → passed.packet ≡ Some n → (r : Reg) (span : Span) (offset : ℤ) → get_or front.spans (register_number r) None ≡ Some span → register_in s.top (register_number r) ≡ Some (Pointer Context offset) → LieIn head_bytes (n + head_bytes) offset span
   pub spans : (r : Reg) (span : Span) (region : Region) (offset : ℤ) → get_or front.spans (register_number r) None ≡ Some span → register_in s.top (register_number r) ≡ Some (Pointer region offset) → LieIn (floor (rooms_in front) region) (room (rooms_in front) region) (placed region offset) span
   pub sums : (dst src : Reg) (region : Region) (offset : ℤ) (span : Span) → front.insn ≡ Alu Add W64 dst (FromReg src) → front.behind ≡ Some span → register s dst ≡ Some (Pointer region offset) → SumLies (rooms_in front) s src region offset span
-
--- the context begins with the packet's length, if it is a block
-pub record HoldsLength (order : Order) (context : List ℕ) (n : ℕ) : Type 0 where
-  pub short : n < 2 ^ 32
-  pub there : inside 8 (length context) (pos 0 +ℤ pos 0) ≡ Some 0
-  pub is : number_of order 8 (take 8 (drop 0 context)) ≡ n
-
-abbrev pub HoldsPacket : Order → Past → List ℕ → Type 0
-HoldsPacket order passed context = (n : ℕ) → passed.packet ≡ Some n → HoldsLength order context n
 
 abbrev pub Facts : Past → ℕ → Option Front → State → Type 0
 Facts passed turns None s = Unit {0}

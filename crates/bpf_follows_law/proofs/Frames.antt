@@ -17,7 +17,7 @@ use Rattle.bpf_semantics.specs.declared.value.Region.TheVariants.{Frame as Frame
 use Rattle.bpf_follows_law.specs.declared.notes.Area.{Area}
 use Rattle.bpf_follows_law.specs.declared.notes.Area.TheVariants.{Given, Own}
 use Rattle.bpf_follows_law.specs.declared.notes.Kind.{Kind}
-use Rattle.bpf_follows_law.specs.declared.notes.Kind.TheVariants.{Nothing, Unset, Same, Number as NumberKind, Natural, Inner, Length, Sized, Closing, Ending, Offset, Fixed, Within, Start, Head, Base, Moved, Address, Constant, Counter, Turn, Alone, Returns, Both, Saved, Kept}
+use Rattle.bpf_follows_law.specs.declared.notes.Kind.TheVariants.{Nothing, Unset, Same, Number as NumberKind, Natural, Inner, Length, Closing, Ending, Offset, Fixed, Within, Start, Head, Base, Moved, Address, Constant, Counter, Turn, Alone, Returns, Both, Saved, Kept}
 use Rattle.bpf_follows_law.specs.Relation.{Past, Kinds, Gives, weaker, is_free, IsRead, EachPair, as_offset, as_pointer, IsOneValue, IsOneNumber, FitsKind, SlotKept, FitsSlot, FrameFits, register_in, is_of_other}
 use Rattle.bpf_follows_law.specs.Returned.{is_call}
 use Rattle.bpf_follows_law.specs.Matching.{is_changed, is_lost, held, kinds_after}
@@ -38,7 +38,6 @@ fits_moved turns passed old more q r (NumberKind least most) new own e f = recor
 fits_moved turns passed old more q r (Natural half) new own e f = record { number = f.number; low = f.low; high = f.high; old_is = e ∙ f.old_is; new_is = f.new_is }
 fits_moved turns passed old more q r (Inner least most) new own e f = false_true own
 fits_moved turns passed old more q r (Length most) new own e f = record { size = f.size; packet_is = f.packet_is; short = f.short; is = (f.is.0, e ∙ f.is.1, f.is.2) }
-fits_moved turns passed old more q r (Sized most) new own e f = record { size = f.size; packet_is = f.packet_is; short = f.short; is = (f.is.0, e ∙ f.is.1) }
 fits_moved turns passed old more q r (Closing by offset) new own e f = record { size = f.size; packet_is = f.packet_is; short = f.short; is = (f.is.0, e ∙ f.is.1, f.is.2) }
 fits_moved turns passed old more q r (Ending by) new own e f = f
 fits_moved turns passed old more q r Head new own e f = (e ∙ f.0, f.1)
@@ -93,7 +92,6 @@ fits_anew turns passed old more q r (NumberKind least most) new own e et f = fit
 fits_anew turns passed old more q r (Natural half) new own e et f = fits_moved turns passed old more q r (Natural half) new refl e f
 fits_anew turns passed old more q r (Inner least most) new own e et f = record { frame = f.frame; offset = f.offset; own_is = et ∙ f.own_is; old_is = e ∙ f.old_is; new_is = f.new_is; low = f.low; high = f.high }
 fits_anew turns passed old more q r (Length most) new own e et f = fits_moved turns passed old more q r (Length most) new refl e f
-fits_anew turns passed old more q r (Sized most) new own e et f = fits_moved turns passed old more q r (Sized most) new refl e f
 fits_anew turns passed old more q r (Closing by offset) new own e et f = fits_moved turns passed old more q r (Closing by offset) new refl e f
 fits_anew turns passed old more q r (Ending by) new own e et f = fits_moved turns passed old more q r (Ending by) new refl e f
 fits_anew turns passed old more q r Head new own e et f = fits_moved turns passed old more q r Head new refl e f
@@ -159,7 +157,6 @@ fits_held turns passed i old more r kind new kept same = by_kind kind
     by_kind (Natural half) f = fits_moved turns passed old more r r (Natural half) new refl same f
     by_kind (Inner least most) f = inner least most f (is_lost i 10) refl
     by_kind (Length most) f = fits_moved turns passed old more r r (Length most) new refl same f
-    by_kind (Sized most) f = fits_moved turns passed old more r r (Sized most) new refl same f
     by_kind (Closing by offset) f = fits_moved turns passed old more r r (Closing by offset) new refl same f
     by_kind (Ending by) f = fits_moved turns passed old more r r (Ending by) new refl same f
     by_kind Head f = fits_moved turns passed old more r r Head new refl same f
@@ -221,7 +218,6 @@ slot_held ends turns passed i old more xs ys k (NumberKind least most) kept f = 
 slot_held ends turns passed i old more xs ys k (Natural half) kept f = absurd f
 slot_held ends turns passed i old more xs ys k (Inner least most) kept f = absurd f
 slot_held ends turns passed i old more xs ys k (Length most) kept f = absurd f
-slot_held ends turns passed i old more xs ys k (Sized most) kept f = absurd f
 slot_held ends turns passed i old more xs ys k (Closing by offset) kept f = absurd f
 slot_held ends turns passed i old more xs ys k Head kept f = absurd f
 slot_held ends turns passed i old more xs ys k (Ending by) kept f = record { unset = f.unset; value = f.value; holds = f.holds; fits = f.fits }
@@ -252,7 +248,6 @@ slot_moved ends turns passed old more xs ys k (NumberKind least most) own f = f
 slot_moved ends turns passed old more xs ys k (Natural half) own f = absurd f
 slot_moved ends turns passed old more xs ys k (Inner least most) own f = absurd f
 slot_moved ends turns passed old more xs ys k (Length most) own f = absurd f
-slot_moved ends turns passed old more xs ys k (Sized most) own f = absurd f
 slot_moved ends turns passed old more xs ys k (Closing by offset) own f = absurd f
 slot_moved ends turns passed old more xs ys k Head own f = absurd f
 slot_moved ends turns passed old more xs ys k (Ending by) own f = record { unset = f.unset; value = f.value; holds = f.holds; fits = f.fits }

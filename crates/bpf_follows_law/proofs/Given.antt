@@ -1,8 +1,7 @@
 -- What both programs are given: one context, or the old one a packet and the new one the block that holds it.
 use Rattle.std.proofs.Common.{◌≡◌, ℕ, zero, suc, ◌+◌, ◌*◌, ◌<◌, ◌≤◌, ◌==◌, ◌^◌, Bool, true, false, List, [], ◌∷◌, Option, Some, None, length, refl, sym, ap, ◌∙◌, subst, arith}
-use Rattle.std.specs.Prelude.{pos, take, drop, if◌then◌else◌}
+use Rattle.std.specs.Prelude.{pos, ◌-◌, min, take, drop, if◌then◌else◌}
 use Rattle.std.proofs.lemmas.Option.{none-some, same_Some, option_and_then_some}
-use Rattle.std.proofs.lemmas.Bool.{le-leb}
 use Rattle.bpf_insn.specs.Effects.{Access, access_of}
 use Rattle.bpf_insn.specs.Image.{IsProgram}
 use Rattle.bpf_insn.specs.Laws.{AreBytes}
@@ -17,7 +16,7 @@ use Rattle.bpf_semantics.specs.MachineLaws.{StartIsState, StepsAreComputed, Step
 use Rattle.bpf_semantics.specs.declared.value.Value.{Value}
 use Rattle.bpf_semantics.specs.declared.value.Value.TheVariants.{Number, Pointer}
 use Rattle.bpf_semantics.specs.declared.value.Region.TheVariants.{Context}
-use Rattle.bpf_packets.specs.Blocks.{head_bytes, IsBlock, inside_value, inside}
+use Rattle.bpf_packets.specs.Blocks.{head_bytes, told_length, IsBlock, inside_value, inside}
 use Rattle.bpf_packets.specs.Laws.{StandsOn, LiesInside, HasHead, StartInside, StepInside, FinishesInside, StateInside, AccessesInside, HeadOfBlock}
 use Rattle.bpf_insn.proofs.BeginLemmas.{bytes_below}
 use Rattle.bpf_packets.proofs.Head.{Holds, holds}
@@ -28,7 +27,7 @@ use Rattle.bpf_follows_law.specs.declared.notes.Place.{Place}
 use Rattle.bpf_follows_law.specs.Meaning.{visits, LeavesLowest, AreGiven, EndsInBounds}
 use Rattle.bpf_follows_law.specs.Relation.{Past, kind_in, FitsKind, FitsSlot, register_in}
 use Rattle.bpf_follows_law.specs.Areas.{first_of}
-use Rattle.bpf_follows_law.specs.Matching.{given_kinds, start_kinds, Matches}
+use Rattle.bpf_follows_law.specs.Matching.{given_kinds, start_kinds, start_slot, Cuts, Matches}
 use Rattle.bpf_follows_law.specs.Laws.{MatchingKeepsMeaning}
 use Rattle.bpf_follows_law.proofs.KindLemmas.{unset_listed}
 use Rattle.bpf_follows_law.proofs.Lists.{same_is_kept, pairs_same}
@@ -36,7 +35,7 @@ use Rattle.bpf_follows_law.proofs.Onward.{Stays, access_lies, in_all}
 use Rattle.bpf_follows_law.proofs.Owns.{Owns, own_start}
 use Rattle.bpf_follows_law.proofs.Slots.{all_read, nothing_there, as_many}
 use Rattle.bpf_follows_law.proofs.Between.{Between}
-use Rattle.bpf_follows_law.proofs.Extra.{HoldsLength}
+use Rattle.bpf_follows_law.proofs.Cut.{cut_at, Begun, begun}
 use Rattle.bpf_follows_law.proofs.Begins.{visits_next, rooms_of, AllStay, Begins}
 use Rattle.bpf_follows_law.proofs.Law.{ends_alike_with}
 
@@ -76,11 +75,11 @@ module _ (computed : StepsAreComputed) (keeps : StepKeepsContext) (states : Step
       each (suc (suc (suc (suc (suc (suc (suc (suc (suc (suc zero)))))))))) lt = same_is_kept _
       each (suc (suc (suc (suc (suc (suc (suc (suc (suc (suc (suc r))))))))))) lt = absurd (omega arith)
 
-  plain_begins : (context : List ℕ) → bounds.padded ≡ false → AreBytes context → length context ≡ bounds.length → Begins old notes bounds None context (start context)
+  plain_begins : (context : List ℕ) → bounds.padded ≡ false → AreBytes context → length context ≡ bounds.length → Begins old new notes bounds None context (start context)
   plain_begins context plain bytes long =
       let short = matches.short in
       let fits : length context < 2 ^ 64 = subst (λ n. n < 2 ^ 64) (sym long) (omega arith) in
-      record { state = begin context bytes fits; owns = own_start context; awaited = tt; at_slot = refl; context_is = refl; holds = λ n e. absurd (none-some _ e); between = plain_between context plain long }
+      record { state = begin context bytes fits; owns = own_start context; awaited = tt; at_slot = refl; context_is = refl; count = 0; begun = start context; steps = refl; begun_at = sym (ap start_slot plain); between = plain_between context plain long }
 
   plain_stays : (context : List ℕ) (s : State) → bounds.padded ≡ false → length context ≡ bounds.length → s.context ≡ context → LeavesLowest old bounds.untouched s → Stays old (rooms_of bounds None) s
   plain_stays context s plain long there leaves = record {
@@ -117,7 +116,7 @@ module _ (computed : StepsAreComputed) (keeps : StepKeepsContext) (states : Step
     short = let few = matches.short in let enough = in_block.long in omega (arith, long)
 
     head : HasHead old.order packet block
-    head = let few = short in head_in old.order packet block (omega arith) is_block
+    head = head_in old.order packet block is_block
 
     packet_bytes : AreBytes packet
     packet_bytes = subst AreBytes head.behind (bytes_taken (length packet) (drop head_bytes block) (bytes_below block head_bytes bytes))
@@ -132,16 +131,24 @@ module _ (computed : StepsAreComputed) (keeps : StepKeepsContext) (states : Step
     abbrev started : State
     started = with_register (with_register (start block) 1 (Some (Pointer Context (pos head_bytes)))) 2 (Some (Number (length packet)))
 
-    started_between : Between old.order notes bounds.turns past (kind_in (start_kinds bounds)) started (start block)
+    -- the new machine behind what it begins with
+    abbrev cut : State
+    cut = cut_at block 3 (length packet)
+
+    begun_cut : Begun block new (subst (Cuts new) (sym long) (matches.start.0 padded)) (let few = matches.short in omega (arith, long)) (length packet)
+    begun_cut = begun block new (subst (Cuts new) (sym long) (matches.start.0 padded)) (let few = matches.short in omega (arith, long)) (length packet)
+        (subst (λ order. length packet ≡ min (told_length order block) (length block - head_bytes)) (sym matches.order_is) head.head)
+
+    started_between : Between old.order notes bounds.turns past (kind_in (start_kinds bounds)) started cut
     started_between = record { top = record { eleven_old = refl; eleven = refl; registers = each; long = as_many 512; stack = all_read empty_stack empty_stack (pairs_same empty_stack); slots = no_stack old bounds past (register_in started.top) }; waiting = tt; context_is = refl }
       where
-        each : (r : ℕ) → r < 11 → FitsKind bounds.turns past (register_in started.top) r (kind_in (start_kinds bounds) r) (register_in (start block).top r)
+        each : (r : ℕ) → r < 11 → FitsKind bounds.turns past (register_in started.top) r (kind_in (start_kinds bounds) r) (register_in cut.top r)
         each zero lt = same_is_kept _
-        each (suc zero) lt = subst (λ padded. FitsKind bounds.turns past (register_in started.top) 1 (given_kinds padded bounds.length).0 (register_in (start block).top 1)) (sym padded) (refl, refl)
+        each (suc zero) lt = subst (λ padded. FitsKind bounds.turns past (register_in started.top) 1 (given_kinds padded bounds.length).0 (register_in cut.top 1)) (sym padded) (refl, refl)
         each (suc (suc zero)) lt =
             let enough = in_block.long in
-            subst (λ padded. FitsKind bounds.turns past (register_in started.top) 2 (given_kinds padded bounds.length).1 (register_in (start block).top 2)) (sym padded)
-            (record { size = length packet; packet_is = refl; short = short; is = (omega (arith, long), refl) })
+            subst (λ padded. FitsKind bounds.turns past (register_in started.top) 2 (given_kinds padded bounds.length).1 (register_in cut.top 2)) (sym padded)
+            (record { size = length packet; packet_is = refl; short = short; is = (omega (arith, long), refl, refl) })
         each (suc (suc (suc zero))) lt = same_is_kept _
         each (suc (suc (suc (suc zero)))) lt = same_is_kept _
         each (suc (suc (suc (suc (suc zero))))) lt = same_is_kept _
@@ -155,12 +162,7 @@ module _ (computed : StepsAreComputed) (keeps : StepKeepsContext) (states : Step
     started_owns : Owns started
     started_owns = (refl, tt)
 
-    holds_length : HoldsLength old.order block (length packet)
-    holds_length =
-        let enough = in_block.long in
-        record { short = short; there = ap (λ c. if c then Some 0 else None) (le-leb 8 (length block) (omega arith)); is = head.head }
-
-    begins : Begins old notes bounds (Some (length packet)) block first
+    begins : Begins old new notes bounds (Some (length packet)) block first
     begins =
         let few = short in
         record {
@@ -169,8 +171,11 @@ module _ (computed : StepsAreComputed) (keeps : StepKeepsContext) (states : Step
           awaited = tt;
           at_slot = refl;
           context_is = refl;
-          holds = λ m e. subst (HoldsLength old.order block) (same_Some _ _ e) holds_length;
-          between = subst (λ s. Between old.order notes bounds.turns past (kind_in (start_kinds bounds)) s (start block)) (sym (start_in packet block)) started_between;
+          count = begun_cut.count;
+          begun = cut;
+          steps = begun_cut.steps;
+          begun_at = sym (ap start_slot padded);
+          between = subst (λ s. Between old.order notes bounds.turns past (kind_in (start_kinds bounds)) s cut) (sym (start_in packet block)) started_between;
         }
 
     on_packet : (k : ℕ) (s : State) → Steps old k (start packet) s → StandsOn old packet block s

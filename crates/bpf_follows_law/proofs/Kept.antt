@@ -1,6 +1,6 @@
 -- What the new program keeps in its frame, and extra instructions one after another.
 use Rattle.std.proofs.Common.{◌≡◌, ℕ, zero, suc, ◌+◌, ◌*◌, ◌-◌, ◌<◌, ◌≤◌, ◌⊎◌, inl, inr, ◌==◌, ◌^◌, Bool, true, false, cond, List, Option, Some, None, length, get_or, set, refl, sym, ap, ◌∙◌, subst, arith}
-use Rattle.std.specs.Prelude.{ℤ, pos, ◌+ℤ◌, not, take, drop, ◌&&◌, nat_le, option_map, if◌then◌else◌}
+use Rattle.std.specs.Prelude.{ℤ, pos, ◌+ℤ◌, ◌&&◌, nat_le, option_map, if◌then◌else◌}
 use Rattle.std.specs.Option.{option_map_or, option_or}
 use Rattle.std.specs.Ordering.{int_eq}
 use Rattle.std.proofs.lemmas.Option.{none-some, same_Some, option_and_then_some}
@@ -9,7 +9,6 @@ use Rattle.std.proofs.lemmas.Bool.Decides.{Decides-int_eq}
 use Rattle.std.proofs.lemmas.Int.{ints}
 use Rattle.std.proofs.lemmas.List.{get_or-set_other}
 use Rattle.bpf_insn.specs.Limits.{frame_bytes}
-use Rattle.bpf_insn.specs.Order.{number_of}
 use Rattle.bpf_insn.specs.Arithmetic.{extended}
 use Rattle.bpf_insn.specs.Instruction.{Instructions, register_number, insn_at}
 use Rattle.bpf_insn.specs.declared.order.Order.{Order}
@@ -18,10 +17,10 @@ use Rattle.bpf_insn.specs.declared.instruction.Size.TheVariants.{DW}
 use Rattle.bpf_insn.specs.declared.instruction.Insn.{Insn}
 use Rattle.bpf_insn.specs.declared.instruction.Insn.TheVariants.{Load, Store, StoreImm}
 use Rattle.bpf_insn.proofs.RegisterLemmas.{reg_below}
-use Rattle.bpf_semantics.specs.State.{State, FitsMachine, depth, register, with_top, with_register, put, at_slot}
+use Rattle.bpf_semantics.specs.State.{State, FitsMachine, depth, register, with_top, with_register, at_slot}
 use Rattle.bpf_semantics.specs.Memory.{location_of, inside, stack_of, with_stack_in, with_stack}
-use Rattle.bpf_semantics.specs.Memory.Location.{InContext, InFrame}
-use Rattle.bpf_semantics.specs.Step.{does, next, load, store}
+use Rattle.bpf_semantics.specs.Memory.Location.{InFrame}
+use Rattle.bpf_semantics.specs.Step.{does, load, store}
 use Rattle.bpf_semantics.specs.Run.{Steps}
 use Rattle.bpf_semantics.specs.declared.value.Value.{Value}
 use Rattle.bpf_semantics.specs.declared.value.Value.TheVariants.{Number, Pointer}
@@ -29,12 +28,12 @@ use Rattle.bpf_semantics.specs.declared.value.Region.TheVariants.{Context, Frame
 use Rattle.bpf_semantics.proofs.NumberLemmas.{modulo_below}
 use Rattle.bpf_packets.specs.Blocks.{head_bytes}
 use Rattle.bpf_follows_law.specs.declared.notes.Kind.{Kind}
-use Rattle.bpf_follows_law.specs.declared.notes.Kind.TheVariants.{Nothing, Number as NumberKind, Natural, Inner, Length, Sized, Closing, Ending, Offset, Fixed, Within, Start, Head, Base, Moved, Address, Constant, Counter, Turn, Both, Saved, Kept}
+use Rattle.bpf_follows_law.specs.declared.notes.Kind.TheVariants.{Nothing, Number as NumberKind, Natural, Inner, Length, Closing, Ending, Offset, Fixed, Within, Start, Head, Base, Moved, Address, Constant, Counter, Turn, Both, Saved, Kept}
 use Rattle.bpf_follows_law.specs.declared.notes.Place.{Place}
 use Rattle.bpf_follows_law.specs.declared.site.Front.{Front}
 use Rattle.bpf_follows_law.specs.Areas.{origin}
 use Rattle.bpf_follows_law.specs.Relation.{Past, kind_in, is_free, IsOneValue, IsOneNumber, FitsKind, Holds, IsUnset, IsRead, FitsSlot, register_in}
-use Rattle.bpf_follows_law.specs.Extras.{is_same, is_r10, slot_of, kind_of, copied, frame_slot, own_kind, kept_kind, free_slot, stored, stored_constant, given_in, closing, start_at, starting, restored, taken, is_base, size_in, packet_length, moved_by, made, put_by}
+use Rattle.bpf_follows_law.specs.Extras.{is_same, is_r10, slot_of, kind_of, copied, frame_slot, own_kind, kept_kind, free_slot, stored, stored_constant, given_in, closing, start_at, starting, restored, taken, moved_by, made, put_by}
 use Rattle.bpf_follows_law.specs.Guards.{passes, passed_by}
 use Rattle.bpf_follows_law.specs.Sequence.{written, extra, extra_at, behind, most_extras, extras}
 use Rattle.bpf_follows_law.proofs.Lists.{bind, unmapped, cond_first, cond_second, as_long, Cells}
@@ -42,10 +41,10 @@ use Rattle.bpf_follows_law.proofs.Owns.{Owns, top_stack}
 use Rattle.bpf_follows_law.proofs.Has.{machine_there}
 use Rattle.bpf_follows_law.proofs.Offsets.{wrapped_fits}
 use Rattle.bpf_follows_law.proofs.Slots.{free_unset, slot_as, load_holds, with_value, store_whole, value_put, value_other, own_read, room, whole_room}
-use Rattle.bpf_follows_law.proofs.Between.{Between, same_depth, location_same, own_stack_of}
+use Rattle.bpf_follows_law.proofs.Between.{Between, same_depth, own_stack_of}
 use Rattle.bpf_follows_law.proofs.Near.{whole_slot_at}
 use Rattle.bpf_follows_law.proofs.Instruction.{both_true, same_kept}
-use Rattle.bpf_follows_law.proofs.Extra.{kind_set, given_is, HoldsPacket, Facts, free_is, base_has, copied_fits, Goes1, moves, writes, fits_at, put_goes, new_step}
+use Rattle.bpf_follows_law.proofs.Extra.{kind_set, given_is, Facts, free_is, copied_fits, Goes1, moves, writes, fits_at, put_goes, new_step}
 use Rattle.bpf_follows_law.proofs.PacketGuards.{passes_goes}
 
 -- ---- values that are kept
@@ -336,59 +335,19 @@ module _ (ends : Order) (notes : List (Option Place)) (turns : ℕ) (passed : Pa
             (restored_fits ends turns passed (register_in s.top) dst (11 + k) (kind_of kinds dst) m.0 has.value (register t dst) has.own (fits_at ends notes turns passed kinds s t dst b) has.fits));
       })
 
-  -- a packet's length, with which its block begins
-  length_goes : (kinds made_kinds : List Kind) (dst src : Reg) (off : ℤ) (w : ℕ × Kind) (s t : State) → HoldsPacket ends passed s.context → Between ends notes turns passed (kind_in kinds) s t → packet_length kinds dst src off ≡ Some w → set kinds w.0 w.1 ≡ made_kinds
-      → Goes1 ends notes turns passed ends (Load DW dst src off) made_kinds s t
-  unfolding does
-  length_goes kinds made_kinds dst src off w s t holds b e is =
-      let c = cond_first (not (is_r10 dst) && (is_base (kind_of kinds src) && int_eq off (pos 0))) (option_map (λ most. (register_number dst, Length most)) (size_in (kind_of kinds dst))) w e in
-      let d = both_true (not (is_r10 dst)) (is_base (kind_of kinds src) && int_eq off (pos 0)) c.0 in
-      let g = both_true (is_base (kind_of kinds src)) (int_eq off (pos 0)) d.1 in
-      let m = unmapped (λ most. (register_number dst, Length most)) (size_in (kind_of kinds dst)) w c.1 in
-      let zero_is : off ≡ pos 0 = (Decides-int_eq off (pos 0)).0 g.1 in
-      let free : is_r10 dst ≡ false = not_true (is_r10 dst) d.0 in
-      let f = sized_has (kind_of kinds dst) m.0 (register t dst) m.1 (fits_at ends notes turns passed kinds s t dst b) in
-      let h = holds f.size f.packet_is in
-      let start : register t src ≡ Some (Pointer Context (pos 0)) = base_has turns passed (register_in s.top) (register_number src) (kind_of kinds src) (register t src) g.0 (fits_at ends notes turns passed kinds s t src b) in
-      let there : location_of t 8 off (Pointer Context (pos 0)) ≡ Some (InContext 0) =
-      ap (λ off. location_of t 8 off (Pointer Context (pos 0))) zero_is ∙ (location_same ends notes turns passed s t 8 (pos 0) (Pointer Context (pos 0)) (same_depth ends notes turns passed (kind_in kinds) s t b) b.context_is ∙ ap (option_map InContext) h.there) in
-      let read : load ends t DW (InContext 0) ≡ Some (Number f.size) = ap (λ (bytes : List ℕ). Some (Number (number_of ends 8 (take 8 (drop 0 bytes))))) b.context_is ∙ ap (λ n. Some (Number n)) h.is in
-      let after : State = at_slot (t.top.slot + 1) t in
-      let end : State = with_register after (register_number dst) (Some (Number f.size)) in
-      record {
-        state = end;
-        is = bind _ (register t src) _ _ start (bind _ (location_of t 8 off (Pointer Context (pos 0))) _ _ there (bind (λ value. put dst value (next (Load DW dst src off) t)) (load ends t DW (InContext 0)) (Number f.size) _ read (ap (λ c. cond c None (Some end)) free)));
-        at = refl;
-        between = subst (λ made. Between ends notes turns passed (kind_in made) s end) (ap (λ (w : ℕ × Kind). set kinds w.0 w.1) m.2 ∙ is)
-            (writes ends notes turns passed kinds (Length m.0) s after (register_number dst) (Some (Number f.size)) (reg_below dst) (moves ends notes turns passed kinds s t (t.top.slot + 1) b)
-            (record { size = f.size; packet_is = f.packet_is; short = f.short; is = (f.is.0, f.is.1, refl) }));
-      }
-    where
-      not_true : (b : Bool) → not b ≡ true → b ≡ false
-      not_true true e = absurd (false≢true e)
-      not_true false e = refl
-
-      sized_has : (kind : Kind) (most : ℕ) (new : Option Value) → size_in kind ≡ Some most → FitsKind turns passed (register_in s.top) (register_number dst) kind new → FitsKind turns passed (register_in s.top) (register_number dst) (Sized most) new
-      sized_has (Sized most) m new e f = subst (λ most. FitsKind turns passed (register_in s.top) (register_number dst) (Sized most) new) (same_Some _ _ e) f
-      sized_has kind m new e f = absurd (none-some _ e)
-
-  move_goes : (i : Insn) (kinds made_kinds : List Kind) (w : ℕ × Kind) (s t : State) → Sound s → HoldsPacket ends passed s.context → Between ends notes turns passed (kind_in kinds) s t → moved_by kinds i ≡ Some w → set kinds w.0 w.1 ≡ made_kinds → Goes1 ends notes turns passed ends i made_kinds s t
-  move_goes (Store DW dst off src) kinds made_kinds w s t o holds b e is = stored_goes kinds made_kinds dst src off w s t o b e is
-  move_goes (StoreImm DW dst off imm) kinds made_kinds w s t o holds b e is = constant_goes kinds made_kinds dst off imm w s t o b e is
-  move_goes (Load DW dst src off) kinds made_kinds w s t o holds b e is = by_taken (taken kinds dst src off) refl e
-    where
-      by_taken : (p : Option (ℕ × Kind)) → taken kinds dst src off ≡ p → option_or p (packet_length kinds dst src off) ≡ Some w → Goes1 ends notes turns passed ends (Load DW dst src off) made_kinds s t
-      by_taken (Some p) ep e = taken_goes kinds made_kinds dst src off w s t o b (ep ∙ e) is
-      by_taken None ep e = length_goes kinds made_kinds dst src off w s t holds b e is
-  move_goes i kinds made_kinds w s t o holds b e is = absurd (none-some _ e)
+  move_goes : (i : Insn) (kinds made_kinds : List Kind) (w : ℕ × Kind) (s t : State) → Sound s → Between ends notes turns passed (kind_in kinds) s t → moved_by kinds i ≡ Some w → set kinds w.0 w.1 ≡ made_kinds → Goes1 ends notes turns passed ends i made_kinds s t
+  move_goes (Store DW dst off src) kinds made_kinds w s t o b e is = stored_goes kinds made_kinds dst src off w s t o b e is
+  move_goes (StoreImm DW dst off imm) kinds made_kinds w s t o b e is = constant_goes kinds made_kinds dst off imm w s t o b e is
+  move_goes (Load DW dst src off) kinds made_kinds w s t o b e is = taken_goes kinds made_kinds dst src off w s t o b e is
+  move_goes i kinds made_kinds w s t o b e is = absurd (none-some _ e)
 
   -- ---- all of them
 
-  extra_goes : (order : Order) (front : Option Front) (i : Insn) (kinds made_kinds : List Kind) (s t : State) → order ≡ ends → Sound s → HoldsPacket ends passed s.context → Facts passed turns front s → Between ends notes turns passed (kind_in kinds) s t → extra front i kinds ≡ Some made_kinds → Goes1 ends notes turns passed order i made_kinds s t
-  extra_goes order front i kinds made_kinds s t same o holds facts b e = by_cases (passes front kinds i) refl e
+  extra_goes : (order : Order) (front : Option Front) (i : Insn) (kinds made_kinds : List Kind) (s t : State) → order ≡ ends → Sound s → Facts passed turns front s → Between ends notes turns passed (kind_in kinds) s t → extra front i kinds ≡ Some made_kinds → Goes1 ends notes turns passed order i made_kinds s t
+  extra_goes order front i kinds made_kinds s t same o facts b e = by_cases (passes front kinds i) refl e
     where
       by_move : (m : Option (ℕ × Kind)) → moved_by kinds i ≡ m → option_map (λ (w : ℕ × Kind). set kinds w.0 w.1) (option_or m (option_map (λ (w : Reg × Kind). (register_number w.0, w.1)) (made front kinds i))) ≡ Some made_kinds → Goes1 ends notes turns passed order i made_kinds s t
-      by_move (Some w) em e = subst (λ order. Goes1 ends notes turns passed order i made_kinds s t) (sym same) (move_goes i kinds made_kinds w s t o holds b em (same_Some _ _ e))
+      by_move (Some w) em e = subst (λ order. Goes1 ends notes turns passed order i made_kinds s t) (sym same) (move_goes i kinds made_kinds w s t o b em (same_Some _ _ e))
       by_move None em e =
           let p = unmapped (λ (w : ℕ × Kind). set kinds w.0 w.1) (option_map (λ (w : Reg × Kind). (register_number w.0, w.1)) (made front kinds i)) made_kinds e in
           let m = unmapped (λ (w : Reg × Kind). (register_number w.0, w.1)) (made front kinds i) p.0 p.1 in
@@ -408,20 +367,20 @@ module _ (ends : Order) (notes : List (Option Place)) (turns : ℕ) (passed : Pa
     pub at : state.top.slot ≡ slot
     pub between : Between ends notes turns passed (kind_in made_kinds) s state
 
-  behind_goes : (new : Instructions) (front : Option Front) (slot n : ℕ) (kinds made_kinds : List Kind) (s t : State) → new.order ≡ ends → Sound s → HoldsPacket ends passed s.context → Facts passed turns front s → Between ends notes turns passed (kind_in kinds) s t → t.top.slot ≡ slot → behind new front slot n kinds ≡ Some made_kinds → Reached new made_kinds (slot + n) s t
-  behind_goes new front slot zero kinds made_kinds s t same o holds facts b at e =
+  behind_goes : (new : Instructions) (front : Option Front) (slot n : ℕ) (kinds made_kinds : List Kind) (s t : State) → new.order ≡ ends → Sound s → Facts passed turns front s → Between ends notes turns passed (kind_in kinds) s t → t.top.slot ≡ slot → behind new front slot n kinds ≡ Some made_kinds → Reached new made_kinds (slot + n) s t
+  behind_goes new front slot zero kinds made_kinds s t same o facts b at e =
       record { count = 0; state = t; steps = refl; at = at ∙ omega arith; between = subst (λ kinds. Between ends notes turns passed (kind_in kinds) s t) (same_Some _ _ e) b }
-  behind_goes new front slot (suc n) kinds made_kinds s t same o holds facts b at e = option_and_then_some (extra_at new front (slot + n)) (behind new front slot n kinds) made_kinds e (λ mid em e1. option_and_then_some _ (insn_at new.list (slot + n)) made_kinds e1 (λ i ei ex.
-      let h = behind_goes new front slot n kinds mid s t same o holds facts b at em in
-      let g = extra_goes new.order front i mid made_kinds s h.state same o holds facts h.between ex in
+  behind_goes new front slot (suc n) kinds made_kinds s t same o facts b at e = option_and_then_some (extra_at new front (slot + n)) (behind new front slot n kinds) made_kinds e (λ mid em e1. option_and_then_some _ (insn_at new.list (slot + n)) made_kinds e1 (λ i ei ex.
+      let h = behind_goes new front slot n kinds mid s t same o facts b at em in
+      let g = extra_goes new.order front i mid made_kinds s h.state same o facts h.between ex in
       record { count = suc h.count; state = g.state; steps = (h.state, h.steps, new_step new h.state g.state i (slot + n) h.at ei g.is); at = g.at ∙ ap (λ n. n + 1) h.at ∙ omega arith; between = g.between }))
 
-  pub extras_go : (new : Instructions) (front : Option Front) (from to : ℕ) (kinds made_kinds : List Kind) (s t : State) → new.order ≡ ends → Sound s → HoldsPacket ends passed s.context → Facts passed turns front s → Between ends notes turns passed (kind_in kinds) s t → t.top.slot ≡ from → extras new front from to kinds ≡ Some made_kinds → Reached new made_kinds to s t
-  extras_go new front from to kinds made_kinds s t same o holds facts b at e = by_cases (nat_le from to && nat_le (to - from) most_extras) refl e
+  pub extras_go : (new : Instructions) (front : Option Front) (from to : ℕ) (kinds made_kinds : List Kind) (s t : State) → new.order ≡ ends → Sound s → Facts passed turns front s → Between ends notes turns passed (kind_in kinds) s t → t.top.slot ≡ from → extras new front from to kinds ≡ Some made_kinds → Reached new made_kinds to s t
+  extras_go new front from to kinds made_kinds s t same o facts b at e = by_cases (nat_le from to && nat_le (to - from) most_extras) refl e
     where
       by_cases : (c : Bool) → (nat_le from to && nat_le (to - from) most_extras) ≡ c → (if c then behind new front from (to - from) kinds else None) ≡ Some made_kinds → Reached new made_kinds to s t
       by_cases true ec e =
           let up : from ≤ to = leb-true from to (both_true (nat_le from to) (nat_le (to - from) most_extras) ec).0 in
           let there : from + (to - from) ≡ to = omega arith in
-          subst (λ slot. Reached new made_kinds slot s t) there (behind_goes new front from (to - from) kinds made_kinds s t same o holds facts b at e)
+          subst (λ slot. Reached new made_kinds slot s t) there (behind_goes new front from (to - from) kinds made_kinds s t same o facts b at e)
       by_cases false ec e = absurd (none-some _ e)

@@ -58,7 +58,7 @@ use Rattle.bpf_follows_law.proofs.ExactInsn.{exact_arrives}
 use Rattle.bpf_follows_law.proofs.Wide.{narrow, widened_arrives}
 use Rattle.bpf_follows_law.proofs.Spared.{AllAbove, FarStore, old_above, far_store, kinds_spared, far_arrives}
 use Rattle.bpf_follows_law.proofs.Calls.{unset_called, call_kept, exit_kept}
-use Rattle.bpf_follows_law.proofs.Extra.{rooms_in, InFront, SumLies, HoldsLength, HoldsPacket}
+use Rattle.bpf_follows_law.proofs.Extra.{rooms_in, InFront, SumLies}
 use Rattle.bpf_follows_law.proofs.Turns.{IsMore, between_more, counted, own_counted, settles}
 use Rattle.bpf_follows_law.proofs.Kept.{Sound, extras_go}
 use Rattle.bpf_follows_law.proofs.Awaits.{Takes, Awaited, Onward, awaited_does}
@@ -85,9 +85,9 @@ module _ (computed : StepsAreComputed) (keeps : StepKeepsContext) (states : Step
   caught passed t u o e a = record { count = 1; state = a.state; steps = (t, refl, sym e ∙ a.is); follows = a.follows }
 
   -- behind an entry
-  entered_by : (passed : Past) (kinds : List Kind) (s t : State) → Sound s → HoldsPacket old.order passed s.context → Between old.order notes bounds.turns passed (kind_in kinds) s t → Enters notes new bounds.turns s.top.slot t.top.slot kinds → Caught passed s t
-  entered_by passed kinds s t o holds b e =
-      let h = extras_go old.order notes bounds.turns passed new None e.place.entry e.place.first kinds e.made s t matches.order_is o holds tt b e.slot_is e.makes in
+  entered_by : (passed : Past) (kinds : List Kind) (s t : State) → Sound s → Between old.order notes bounds.turns passed (kind_in kinds) s t → Enters notes new bounds.turns s.top.slot t.top.slot kinds → Caught passed s t
+  entered_by passed kinds s t o b e =
+      let h = extras_go old.order notes bounds.turns passed new None e.place.entry e.place.first kinds e.made s t matches.order_is o tt b e.slot_is e.makes in
       record {
         count = h.count;
         state = h.state;
@@ -99,8 +99,8 @@ module _ (computed : StepsAreComputed) (keeps : StepKeepsContext) (states : Step
         };
       }
 
-  called : (passed : Past) (kinds : Kinds) (to new_to : ℕ) (t u : State) (o : Option State) → Sound u → HoldsPacket old.order passed u.context → ((k : ℕ) → kinds (11 + k) ≡ Unset) → o ≡ step_of new t → Goes old.order notes bounds.turns passed kinds to new_to u o → Enters notes new bounds.turns to new_to (listed kinds) → Caught passed u t
-  called passed kinds to new_to t u o own holds unset e g enters =
+  called : (passed : Past) (kinds : Kinds) (to new_to : ℕ) (t u : State) (o : Option State) → Sound u → ((k : ℕ) → kinds (11 + k) ≡ Unset) → o ≡ step_of new t → Goes old.order notes bounds.turns passed kinds to new_to u o → Enters notes new bounds.turns to new_to (listed kinds) → Caught passed u t
+  called passed kinds to new_to t u o own unset e g enters =
       let top = g.between.top in
       let b : Between old.order notes bounds.turns passed (kind_in (listed kinds)) u g.state = record {
         top = record {
@@ -114,13 +114,13 @@ module _ (computed : StepsAreComputed) (keeps : StepKeepsContext) (states : Step
         waiting = g.between.waiting;
         context_is = g.between.context_is;
       } in
-      let h = entered_by passed (listed kinds) u g.state own holds b (subst (λ x. Enters notes new bounds.turns x g.state.top.slot (listed kinds)) (sym g.old_slot) (subst (λ y. Enters notes new bounds.turns to y (listed kinds)) (sym g.new_slot) enters)) in
+      let h = entered_by passed (listed kinds) u g.state own b (subst (λ x. Enters notes new bounds.turns x g.state.top.slot (listed kinds)) (sym g.old_slot) (subst (λ y. Enters notes new bounds.turns to y (listed kinds)) (sym g.new_slot) enters)) in
       record { count = 1 + h.count; state = h.state; steps = runs new 1 h.count t g.state h.state (t, refl, sym e ∙ g.is) h.steps; follows = h.follows }
 
   -- from the instruction itself, which stands at the slot
   module _ (passed : Past) (site : Site) (s t u : State) (state : IsState s) (after : IsState u) (o : Owns s) (b : Between old.order notes bounds.turns passed (known site.slot site.kinds) s t) (old_at : s.top.slot ≡ site.slot) (at : t.top.slot ≡ site.new_slot)
       (stands : insn_at new.list site.new_slot ≡ Some site.moved) (falls : Falls notes bounds site) (leads : Leads notes new bounds site) (lone : IsLone (is_alone notes) (known site.slot site.kinds) site.insn)
-      (place : Place) (noted : place_at notes s.top.slot ≡ Some place) (back : GivesBack notes bounds.turns place site) (awaited : Awaited (Takes notes bounds.turns) s) (holds : HoldsPacket old.order passed u.context) where
+      (place : Place) (noted : place_at notes s.top.slot ≡ Some place) (back : GivesBack notes bounds.turns place site) (awaited : Awaited (Takes notes bounds.turns) s) where
     kinds : Kinds
     kinds = known site.slot site.kinds
 
@@ -214,7 +214,7 @@ module _ (computed : StepsAreComputed) (keeps : StepKeepsContext) (states : Step
         let enters : Enters notes new bounds.turns to.0 a.0 (listed (kinds_called (known site.slot site.kinds))) = subst (λ c. Reaches c notes new bounds to.0 a.0 site.slot site.insn site.moved (known site.slot site.kinds)) (ap is_call ei) a.2 in
         let falls_call : Arrives notes bounds.turns (s.top.slot + 1) (t.top.slot + 1) (received (called_back notes site.slot (CallLocal off)) (kinds_beyond (is_alone notes) false (CallLocal off) site.moved (known site.slot site.kinds))) =
         subst (λ i. goes_on i ≡ true → Arrives notes bounds.turns (s.top.slot + slot_count i) (t.top.slot + slot_count i) (kinds_along notes bounds.untouched site.slot false i site.moved (known site.slot site.kinds))) ei (falls_beyond (ap (may_fall (known site.slot site.kinds)) ei)) refl in
-        called passed (kinds_called (known site.slot site.kinds)) to.0 a.0 t u (does old.order (CallLocal z) t) (own_does old.order (CallLocal off) s u b.top.eleven_old o e, after.each_frame.0.values) holds (unset_called old.order notes bounds.turns passed (known site.slot site.kinds)) (steps_by (CallLocal z) is)
+        called passed (kinds_called (known site.slot site.kinds)) to.0 a.0 t u (does old.order (CallLocal z) t) (own_does old.order (CallLocal off) s u b.top.eleven_old o e, after.each_frame.0.values) (unset_called old.order notes bounds.turns passed (known site.slot site.kinds)) (steps_by (CallLocal z) is)
         (call_kept old.order notes bounds.turns passed off z (called_back notes site.slot (CallLocal off)) site.moved (known site.slot site.kinds) s t u to.0 a.0 b plain (own_called notes site.slot (CallLocal off)) falls_call to.1 (led_at (CallLocal z) a.0 is a.1) e) enters
 
     exit_reads : Reads (known site.slot site.kinds) Exit → is_same (known site.slot site.kinds 0) ≡ true
@@ -315,7 +315,6 @@ module _ (computed : StepsAreComputed) (keeps : StepKeepsContext) (states : Step
     ends : Ends old rooms more s
     state : IsState s
     long : length s.context ≡ bounds.length
-    holds : (n : ℕ) → packet ≡ Some n → HoldsLength old.order s.context n
 
   -- the rooms lie in those that are known in front of an instruction
   wider : (slot : ℕ) (i : Insn) (region : Region) (z : ℤ) (span : Span) → LieIn (floor rooms region) (room rooms region) z span → LieIn (floor (rooms_in (front_at old bounds slot i)) region) (room (rooms_in (front_at old bounds slot i)) region) z span
@@ -361,9 +360,9 @@ module _ (computed : StepsAreComputed) (keeps : StepKeepsContext) (states : Step
     at : state.top.slot ≡ site.new_slot
 
   front : (passed : Past) (i : Insn) (s t : State) (o : Sound s) (f : Follows old.order notes bounds.turns passed s t) (st : Stands new notes bounds f.top.place (front_at old bounds s.top.slot i))
-      → HoldsPacket old.order passed s.context → InFront passed bounds.turns (front_at old bounds s.top.slot i) s → Before passed st.site s t
-  front passed i s t o f st holds facts =
-      let h = extras_go old.order notes bounds.turns passed new (Some (front_at old bounds s.top.slot i)) f.top.place.first f.top.place.body f.top.place.kinds st.site.kinds s t matches.order_is o holds facts (between passed s t f) f.top.slot_is st.is_site.reaches in
+      → InFront passed bounds.turns (front_at old bounds s.top.slot i) s → Before passed st.site s t
+  front passed i s t o f st facts =
+      let h = extras_go old.order notes bounds.turns passed new (Some (front_at old bounds s.top.slot i)) f.top.place.first f.top.place.body f.top.place.kinds st.site.kinds s t matches.order_is o facts (between passed s t f) f.top.slot_is st.is_site.reaches in
       record {
         count = h.count;
         state = h.state;
@@ -376,10 +375,9 @@ module _ (computed : StepsAreComputed) (keeps : StepKeepsContext) (states : Step
   unfolding step_of
   step_caught passed s t u same o awaited f sure after e stays few = option_and_then_some _ (insn_at old.list s.top.slot) u e (λ i ei ed.
       let st = unless_stopped old.order notes bounds.turns passed old.order bounds.length i (kinds_of f.top.place) s t u (between passed s t f) o sure.long ed (matches.each s.top.slot f.top.place i f.top.noted ei) in
-      let held : HoldsPacket old.order passed s.context = λ n en. sure.holds n (sym same ∙ en) in
-      let h = front passed i s t (o, sure.state.each_frame.0.values) f st held (in_front passed i s same ei sure few) in
+      let h = front passed i s t (o, sure.state.each_frame.0.values) f st (in_front passed i s same ei sure few) in
       let site = st.is_site in
-      let c = from_body (counted passed s.top.slot) st.site s h.state u sure.state after o h.between (sym site.slot_is) h.at site.stands st.falls st.leads st.lone f.top.place f.top.noted st.gives_back awaited (λ n en. subst (λ context. HoldsLength old.order context n) (sym (keeps old s u e)) (held n en)) (old_above old bounds.untouched s st.site.insn stays.leaves (ei ∙ ap Some (sym site.insn_is))) (subst (λ n. n < 2 ^ 32) (sym sure.long) matches.short) site.pairs
+      let c = from_body (counted passed s.top.slot) st.site s h.state u sure.state after o h.between (sym site.slot_is) h.at site.stands st.falls st.leads st.lone f.top.place f.top.noted st.gives_back awaited (old_above old bounds.untouched s st.site.insn stays.leaves (ei ∙ ap Some (sym site.insn_is))) (subst (λ n. n < 2 ^ 32) (sym sure.long) matches.short) site.pairs
       (ap (λ i. does old.order i s) site.insn_is ∙ ed) in
       record { count = h.count + c.count; state = c.state; steps = runs new h.count c.count t h.state c.state h.steps c.steps; follows = c.follows })
 
@@ -402,8 +400,7 @@ module _ (computed : StepsAreComputed) (keeps : StepKeepsContext) (states : Step
   finish_caught passed s t v same o f sure e few = option_and_then_some _ (insn_at old.list s.top.slot) v e (λ i ei er.
       let is = exit_is s.waiting (number_of_register s R0) i v er in
       let st : Stands new notes bounds f.top.place (front_at old bounds s.top.slot i) = elim (matches.each s.top.slot f.top.place i f.top.noted ei) [ inl stuck ↦ absurd (false≢true (ap (is_stuck bounds.length (kinds_of f.top.place)) (sym is) ∙ stuck)) | inr stands ↦ stands ] in
-      let held : HoldsPacket old.order passed s.context = λ n en. sure.holds n (sym same ∙ en) in
-      let h = front passed i s t (o, sure.state.each_frame.0.values) f st held (in_front passed i s same ei sure few) in
+      let h = front passed i s t (o, sure.state.each_frame.0.values) f st (in_front passed i s same ei sure few) in
       let k = counted passed s.top.slot in
       let site_is : st.site.insn ≡ Exit = st.is_site.insn_is ∙ is in
       let ends = ends_alike st.site site_is st.is_site.pairs in
@@ -447,17 +444,17 @@ module _ (computed : StepsAreComputed) (keeps : StepKeepsContext) (states : Step
     owns : Owns s
     awaited : Awaited (Takes notes bounds.turns) s
 
-  sure_of : (context : List ℕ) (first : State) (more : ℕ) (s : State) → Begins old notes bounds packet context first → length context ≡ bounds.length → s.context ≡ context → IsState s → Ends old rooms more s → Sure s
+  sure_of : (context : List ℕ) (first : State) (more : ℕ) (s : State) → Begins old new notes bounds packet context first → length context ≡ bounds.length → s.context ≡ context → IsState s → Ends old rooms more s → Sure s
   sure_of context first more s begins long there state ends =
-      record { more = more; ends = ends; state = state; long = ap length there ∙ long; holds = λ n e. subst (λ context. HoldsLength old.order context n) (sym there) (begins.holds n e) }
+      record { more = more; ends = ends; state = state; long = ap length there ∙ long }
 
   -- after k steps of the old machine, of a run that ends
-  follows_run : (context : List ℕ) (first : State) (k more : ℕ) (s : State) → Begins old notes bounds packet context first → length context ≡ bounds.length → (run : Steps old k first s) → AllStay old rooms k first s run → Ends old rooms more s → ((slot : ℕ) → visits old first k slot ≤ bounds.turns)
+  follows_run : (context : List ℕ) (first : State) (k more : ℕ) (s : State) → Begins old new notes bounds packet context first → length context ≡ bounds.length → (run : Steps old k first s) → AllStay old rooms k first s run → Ends old rooms more s → ((slot : ℕ) → visits old first k slot ≤ bounds.turns)
       → Come context first k s
   follows_run context first zero more s begins long run stay ends few = subst (Come context first 0) (sym run) (record {
-    count = h.count;
+    count = begins.count + h.count;
     new_state = h.state;
-    steps = h.steps;
+    steps = runs new begins.count h.count (start context) begins.begun h.state begins.steps h.steps;
     follows = h.follows;
     context_is = begins.context_is;
     state = begins.state;
@@ -465,9 +462,9 @@ module _ (computed : StepsAreComputed) (keeps : StepKeepsContext) (states : Step
     awaited = begins.awaited;
   })
     where
-      h : Caught (past first 0) first (start context)
-      h = entered_by (past first 0) (start_kinds bounds) first (start context) (begins.owns, begins.state.each_frame.0.values) (λ n e. subst (λ context. HoldsLength old.order context n) (sym begins.context_is) (begins.holds n e)) begins.between
-          (subst (λ slot. Enters notes new bounds.turns slot 0 (start_kinds bounds)) (sym begins.at_slot) matches.start.1)
+      h : Caught (past first 0) first begins.begun
+      h = entered_by (past first 0) (start_kinds bounds) first begins.begun (begins.owns, begins.state.each_frame.0.values) begins.between
+          (subst (λ slot. Enters notes new bounds.turns slot begins.begun.top.slot (start_kinds bounds)) (sym begins.at_slot) (subst (λ slot. Enters notes new bounds.turns 0 slot (start_kinds bounds)) (sym begins.begun_at) matches.start.1))
   follows_run context first (suc k) more s begins long (mid, run, step) (stay, here) ends few =
       let before = follows_run context first k (suc more) mid begins long run stay (s, step, here, ends) (λ slot. no_more _ _ bounds.turns (few slot)) in
       let next : (slot : ℕ) → visits old first (suc k) slot ≡ (counted (past first k) mid.top.slot).visits slot = λ slot. visits_next computed old k slot first mid run in
@@ -487,7 +484,7 @@ module _ (computed : StepsAreComputed) (keeps : StepKeepsContext) (states : Step
       }
 
   -- and then it ends
-  pub ends_alike_with : (context : List ℕ) (first last : State) (k v : ℕ) → Begins old notes bounds packet context first → length context ≡ bounds.length → (run : Steps old k first last) → AllStay old rooms k first last run → Finish old last v
+  pub ends_alike_with : (context : List ℕ) (first last : State) (k v : ℕ) → Begins old new notes bounds packet context first → length context ≡ bounds.length → (run : Steps old k first last) → AllStay old rooms k first last run → Finish old last v
       → ((slot : ℕ) → visits old first (suc k) slot ≤ bounds.turns) → (n : ℕ) × IsDone new context v n
   ends_alike_with context first last k v begins long run stay finish few =
       let last_ends : Ends old rooms 0 last = (v, finish) in

@@ -32,6 +32,7 @@ mod Wide
 mod Spared
 mod Calls
 mod GivenBack
+mod Cut
 mod Begins
 mod Law
 mod Given

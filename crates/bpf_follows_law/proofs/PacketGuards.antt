@@ -1,9 +1,9 @@
 -- Guards against the end of a block's packet, and all guards.
 use Rattle.std.proofs.Common.{◌≡◌, ℕ, ◌+◌, ◌<◌, ◌≤◌, inl, inr, ◌^◌, true, false, cond, List, Option, Some, None, get_or, refl, sym, ap, ◌∙◌, subst, arith}
-use Rattle.std.specs.Prelude.{◌&&◌, int_le, ℤ, pos, ◌+ℤ◌, ◌-ℤ◌, nat_le}
+use Rattle.std.specs.Prelude.{◌&&◌, int_le, ℤ, pos, ◌+ℤ◌, ◌-ℤ◌}
 use Rattle.std.specs.Option.{option_map_or}
 use Rattle.std.specs.Ordering.{int_eq}
-use Rattle.std.proofs.lemmas.Bool.{le-ltb, leb-true, false≢true}
+use Rattle.std.proofs.lemmas.Bool.{le-ltb, false≢true}
 use Rattle.std.proofs.lemmas.Option.{none-some, same_Some}
 use Rattle.std.proofs.lemmas.Int.{ints}
 use Rattle.bpf_insn.specs.Arithmetic.{modulo, extended}
@@ -25,7 +25,7 @@ use Rattle.bpf_semantics.specs.declared.value.Region.TheVariants.{Context}
 use Rattle.bpf_follows_law.specs.declared.notes.Area.{Area}
 use Rattle.bpf_follows_law.specs.declared.notes.Area.TheVariants.{Given}
 use Rattle.bpf_follows_law.specs.declared.notes.Kind.{Kind}
-use Rattle.bpf_follows_law.specs.declared.notes.Kind.TheVariants.{Length, Ending, Closing}
+use Rattle.bpf_follows_law.specs.declared.notes.Kind.TheVariants.{Ending, Closing}
 use Rattle.bpf_follows_law.specs.declared.notes.Place.{Place}
 use Rattle.bpf_follows_law.specs.declared.site.Span.{Span}
 use Rattle.bpf_follows_law.specs.declared.site.Front.{Front}
@@ -33,14 +33,14 @@ use Rattle.bpf_packets.specs.Blocks.{head_bytes}
 use Rattle.bpf_follows_law.specs.Areas.{same_area}
 use Rattle.bpf_follows_law.specs.Relation.{Past, kind_in, as_offset, HasOffset, FitsKind, register_in}
 use Rattle.bpf_follows_law.specs.Extras.{kind_of, offset_in, given_in, is_taken}
-use Rattle.bpf_follows_law.specs.Guards.{range_in, is_least, is_long, end_in, is_before, is_behind, ends_behind, is_reached, reached, reached_by, reaches, passes, at_most, at_least, passed_by, is_other}
+use Rattle.bpf_follows_law.specs.Guards.{range_in, is_least, end_in, is_before, is_behind, ends_behind, is_reached, reached, reached_by, reaches, passes, at_least, passed_by, is_other}
 use Rattle.bpf_follows_law.proofs.Lists.{bind}
 use Rattle.bpf_follows_law.proofs.Has.{area_same}
 use Rattle.bpf_follows_law.proofs.Onward.{LieIn}
 use Rattle.bpf_follows_law.proofs.Between.{Between}
 use Rattle.bpf_follows_law.proofs.Instruction.{both_true}
 use Rattle.bpf_follows_law.proofs.Extra.{InFront, Facts, moved_has, given_is, Goes1, fits_at}
-use Rattle.bpf_follows_law.proofs.Guard.{mod_low, either_true, jump_passes, guard_does, low_does, natural, le_of, most_fits, least_fits, guard_passes, most_goes, least_goes, taken_goes, other_goes}
+use Rattle.bpf_follows_law.proofs.Guard.{mod_low, either_true, jump_passes, low_does, natural, le_of, least_fits, guard_passes, most_goes, least_goes, taken_goes, other_goes}
 
 module _ (ends : Order) (notes : List (Option Place)) (turns : ℕ) (passed : Past) where
   -- ---- the end of a block's packet
@@ -149,24 +149,6 @@ module _ (ends : Order) (notes : List (Option Place)) (turns : ℕ) (passed : Pa
           guard_passes ends notes turns passed order (JumpIf Lt W64 dst (Imm imm) off) kinds (at_least (extended imm) (kind_of kinds dst)) dst s t b (low_does ends notes turns passed order t dst imm off (f.size + by) f.is.1 above)
           (least_fits ends notes turns passed (kind_of kinds dst) (extended imm) (f.size + by) (register_in s.top) (register_number dst) (register t dst) f.is.1 above (fits_at ends notes turns passed kinds s t dst b))
 
-  -- the packet isn't longer
-  long_goes : (order : Order) (dst : Reg) (imm off : ℤ) (kinds : List Kind) (s t : State) → Between ends notes turns passed (kind_in kinds) s t → is_long imm (kind_of kinds dst) ≡ true
-      → Goes1 ends notes turns passed order (JumpIf Gt W64 dst (Imm imm) off) (passed_by kinds (JumpIf Gt W64 dst (Imm imm) off)) s t
-  long_goes order dst imm off kinds s t b e = by_kind (kind_of kinds dst) refl e
-    where
-      by_length : (most : ℕ) → kind_of kinds dst ≡ Length most → nat_le most (extended imm) ≡ true → Goes1 ends notes turns passed order (JumpIf Gt W64 dst (Imm imm) off) (passed_by kinds (JumpIf Gt W64 dst (Imm imm) off)) s t
-      by_length most ek e =
-          let f : FitsKind turns passed (register_in s.top) (register_number dst) (Length most) (register t dst) = subst (λ kind. FitsKind turns passed (register_in s.top) (register_number dst) kind (register t dst)) ek (fits_at ends notes turns passed kinds s t dst b) in
-          let more = leb-true most (extended imm) e in
-          let few = f.is.0 in
-          let below : f.size ≤ extended imm = omega arith in
-          guard_passes ends notes turns passed order (JumpIf Gt W64 dst (Imm imm) off) kinds (at_most (extended imm) (kind_of kinds dst)) dst s t b (guard_does ends notes turns passed order t dst imm off f.size f.is.2 below)
-          (most_fits ends notes turns passed (kind_of kinds dst) (extended imm) f.size (register_in s.top) (register_number dst) (register t dst) f.is.2 below (fits_at ends notes turns passed kinds s t dst b))
-
-      by_kind : (kind : Kind) → kind_of kinds dst ≡ kind → is_long imm kind ≡ true → Goes1 ends notes turns passed order (JumpIf Gt W64 dst (Imm imm) off) (passed_by kinds (JumpIf Gt W64 dst (Imm imm) off)) s t
-      by_kind (Length most) ek e = by_length most ek e
-      by_kind kind ek e = absurd (false≢true e)
-
   -- ---- all of them
 
   pub passes_goes : (order : Order) (front : Option Front) (i : Insn) (kinds : List Kind) (s t : State) → Facts passed turns front s → Between ends notes turns passed (kind_in kinds) s t → passes front kinds i ≡ true → Goes1 ends notes turns passed order i (passed_by kinds i) s t
@@ -180,7 +162,6 @@ module _ (ends : Order) (notes : List (Option Place)) (turns : ℕ) (passed : Pa
     | inr least ↦ least_goes ends notes turns passed order front dst imm off kinds s t facts b least
   ]
   passes_goes order (Some front) (JumpIf Gt W64 dst (FromReg src) off) kinds s t facts b e = ends_goes order front dst src off kinds s t facts b e
-  passes_goes order None (JumpIf Gt W64 dst (Imm imm) off) kinds s t facts b e = long_goes order dst imm off kinds s t b e
   passes_goes order (Some front) (JumpIf cond W64 dst (Imm imm) off) kinds s t facts b e = absurd (false≢true e)
   passes_goes order (Some front) (JumpIf cond W64 dst (FromReg src) off) kinds s t facts b e = absurd (false≢true e)
   passes_goes order None (JumpIf cond W64 dst (Imm imm) off) kinds s t facts b e = absurd (false≢true e)

@@ -23,7 +23,7 @@ use Rattle.bpf_semantics.proofs.FlatBytes.{number-bytes}
 use Rattle.bpf_semantics.proofs.StateLemmas.{get_each, length-each_cell, without_is}
 use Rattle.bpf_follows_law.specs.declared.notes.Area.TheVariants.{Given, Own}
 use Rattle.bpf_follows_law.specs.declared.notes.Kind.{Kind}
-use Rattle.bpf_follows_law.specs.declared.notes.Kind.TheVariants.{Nothing, Unset, Same, Number as NumberKind, Natural, Inner, Length, Sized, Closing, Head, Offset, Fixed, Within, Start, Alone, Returns, Both}
+use Rattle.bpf_follows_law.specs.declared.notes.Kind.TheVariants.{Nothing, Unset, Same, Number as NumberKind, Natural, Inner, Length, Closing, Head, Offset, Fixed, Within, Start, Alone, Returns, Both}
 use Rattle.bpf_follows_law.specs.Relation.{Past, IsKept, EachPair, IsRead, cell_of, Holds, IsUnset, SlotKept, FitsSlot, as_number, is_free}
 use Rattle.bpf_follows_law.specs.Matching.{is_plain}
 use Rattle.bpf_follows_law.proofs.Lists.{mapped, same_is_kept, pairs_weaker, pair_at, Cells}
@@ -95,7 +95,6 @@ module _ (order : Order) (turns : ℕ) (passed : Past) (registers : ℕ → Opti
   plain_kept xs ys k (Natural half) e f = absurd f
   plain_kept xs ys k (Inner least most) e f = absurd f
   plain_kept xs ys k (Length most) e f = absurd f
-  plain_kept xs ys k (Sized most) e f = absurd f
   plain_kept xs ys k (Closing by offset) e f = absurd f
   plain_kept xs ys k Head e f = absurd f
   plain_kept xs ys k (Offset area) e f = absurd (false≢true e)
@@ -116,7 +115,6 @@ module _ (order : Order) (turns : ℕ) (passed : Past) (registers : ℕ → Opti
   free_unset xs ys k (Natural half) e f = absurd f
   free_unset xs ys k (Inner least most) e f = absurd f
   free_unset xs ys k (Length most) e f = absurd f
-  free_unset xs ys k (Sized most) e f = absurd f
   free_unset xs ys k (Closing by offset) e f = absurd f
   free_unset xs ys k Head e f = absurd f
   free_unset xs ys k (Offset area) e f = absurd (false≢true e)
@@ -144,7 +142,6 @@ module _ (order : Order) (turns : ℕ) (passed : Past) (registers : ℕ → Opti
   slot_as xs ys xs' ys' k (Natural half) ex ey f = f
   slot_as xs ys xs' ys' k (Inner least most) ex ey f = f
   slot_as xs ys xs' ys' k (Length most) ex ey f = f
-  slot_as xs ys xs' ys' k (Sized most) ex ey f = f
   slot_as xs ys xs' ys' k (Closing by offset) ex ey f = f
   slot_as xs ys xs' ys' k Head ex ey f = f
   slot_as xs ys xs' ys' k (Offset Own) ex ey f = f

@@ -6,7 +6,7 @@ use Rattle.bpf_insn.specs.declared.order.Order.{Order}
 use Rattle.bpf_semantics.specs.State.{StackFrame, State}
 use Rattle.bpf_semantics.specs.declared.value.Value.{Value}
 use Rattle.bpf_follows_law.specs.declared.notes.Kind.{Kind}
-use Rattle.bpf_follows_law.specs.declared.notes.Kind.TheVariants.{Nothing, Unset, Same, Number as NumberKind, Natural, Inner, Length, Sized, Closing, Ending, Head, Offset, Fixed, Within, Start, Base, Moved, Address, Constant, Counter, Turn, Alone, Returns, Both, Saved, Kept}
+use Rattle.bpf_follows_law.specs.declared.notes.Kind.TheVariants.{Nothing, Unset, Same, Number as NumberKind, Natural, Inner, Length, Closing, Ending, Head, Offset, Fixed, Within, Start, Base, Moved, Address, Constant, Counter, Turn, Alone, Returns, Both, Saved, Kept}
 use Rattle.bpf_follows_law.specs.declared.notes.Place.{Place}
 use Rattle.bpf_follows_law.specs.Relation.{Past, OfPacket, kind_in, FitsKind, FrameFits, FrameWaits, FitsSlot, register_in, settled, known}
 use Rattle.bpf_follows_law.proofs.Lists.{pairs_weaker, Cells}
@@ -37,7 +37,6 @@ kind_more turns passed more old r (NumberKind least most) new le f = f
 kind_more turns passed more old r (Natural half) new le f = f
 kind_more turns passed more old r (Inner least most) new le f = f
 kind_more turns passed more old r (Length most) new le f = of_more passed more le f
-kind_more turns passed more old r (Sized most) new le f = of_more passed more le f
 kind_more turns passed more old r (Closing by offset) new le f = of_more passed more le f
 kind_more turns passed more old r (Ending by) new le f = of_more passed more le f
 kind_more turns passed more old r Head new le f = f
@@ -65,7 +64,6 @@ slot_more ends turns passed more registers xs ys k (NumberKind least most) le f 
 slot_more ends turns passed more registers xs ys k (Natural half) le f = f
 slot_more ends turns passed more registers xs ys k (Inner least most) le f = f
 slot_more ends turns passed more registers xs ys k (Length most) le f = f
-slot_more ends turns passed more registers xs ys k (Sized most) le f = f
 slot_more ends turns passed more registers xs ys k (Closing by offset) le f = f
 slot_more ends turns passed more registers xs ys k Head le f = f
 slot_more ends turns passed more registers xs ys k (Ending by) le f = record { unset = f.unset; value = f.value; holds = f.holds; fits = kind_more turns passed more registers (11 + k) (Ending by) (Some f.value) le f.fits }
@@ -120,7 +118,6 @@ kind_settled turns passed slot old r (NumberKind least most) new f = f
 kind_settled turns passed slot old r (Natural half) new f = f
 kind_settled turns passed slot old r (Inner least most) new f = f
 kind_settled turns passed slot old r (Length most) new f = f
-kind_settled turns passed slot old r (Sized most) new f = f
 kind_settled turns passed slot old r (Closing by offset) new f = f
 kind_settled turns passed slot old r (Ending by) new f = f
 kind_settled turns passed slot old r Head new f = f
@@ -152,7 +149,6 @@ slot_settled ends turns passed slot registers xs ys k (NumberKind least most) f 
 slot_settled ends turns passed slot registers xs ys k (Natural half) f = f
 slot_settled ends turns passed slot registers xs ys k (Inner least most) f = f
 slot_settled ends turns passed slot registers xs ys k (Length most) f = f
-slot_settled ends turns passed slot registers xs ys k (Sized most) f = f
 slot_settled ends turns passed slot registers xs ys k (Closing by offset) f = f
 slot_settled ends turns passed slot registers xs ys k Head f = f
 slot_settled ends turns passed slot registers xs ys k (Ending by) f = record { unset = f.unset; value = f.value; holds = f.holds; fits = kind_settled turns passed slot registers (11 + k) (Ending by) (Some f.value) f.fits }

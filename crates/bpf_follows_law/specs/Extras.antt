@@ -1,5 +1,5 @@
 -- Extra instructions that write a register or a slot of the frame: what they make of it, while the old program stands still.
-use Rattle.std.specs.Prelude.{ℕ, ◌+◌, ◌/◌, ◌%◌, ◌^◌, ◌==◌, nat_lt, not, ◌&&◌, ℤ, pos, negsuc, ◌+ℤ◌, Bool, true, false, List, Option, Some, None, option_and_then, option_map, if◌then◌else◌}
+use Rattle.std.specs.Prelude.{ℕ, ◌+◌, ◌/◌, ◌%◌, ◌^◌, ◌==◌, nat_lt, ◌&&◌, ℤ, pos, negsuc, ◌+ℤ◌, Bool, true, false, List, Option, Some, None, option_and_then, option_map, if◌then◌else◌}
 use Rattle.std.specs.Option.{option_map_or, option_or}
 use Rattle.std.specs.Ordering.{int_eq}
 use Rattle.bpf_insn.specs.Limits.{frame_bytes}
@@ -17,7 +17,7 @@ use Rattle.bpf_packets.specs.Blocks.{head_bytes}
 use Rattle.bpf_follows_law.specs.declared.notes.Area.{Area}
 use Rattle.bpf_follows_law.specs.declared.notes.Area.TheVariants.{Given, Own}
 use Rattle.bpf_follows_law.specs.declared.notes.Kind.{Kind}
-use Rattle.bpf_follows_law.specs.declared.notes.Kind.TheVariants.{Same, Both, Number, Natural, Inner, Length, Sized, Ending, Closing, Offset, Fixed, Within, Start, Head, Base, Moved, Address, Saved, Kept, Constant, Counter, Turn, Alone, Returns}
+use Rattle.bpf_follows_law.specs.declared.notes.Kind.TheVariants.{Same, Both, Number, Natural, Inner, Length, Ending, Closing, Offset, Fixed, Within, Start, Head, Base, Moved, Address, Saved, Kept, Constant, Counter, Turn, Alone, Returns}
 use Rattle.bpf_follows_law.specs.declared.site.Front.{Front}
 use Rattle.bpf_follows_law.specs.Areas.{same_area}
 use Rattle.bpf_follows_law.specs.Relation.{kind_in, is_free}
@@ -207,24 +207,12 @@ restored r have kind = kind
 abbrev pub taken : List Kind → Reg → Reg → ℤ → Option (ℕ × Kind)
 taken kinds dst src off = if is_r10 dst then None else option_and_then (λ k. option_map (λ kind. (register_number dst, restored dst (kind_of kinds dst) kind)) (own_kind (kind_in kinds (11 + k)))) (frame_slot kinds src off)
 
--- ---- blocks
-
--- the register in which the old program has a packet's length
-abbrev pub size_in : Kind → Option ℕ
-size_in (Sized most) = Some most
-size_in _ = None
-
--- a load of a packet's length, with which the block begins, into that register
-abbrev pub packet_length : List Kind → Reg → Reg → ℤ → Option (ℕ × Kind)
-packet_length kinds dst src off =
-    if not (is_r10 dst) && (is_base (kind_of kinds src) && int_eq off (pos 0)) then option_map (λ most. (register_number dst, Length most)) (size_in (kind_of kinds dst)) else None
-
 abbrev pub constant_put : List Kind → Insn → Option (ℕ × Kind)
 constant_put kinds (StoreImm DW dst off imm) = stored_constant kinds dst off imm
 constant_put kinds i = None
 
--- what an extra instruction puts into a slot, or takes out of one, or loads of a block: the place, and what it holds then
+-- what an extra instruction puts into a slot, or takes out of one: the place, and what it holds then
 abbrev pub moved_by : List Kind → Insn → Option (ℕ × Kind)
 moved_by kinds (Store DW dst off src) = stored kinds dst off src
-moved_by kinds (Load DW dst src off) = option_or (taken kinds dst src off) (packet_length kinds dst src off)
+moved_by kinds (Load DW dst src off) = taken kinds dst src off
 moved_by kinds i = constant_put kinds i

@@ -1,5 +1,5 @@
 -- Guards, and tests of counters: extra jumps that aren't taken where the old program's run goes on to its end. Nothing here speaks of runs.
-use Rattle.std.specs.Prelude.{ℕ, ◌^◌, ◌==◌, nat_le, nat_lt, int_le, ◌&&◌, ℤ, pos, negsuc, ◌+ℤ◌, ◌-ℤ◌, Bool, false, List, set, get_or, min, max, Option, Some, None, option_and_then, option_map, if◌then◌else◌, ◌||◌}
+use Rattle.std.specs.Prelude.{ℕ, ◌^◌, ◌==◌, nat_lt, int_le, ◌&&◌, ℤ, pos, negsuc, ◌+ℤ◌, ◌-ℤ◌, Bool, false, List, set, get_or, min, max, Option, Some, None, option_and_then, option_map, if◌then◌else◌, ◌||◌}
 use Rattle.std.specs.Int.{int_min, int_max}
 use Rattle.std.specs.Option.{option_map_or, option_or}
 use Rattle.std.specs.Ordering.{int_eq}
@@ -18,7 +18,7 @@ use Rattle.bpf_packets.specs.Blocks.{head_bytes}
 use Rattle.bpf_follows_law.specs.declared.notes.Area.{Area}
 use Rattle.bpf_follows_law.specs.declared.notes.Area.TheVariants.{Given}
 use Rattle.bpf_follows_law.specs.declared.notes.Kind.{Kind}
-use Rattle.bpf_follows_law.specs.declared.notes.Kind.TheVariants.{Same, Both, Number, Natural, Length, Ending, Closing, Offset, Fixed, Within}
+use Rattle.bpf_follows_law.specs.declared.notes.Kind.TheVariants.{Same, Both, Number, Natural, Ending, Closing, Offset, Fixed, Within}
 use Rattle.bpf_follows_law.specs.declared.site.Span.{Span}
 use Rattle.bpf_follows_law.specs.declared.site.Range.{Range}
 use Rattle.bpf_follows_law.specs.declared.site.Front.{Front}
@@ -86,11 +86,6 @@ is_other imm _ = false
 
 -- ---- the end of a block's packet
 
--- the packet isn't longer than a constant
-abbrev pub is_long : ℤ → Kind → Bool
-is_long imm (Length most) = nat_le most (extended imm)
-is_long imm _ = false
-
 -- how far behind the packet's end a register is
 abbrev pub end_in : Kind → Option ℕ
 end_in (Ending by) = Some by
@@ -135,7 +130,6 @@ passes_constant front kinds cond dst imm = false
 abbrev pub passes : Option Front → List Kind → Insn → Bool
 passes (Some front) kinds (JumpIf cond W64 dst (Imm imm) off) = passes_constant front kinds cond dst imm
 passes (Some front) kinds (JumpIf Gt W64 dst (FromReg src) off) = ends_behind front (offset_in dst (kind_of kinds dst)) (kind_of kinds src)
-passes None kinds (JumpIf Gt W64 dst (Imm imm) off) = is_long imm (kind_of kinds dst)
 passes front kinds i = false
 
 -- what a guard tells of a number or an offset that it lets pass: of a pointer it isn't passed

@@ -1,5 +1,5 @@
 -- What has to hold of the notes at each slot. Nothing here speaks of runs.
-use Rattle.std.specs.Prelude.{◌≡◌, ◌≢◌, ℕ, ◌+◌, ◌-◌, ◌*◌, ◌/◌, ◌^◌, ◌<◌, ◌≤◌, nat_le, ◌==◌, nat_lt, ℤ, pos, negsuc, ◌+ℤ◌, ◌-ℤ◌, FitsSigned, ◌⊎◌, true, false, Bool, not, ◌&&◌, ◌||◌, List, [], ◌∷◌, ◌++◌, replicate, Option, Some, None, IsSome, option_and_then, option_map, if◌then◌else◌}
+use Rattle.std.specs.Prelude.{◌≡◌, ℕ, ◌+◌, ◌-◌, ◌*◌, ◌/◌, ◌^◌, ◌<◌, ◌≤◌, nat_le, ◌==◌, nat_lt, ℤ, pos, negsuc, ◌+ℤ◌, ◌-ℤ◌, FitsSigned, ◌⊎◌, true, false, Bool, not, ◌&&◌, ◌||◌, List, [], ◌∷◌, ◌++◌, replicate, Option, Some, None, IsSome, option_and_then, option_map, if◌then◌else◌}
 use Rattle.std.specs.Int.{w16}
 use Rattle.std.specs.List.{AllByRecursion}
 use Rattle.std.specs.Option.{option_map_or, option_or}
@@ -9,6 +9,7 @@ use Rattle.bpf_insn.specs.Effects.{Access, access_of, registers_read, register_w
 use Rattle.bpf_insn.specs.Instruction.{Instructions, register_number, byte_count, slot_count, insn_at, goes_on, not_negative}
 use Rattle.bpf_insn.specs.Limits.{frame_bytes}
 use Rattle.bpf_insn.specs.declared.instruction.Reg.{Reg}
+use Rattle.bpf_insn.specs.declared.instruction.Reg.TheVariants.{R1, R2}
 use Rattle.bpf_insn.specs.declared.instruction.Operand.{Operand}
 use Rattle.bpf_insn.specs.declared.instruction.Operand.TheVariants.{Imm, Reg as FromReg}
 use Rattle.bpf_insn.specs.declared.instruction.Size.TheVariants.{DW}
@@ -16,7 +17,7 @@ use Rattle.bpf_insn.specs.declared.instruction.Width.TheVariants.{W32, W64}
 use Rattle.bpf_insn.specs.declared.instruction.AluOp.{AluOp}
 use Rattle.bpf_insn.specs.declared.instruction.AluOp.TheVariants.{Add, Sub, Mov}
 use Rattle.bpf_insn.specs.declared.instruction.Cond.{Cond}
-use Rattle.bpf_insn.specs.declared.instruction.Cond.TheVariants.{Eq, Ne}
+use Rattle.bpf_insn.specs.declared.instruction.Cond.TheVariants.{Eq, Ne, Le}
 use Rattle.bpf_insn.specs.declared.instruction.Insn.{Insn}
 use Rattle.bpf_insn.specs.declared.instruction.Insn.TheVariants.{Alu, Load, LoadSx, Store, StoreImm, Ja, JaLong, JumpIf, CallLocal}
 use Rattle.bpf_semantics.specs.Memory.{is_within}
@@ -24,7 +25,7 @@ use Rattle.bpf_packets.specs.Blocks.{head_bytes}
 use Rattle.bpf_follows_law.specs.declared.notes.Area.{Area}
 use Rattle.bpf_follows_law.specs.declared.notes.Area.TheVariants.{Given, Own}
 use Rattle.bpf_follows_law.specs.declared.notes.Kind.{Kind}
-use Rattle.bpf_follows_law.specs.declared.notes.Kind.TheVariants.{Nothing, Unset, Same, Both, Number, Inner, Sized, Closing, Head, Offset, Fixed, Within, Start, Moved, Address, Saved, Kept}
+use Rattle.bpf_follows_law.specs.declared.notes.Kind.TheVariants.{Nothing, Unset, Same, Both, Number, Inner, Length, Closing, Head, Offset, Fixed, Within, Start, Moved, Address, Saved, Kept}
 use Rattle.bpf_follows_law.specs.declared.notes.Bounds.{Bounds}
 use Rattle.bpf_follows_law.specs.declared.notes.Place.{Place}
 use Rattle.bpf_follows_law.specs.declared.site.Front.{Front}
@@ -467,17 +468,42 @@ abbrev pub StandsAt : Instructions → Instructions → List (Option Place) → 
 StandsAt old new notes bounds slot = (place : Place) (i : Insn) → place_at notes slot ≡ Some place → insn_at old.list slot ≡ Some i
     → (is_stuck bounds.length (kinds_of place) i ≡ true) ⊎ Stands new notes bounds place (front_at old bounds slot i)
 
--- r1 is the context, and r2 its length; in blocks, the old program's are the packet and its length
+-- ---- the start
+
+-- what r1 and r2 hold: the context, and its length; in blocks, the old program's are the packet and its length
 abbrev pub given_kinds : Bool → ℕ → Kind × Kind
 given_kinds false length = (Start, Number length length)
-given_kinds true length = (Head, Sized (length - head_bytes))
+given_kinds true length = (Head, Length (length - head_bytes))
 
 abbrev pub start_kinds : Bounds → List Kind
 start_kinds bounds = in_new_frame (Same ∷ (given_kinds bounds.padded bounds.length).0 ∷ (given_kinds bounds.padded bounds.length).1 ∷ Same ∷ Same ∷ Same ∷ Same ∷ Same ∷ Same ∷ Same ∷ Same ∷ [])
 
--- a block has room for its packet's length, and the new program begins with what stands for the old one's start
+-- The new program begins by putting the length of a block's packet into r2: the one that the head tells, or, if that is more, what the block
+-- has room for.
+abbrev pub loads_length : Insn
+loads_length = Load DW R2 R1 (pos 0)
+
+abbrev pub skips_cut : ℕ → Insn
+skips_cut room = JumpIf Le W64 R2 (Imm (pos room)) (pos 1)
+
+abbrev pub cuts_length : ℕ → Insn
+cuts_length room = Alu Mov W64 R2 (Imm (pos room))
+
+pub record Cuts (new : Instructions) (length : ℕ) : Type 0 where
+  pub has_head : head_bytes ≤ length
+  pub fits_constant : length - head_bytes < 2 ^ 31
+  pub loads : insn_at new.list 0 ≡ Some loads_length
+  pub skips : insn_at new.list 1 ≡ Some (skips_cut (length - head_bytes))
+  pub cuts : insn_at new.list 2 ≡ Some (cuts_length (length - head_bytes))
+
+-- the slot behind that
+abbrev pub start_slot : Bool → ℕ
+start_slot false = 0
+start_slot true = 3
+
+-- the new program begins with what stands for the old one's start, in blocks behind that
 abbrev pub Starts : List (Option Place) → Instructions → Bounds → Type 0
-Starts notes new bounds = (bounds.padded ≡ true → head_bytes ≤ bounds.length) × Enters notes new bounds.turns 0 0 (start_kinds bounds)
+Starts notes new bounds = (bounds.padded ≡ true → Cuts new bounds.length) × Enters notes new bounds.turns 0 (start_slot bounds.padded) (start_kinds bounds)
 
 pub record Matches (old new : Instructions) (notes : List (Option Place)) (bounds : Bounds) : Type 0 where
   pub short : bounds.length < 2 ^ 32

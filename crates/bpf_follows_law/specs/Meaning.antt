@@ -35,7 +35,7 @@ pub record EndsInBounds (p : Instructions) (context : List ℕ) (bounds : Bounds
   pub few : (slot : ℕ) → visits p (start context) k slot ≤ bounds.turns
   pub leaves : (j : ℕ) (s : State) → j < k → Steps p j (start context) s → LeavesLowest p bounds.untouched s
 
--- What both are given: one context; or, in blocks, the old program a packet and the new one the block that holds it, whatever its padding is.
+-- What both are given: one context; or, in blocks, the new program a block, whatever it tells, and the old one the packet that it holds.
 abbrev pub AreGiven : Bool → Order → List ℕ → List ℕ → Type 0
 AreGiven false order own context = own ≡ context
 AreGiven true order own context = IsBlock order own context

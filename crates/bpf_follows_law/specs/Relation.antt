@@ -20,7 +20,7 @@ use Rattle.bpf_packets.specs.Blocks.{head_bytes}
 use Rattle.bpf_follows_law.specs.declared.notes.Area.{Area}
 use Rattle.bpf_follows_law.specs.declared.notes.Area.TheVariants.{Given, Own}
 use Rattle.bpf_follows_law.specs.declared.notes.Kind.{Kind}
-use Rattle.bpf_follows_law.specs.declared.notes.Kind.TheVariants.{Nothing, Unset, Same, Both, Number, Natural, Inner, Length, Sized, Ending, Closing, Offset, Fixed, Within, Start, Head, Base, Moved, Address, Saved, Kept, Constant, Counter, Turn, Alone, Returns}
+use Rattle.bpf_follows_law.specs.declared.notes.Kind.TheVariants.{Nothing, Unset, Same, Both, Number, Natural, Inner, Length, Ending, Closing, Offset, Fixed, Within, Start, Head, Base, Moved, Address, Saved, Kept, Constant, Counter, Turn, Alone, Returns}
 use Rattle.bpf_follows_law.specs.declared.notes.Place.{Place}
 use Rattle.bpf_follows_law.specs.Areas.{origin, is_own, same_area, IsInto}
 
@@ -212,7 +212,6 @@ FitsKind turns passed old r (Offset area) new = HasOffset area (pos 0) as_offset
 FitsKind turns passed old r (Fixed area offset) new = IsFixed area offset (old 10) (old r) new
 FitsKind turns passed old r (Within area least most) new = IsWithin area least most (old 10) (old r) new
 FitsKind turns passed old r (Length most) new = OfPacket passed.packet (λ n. (n ≤ most) × (old r ≡ Some (ANumber n)) × (new ≡ Some (ANumber n)))
-FitsKind turns passed old r (Sized most) new = OfPacket passed.packet (λ n. (n ≤ most) × (old r ≡ Some (ANumber n)))
 FitsKind turns passed old r (Ending by) new = OfPacket passed.packet (λ n. (by < 2 ^ 32) × (new ≡ Some (ANumber (n + by))))
 FitsKind turns passed old r (Closing by offset) new = OfPacket passed.packet (λ n. (by < 2 ^ 32) × (old r ≡ Some (Pointer Context offset)) × (new ≡ Some (ANumber (n + by))))
 FitsKind turns passed old r Head new = (old r ≡ Some (Pointer Context (pos head_bytes))) × (new ≡ Some (Pointer Context (pos 0)))
@@ -296,7 +295,6 @@ FitsSlot order turns passed registers old new k (Offset area) = IfGiven area (Ho
 FitsSlot order turns passed registers old new k (Fixed area offset) = IfGiven area (HoldsFixed order offset old new k)
 FitsSlot order turns passed registers old new k (Within area least most) = ⊥
 FitsSlot order turns passed registers old new k (Length most) = ⊥
-FitsSlot order turns passed registers old new k (Sized most) = ⊥
 FitsSlot order turns passed registers old new k (Closing by offset) = ⊥
 FitsSlot order turns passed registers old new k Head = ⊥
 FitsSlot order turns passed registers old new k Start = ⊥

@@ -31,8 +31,6 @@ pub enum Kind {
     Inner { least: u32, most: u32 },
     /// The length of the packet that a block holds. Both have it there, and it is at most this.
     Length { most: u32 },
-    /// The old program has that length there. Of the new one nothing is said.
-    Sized { most: u32 },
     /// That length, and so many bytes more. Of the old program nothing is said.
     Ending { by: u32 },
     /// The same, where the old program has the pointer into the context at this offset there.

@@ -12,7 +12,7 @@ use Rattle.bpf_lines.specs.Words.{behind}
 use Rattle.bpf_follows_law.specs.declared.notes.Area.{Area}
 use Rattle.bpf_follows_law.specs.declared.notes.Area.TheVariants.{Given, Own}
 use Rattle.bpf_follows_law.specs.declared.notes.Kind.{Kind}
-use Rattle.bpf_follows_law.specs.declared.notes.Kind.TheVariants.{Nothing, Unset, Same, Both, Number, Natural, Inner, Length, Sized, Ending, Closing, Offset, Fixed, Within, Start, Head, Base, Moved, Address, Saved, Kept, Constant, Counter, Turn, Alone, Returns}
+use Rattle.bpf_follows_law.specs.declared.notes.Kind.TheVariants.{Nothing, Unset, Same, Both, Number, Natural, Inner, Length, Ending, Closing, Offset, Fixed, Within, Start, Head, Base, Moved, Address, Saved, Kept, Constant, Counter, Turn, Alone, Returns}
 use Rattle.bpf_follows_law.specs.declared.notes.Place.{Place}
 use Rattle.bpf_follows_notes.specs.declared.error.NotesError.{NotesError}
 use Rattle.bpf_follows_notes.specs.declared.error.NotesError.TheVariants.{Form}
@@ -160,10 +160,6 @@ length_again : (most : ℕ) → most < 2 ^ 32 → (c : ℕ) (rest : List ℕ) �
 unfolding kind_in plain_in word_in numbered_in value_in bounds_in number_in behind
 length_again most fits c rest h = rw (digits_again most c rest fits h) refl
 
-sized_again : (most : ℕ) → most < 2 ^ 32 → (c : ℕ) (rest : List ℕ) → Ends c → kind_in ((codes "sized:" ++ decimal most) ++ c ∷ rest) ≡ Some (Sized most, c ∷ rest)
-unfolding kind_in plain_in word_in numbered_in value_in bounds_in number_in behind
-sized_again most fits c rest h = rw (digits_again most c rest fits h) refl
-
 ending_again : (by : ℕ) → by < 2 ^ 32 → (c : ℕ) (rest : List ℕ) → Ends c → kind_in ((codes "ending:" ++ decimal by) ++ c ∷ rest) ≡ Some (Ending by, c ∷ rest)
 unfolding kind_in plain_in word_in numbered_in value_in bounds_in number_in behind
 ending_again by fits c rest h = rw (digits_again by c rest fits h) refl
@@ -242,7 +238,6 @@ held_is r (Number least most) fits = inr (record { word = codes "number:" ++ bou
 held_is r (Inner least most) fits = inr (record { word = codes "inner:" ++ bounds_text least most; text = refl; again = inner_again least most fits.0 fits.1 })
 held_is r (Natural half) fits = inr (record { word = codes "natural:" ++ decimal half; text = refl; again = natural_again half fits })
 held_is r (Length most) fits = inr (record { word = codes "length:" ++ decimal most; text = refl; again = length_again most fits })
-held_is r (Sized most) fits = inr (record { word = codes "sized:" ++ decimal most; text = refl; again = sized_again most fits })
 held_is r (Ending by) fits = inr (record { word = codes "ending:" ++ decimal by; text = refl; again = ending_again by fits })
 held_is r (Closing by offset) fits = inr (record { word = codes "closing:" ++ beside_text by offset; text = refl; again = closing_again by offset fits.0 fits.1 })
 held_is r Head fits = inr (record { word = codes "head"; text = refl; again = λ c rest h. head_again c rest })

@@ -8,7 +8,7 @@ use Rattle.bpf_insn.specs.declared.instruction.Reg.{Reg}
 use Rattle.bpf_follows_law.specs.declared.notes.Area.{Area}
 use Rattle.bpf_follows_law.specs.declared.notes.Area.TheVariants.{Given, Own}
 use Rattle.bpf_follows_law.specs.declared.notes.Kind.{Kind}
-use Rattle.bpf_follows_law.specs.declared.notes.Kind.TheVariants.{Nothing, Unset, Same, Both, Number, Natural, Inner, Length, Sized, Ending, Closing, Offset, Fixed, Within, Start, Head, Base, Moved, Address, Saved, Kept, Constant, Counter, Turn, Alone, Returns}
+use Rattle.bpf_follows_law.specs.declared.notes.Kind.TheVariants.{Nothing, Unset, Same, Both, Number, Natural, Inner, Length, Ending, Closing, Offset, Fixed, Within, Start, Head, Base, Moved, Address, Saved, Kept, Constant, Counter, Turn, Alone, Returns}
 use Rattle.bpf_follows_law.specs.declared.notes.Place.{Place}
 use Rattle.bpf_follows_law.specs.Relation.{places}
 
@@ -29,7 +29,6 @@ KindFits (Number least most) = (least < 2 ^ 32) × (most < 2 ^ 32)
 KindFits (Natural half) = half < 2 ^ 32
 KindFits (Inner least most) = (least < 2 ^ 32) × (most < 2 ^ 32)
 KindFits (Length most) = most < 2 ^ 32
-KindFits (Sized most) = most < 2 ^ 32
 KindFits (Ending by) = by < 2 ^ 32
 KindFits (Closing by offset) = (by < 2 ^ 32) × IntFits offset
 KindFits (Offset area) = Unit {0}
@@ -109,7 +108,6 @@ held_text r (Number least most) = entry_text r (codes "number:" ++ bounds_text l
 held_text r (Natural half) = entry_text r (codes "natural:" ++ decimal half)
 held_text r (Inner least most) = entry_text r (codes "inner:" ++ bounds_text least most)
 held_text r (Length most) = entry_text r (codes "length:" ++ decimal most)
-held_text r (Sized most) = entry_text r (codes "sized:" ++ decimal most)
 held_text r (Ending by) = entry_text r (codes "ending:" ++ decimal by)
 held_text r (Closing by offset) = entry_text r (codes "closing:" ++ beside_text by offset)
 held_text r (Offset area) = entry_text r (area_text area ++ codes "offset")

@@ -161,9 +161,6 @@ fn numbered_in(text: &[u8]) -> Option<(Kind, &[u8])>
     if let Some((most, rest)) = number_in(text, b"length:") {
         return Some((Kind::Length { most }, rest));
     }
-    if let Some((most, rest)) = number_in(text, b"sized:") {
-        return Some((Kind::Sized { most }, rest));
-    }
     if let Some((by, rest)) = number_in(text, b"ending:") {
         return Some((Kind::Ending { by }, rest));
     }

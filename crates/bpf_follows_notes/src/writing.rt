@@ -173,7 +173,6 @@ fn put_held(text: &mut Vec<u8>, register: u8, kind: Kind) -> Result<(), AllocErr
         Kind::Natural { half } => put_head(text, register, b"natural:", half),
         Kind::Inner { least, most } => put_bounds(text, register, b"inner:", least, most),
         Kind::Length { most } => put_head(text, register, b"length:", most),
-        Kind::Sized { most } => put_head(text, register, b"sized:", most),
         Kind::Ending { by } => put_head(text, register, b"ending:", by),
         Kind::Kept { of, least, most } => put_kept(text, register, of, (least, most)),
         Kind::Closing { by, offset } => put_closing(text, register, by, offset),

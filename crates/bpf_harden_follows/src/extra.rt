@@ -191,23 +191,6 @@ pub fn taken(insn: &Insn) -> Option<(Reg, usize)> {
     None
 }
 
-/// What is loaded of a packet's length, with which its block begins, where the old program has it.
-fn length_taken(facts: &Facts, insn: &Insn) -> Option<(Reg, Kind)> {
-    let Insn::Load {
-        size: Size::DW,
-        dst,
-        src,
-        off: 0,
-    } = *insn
-    else {
-        return None;
-    };
-    match (facts.get(src), facts.get(dst)) {
-        (Kind::Base | Kind::Head, Kind::Sized { most }) => Some((dst, Kind::Length { most })),
-        _ => None,
-    }
-}
-
 /// What a guard that isn't taken tells of a number or an offset.
 fn guarded(kind: Kind, cond: Cond, imm: i32) -> Kind {
     let Ok(bound) = u32::try_from(imm) else {
@@ -256,10 +239,6 @@ fn pass_other(facts: &mut Facts, slot: u32, insn: &Insn) {
             facts.set(dst, restored(dst, facts.get(dst), facts.at(place)));
             return;
         }
-    }
-    if let Some((r, kind)) = length_taken(facts, insn) {
-        facts.set(r, kind);
-        return;
     }
     if let Some(r) = insn.register_written() {
         facts.set(r, Kind::Nothing);

@@ -263,7 +263,7 @@ fn given(bounds: Bounds) -> (Kind, Kind) {
     let length = bounds.length;
     if bounds.padded {
         let most = length.saturating_sub(HEAD_BYTES);
-        (Kind::Head, Kind::Sized { most })
+        (Kind::Head, Kind::Length { most })
     } else {
         let length = Kind::Number {
             least: length,

@@ -8,7 +8,7 @@ use bpf_state::Place;
 pub enum Change {
     /// Keeps where the context begins, and makes r1 the offset of what it pointed to.
     Base,
-    /// Reads the length of a block's packet, and tests it.
+    /// Reads the length of a block's packet, and cuts it to what the block has room for.
     Length,
     /// Sets what the loops may still turn.
     Turns,

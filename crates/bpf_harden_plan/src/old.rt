@@ -37,15 +37,16 @@ pub fn refusal(error: InferError) -> HardenError {
 
 /// The register to which an instruction adds a constant, and that.
 fn move_of(insn: &Insn) -> Option<(Reg, i64)> {
-    match *insn {
-        Insn::Alu {
-            op: AluOp::Add,
-            width: Width::W64,
-            dst,
-            src: Operand::Imm(imm),
-        } => Some((dst, i64::from(imm))),
-        _ => None,
-    }
+    let Insn::Alu {
+        op: AluOp::Add,
+        width: Width::W64,
+        dst,
+        src: Operand::Imm(imm),
+    } = *insn
+    else {
+        return None;
+    };
+    Some((dst, i64::from(imm)))
 }
 
 impl<'a> Old<'a> {

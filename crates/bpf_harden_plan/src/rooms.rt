@@ -270,10 +270,7 @@ impl Rooms {
                 || leads_out(old, plan, slot)
                 || self.calls_trap(old, slot)
         };
-        let room = self.room(function);
-        let reads_length = function == 0 || room.end.is_some() && room.handed_end.is_none();
-        let is_short = plan.options.padded && reads_length;
-        let traps = is_short || (uses.first..uses.end).any(may_trap);
+        let traps = (uses.first..uses.end).any(may_trap);
         if let Some(room) = self.rooms.get_mut(function) {
             room.traps = traps;
         }

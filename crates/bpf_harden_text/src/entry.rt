@@ -1,6 +1,6 @@
 //! What stands at the entries of functions, and at their ends.
 
-use crate::parts::{add_constant, constant, copy, fetch, keep, keep_constant, load, set};
+use crate::parts::{add_constant, constant, copy, fetch, keep, keep_constant, load, set, skip_if};
 use crate::piece::Goal;
 use crate::writer::Writer;
 use bpf_harden_notes::{Change, HardenError};
@@ -14,6 +14,9 @@ impl<'a> Writer<'a> {
     /// Puts what stands at the entry of a function.
     pub fn enter(&mut self, function: usize) -> Result<(), AllocError> {
         let uses = self.old.uses(function);
+        if function == 0 && self.plan.options.padded {
+            self.read_length(uses.first, Reg::R1, Reg::R2)?;
+        }
         put(&mut self.entries, function, Some(self.at));
         if function == 0 {
             self.enter_first(uses)?;
@@ -30,12 +33,16 @@ impl<'a> Writer<'a> {
         Ok(())
     }
 
-    /// Keeps the context's start, and makes r1 an offset and r2 the length of a block's packet.
+    /// Keeps the context's start, and the end of a block's packet, whose length is in r2, and makes r1 an offset.
     fn enter_first(&mut self, uses: Uses) -> Result<(), AllocError> {
         if !self.plan.offsets {
             return Ok(());
         }
-        self.keep_context(uses.first, self.rooms.room(0), Reg::R1, Reg::R2)?;
+        let room = self.rooms.room(0);
+        self.keep_handed(uses.first, room.base, Reg::R1, Change::Base)?;
+        if self.plan.options.padded {
+            self.keep_end(uses.first, Reg::R2, room)?;
+        }
         let start = self.plan.start().cast_unsigned();
         self.add(uses.first, set(Reg::R1, start), Change::Base)
     }
@@ -46,12 +53,16 @@ impl<'a> Writer<'a> {
         let Some(handed) = room.handed else {
             return Ok(());
         };
+        self.keep_handed(uses.first, room.base, handed, Change::Base)?;
         if let (Some(end), Some(handed_end)) = (room.end, room.handed_end) {
-            self.keep_handed(uses.first, room.base, handed, Change::Base)?;
             return self.keep_handed(uses.first, Some(end), handed_end, Change::Length);
         }
-        // Nothing that a function is called with stands in r0.
-        self.keep_context(uses.first, room, handed, Reg::R0)
+        if self.plan.options.padded {
+            // Nothing that a function is called with stands in r0.
+            self.read_length(uses.first, handed, Reg::R0)?;
+            self.keep_end(uses.first, Reg::R0, room)?;
+        }
+        Ok(())
     }
 
     /// Keeps what a register holds in a place, if that is another one.
@@ -70,28 +81,13 @@ impl<'a> Writer<'a> {
         }
     }
 
-    /// Keeps the context's start that a register holds, and the end of a block's packet by means of another one.
-    fn keep_context(
-        &mut self,
-        slot: u32,
-        room: Room,
-        context: Reg,
-        length: Reg,
-    ) -> Result<(), AllocError> {
-        self.keep_handed(slot, room.base, context, Change::Base)?;
-        if self.plan.options.padded {
-            self.read_length(slot, context, length)?;
-            self.keep_end(slot, length, room)?;
-        }
-        Ok(())
-    }
-
-    /// Puts the length of a block's packet into a register, or leads to the trap if it is more than a block has.
+    /// Puts the length of a block's packet into a register: as many bytes as the block tells, or all that it has room for.
     fn read_length(&mut self, slot: u32, context: Reg, length: Reg) -> Result<(), AllocError> {
-        let most = self.plan.length.saturating_sub(self.plan.options.head());
+        let room = self.plan.length.saturating_sub(self.plan.options.head());
+        let most = constant(i64::from(room));
         self.add(slot, load(length, context, 0), Change::Length)?;
-        let src = Operand::Imm(constant(i64::from(most)));
-        self.trap_if(slot, Cond::Gt, length, src, Change::Length)
+        self.add(slot, skip_if(Cond::Le, length, most), Change::Length)?;
+        self.add(slot, set(length, u64::from(room)), Change::Length)
     }
 
     /// Keeps the offset at which a block's packet ends.

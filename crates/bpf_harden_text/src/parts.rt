@@ -99,6 +99,17 @@ pub fn jump_if(cond: Cond, dst: Reg, src: Operand) -> Insn {
     }
 }
 
+/// A conditional jump over the next instruction, on all 64 bits and a constant.
+pub fn skip_if(cond: Cond, dst: Reg, constant: i32) -> Insn {
+    Insn::JumpIf {
+        cond,
+        width: Width::W64,
+        dst,
+        src: Operand::Imm(constant),
+        off: 1,
+    }
+}
+
 /// A jump, its distance open.
 pub const JUMP: Insn = Insn::Ja { off: 0 };
 

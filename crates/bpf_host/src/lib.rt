@@ -20,9 +20,11 @@ ghost use Rattle.bpf_host_advice.specs.Hardened.{bounds_of, GivesHardened, Wants
 ghost use Rattle.bpf_host_advice.specs.Followed.{IsFollowed, IsNotFollowed};
 ghost use Rattle.bpf_host_runs.specs.declared.answers.TheConstants.{YES, NO, NO_MEMORY, BAD_CALL, TOO_SMALL, TOO_LONG, BAD_LENGTH, BAD_WORDS};
 
+mod certifying;
 mod explaining;
 
 use bpf_host_runs::{BpfOutcome, BpfRefusal, BpfVerdict};
+pub use certifying::bpf_host_certify;
 pub use explaining::{bpf_host_explain, bpf_host_explain_image, bpf_host_explain_search};
 use std::alloc::Global;
 

@@ -1,2 +1,3 @@
+pub mod CertifiedLemmas
 pub mod ExplainedLemmas
 pub mod FollowedLemmas

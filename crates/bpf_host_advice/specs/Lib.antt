@@ -4,4 +4,5 @@ pub mod Told
 pub mod Proposals
 pub mod Hardened
 pub mod Followed
+pub mod Certified
 pub mod Explained

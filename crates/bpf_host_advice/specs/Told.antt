@@ -6,6 +6,10 @@ use Rattle.bpf_infer_error.specs.declared.error.InferError.TheVariants.{Unstable
 use Rattle.bpf_harden_notes.specs.RefusalNumbers.{harden_number, harden_slot}
 use Rattle.bpf_harden_notes.specs.declared.error.HardenError.{HardenError}
 use Rattle.bpf_harden_notes.specs.declared.error.HardenError.TheVariants.{Fault as Unmended, Memory as NoRoomLeft}
+use Rattle.bpf_check.specs.RefusalNumbers.{refusal_number}
+use Rattle.bpf_certify.specs.Certified.{certify_number, certify_slot}
+use Rattle.bpf_certify.specs.declared.error.CertifyError.{CertifyError}
+use Rattle.bpf_certify.specs.declared.error.CertifyError.TheVariants.{Unhardened, Unshown, TooDear, Uncertified}
 use Rattle.bpf_follows.specs.Mismatches.{mismatch_number, mismatch_slot}
 use Rattle.bpf_follows.specs.declared.mismatch.Mismatch.{Mismatch}
 use Rattle.bpf_follows_notes.specs.declared.error.NotesError.{NotesError}
@@ -46,7 +50,18 @@ IsTold Tells (RefusedAs told) = Tells told
 abbrev pub TellsUnshown : Mismatch → BpfRefusal → Type 0
 TellsUnshown m r = r ≡ record { kind = 72; number = 13; place = mismatch_slot m; condition = mismatch_number m }
 
--- what is told of a search's refusal, and of a hardening's
+-- of H1 to H13 as of a hardening; of H14 the bound that is too great, and of H15 the number of the condition that fails, from 1 to 13
+abbrev pub uncertified_condition : CertifyError → ℕ
+uncertified_condition (Unhardened e) = unhardened_condition e
+uncertified_condition (Unshown m) = mismatch_number m
+uncertified_condition (TooDear turns bound) = bound
+uncertified_condition (Uncertified r) = refusal_number r
+
+-- of a certification: H (72), its number, its slot and that
+abbrev pub TellsCertifying : CertifyError → BpfRefusal → Type 0
+TellsCertifying e r = r ≡ record { kind = 72; number = certify_number e; place = certify_slot e; condition = uncertified_condition e }
+
+-- what is told of the refusal of a search, of a hardening and of a certification
 abbrev pub TellsSearch : InferError → Unmade → Type 0
 TellsSearch e NoMemory = e ≡ Memory
 TellsSearch e (RefusedAs told) = (e ≢ Memory) × TellsInference e told
@@ -54,6 +69,10 @@ TellsSearch e (RefusedAs told) = (e ≢ Memory) × TellsInference e told
 abbrev pub TellsHarden : HardenError → Unmade → Type 0
 TellsHarden e NoMemory = e ≡ NoRoomLeft
 TellsHarden e (RefusedAs told) = (e ≢ NoRoomLeft) × TellsHardening e told
+
+abbrev pub TellsCertify : CertifyError → Unmade → Type 0
+TellsCertify e NoMemory = e ≡ Unhardened NoRoomLeft
+TellsCertify e (RefusedAs told) = (e ≢ Unhardened NoRoomLeft) × TellsCertifying e told
 
 -- of two images: E (69) of the new one, with 1 in the place of a condition
 abbrev pub TellsNewImage : DecodeError → BpfRefusal → Type 0

@@ -28,7 +28,7 @@ pub(crate) struct Asked {
 }
 
 /// The image of a program; None where memory ran out.
-fn image_of(alloc: Global, program: &Program) -> Option<Vec<u8>>
+pub(crate) fn image_of(alloc: Global, program: &Program) -> Option<Vec<u8>>
     ensures program { IfSome result (λ _. IsProgram program.now.list) }
     ensures bytes { IfSome result (λ bytes. bytes.items ≡ image program.now.order program.now.list) }
 {

@@ -1,4 +1,4 @@
-//! The calls for hosts that help whoever writes a program, on what C hands over: certificates proposed, images hardened and explained,
+//! The calls for hosts that help whoever writes a program, on what C hands over: certificates proposed, images hardened, certified and explained,
 //! refusals in words. `bpf_host` exports them under C's names.
 #![tactic(auto)]
 
@@ -11,6 +11,8 @@ ghost use Rattle.bpf_host_advice.specs.Proposals.{GivesProposal, WantsRoom, IsNo
 ghost use Rattle.bpf_host_advice.specs.Hardened.{bounds_of, GivesHardened, WantsHardenedRoom, IsNotHardened};
 ghost use Rattle.bpf_host_runs.specs.declared.answers.TheConstants.{YES, NO, NO_MEMORY, BAD_CALL, TOO_SMALL};
 
+mod certification;
+mod certifying;
 mod explaining;
 mod explanation;
 mod following;
@@ -24,6 +26,8 @@ use bpf_follows_law::Bounds;
 use bpf_host_runs::{BAD_CALL, BpfRefusal, NO, NO_MEMORY, order_of};
 use bpf_infer::Wanted;
 use bpf_insn::{FRAME_BYTES, MAX_CONTEXT};
+pub use certification::{BpfCertified, BpfWish};
+pub use certifying::certify;
 pub use explaining::{explain, explain_image, explain_search};
 use explanation::Given;
 pub use following::follows;

@@ -16,7 +16,7 @@ use bpf_insn::{DecodeError, Order, decode};
 use std::alloc::Global;
 
 /// The text of a certificate; None where memory ran out.
-fn text_of(alloc: Global, certificate: &Certificate) -> Option<Vec<u8>>
+pub(crate) fn text_of(alloc: Global, certificate: &Certificate) -> Option<Vec<u8>>
     ensures { IfSome result (λ text. text.items ≡ certificate_text certificate.now) }
 {
     let mut text = Vec::new(alloc);

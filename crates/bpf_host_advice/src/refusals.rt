@@ -1,10 +1,11 @@
-//! Refusals of searches and hardenings, as C sees them. What was answered is an argument, so that the clauses can say that nothing else is
+//! Refusals of searches, hardenings and certifications, as C sees them. What was answered is an argument, so that the clauses can say that nothing else is
 //! told.
 
 ghost use Rattle.std.specs.Prelude.{◌≡◌, Ok, IsErrAnd, MatchResult};
-ghost use Rattle.bpf_host_advice.specs.Told.{TellsInference, TellsHardening, TellsUnshown, TellsSearch, TellsHarden, condition_of, unhardened_condition};
+ghost use Rattle.bpf_host_advice.specs.Told.{TellsInference, TellsHardening, TellsUnshown, TellsCertifying, TellsSearch, TellsHarden, TellsCertify, condition_of, unhardened_condition, uncertified_condition};
 
 use bpf_cert::Certificate;
+use bpf_certify::{Certified, CertifyError};
 use bpf_follows::Mismatch;
 use bpf_harden::{HardenError, Hardened};
 use bpf_host_runs::{BpfRefusal, letter};
@@ -85,6 +86,30 @@ pub(crate) fn of_mismatch(mismatch: Mismatch) -> BpfRefusal
     }
 }
 
+/// What is told beside the number and the slot where a program isn't certified.
+fn uncertified_condition(error: &CertifyError) -> u64
+    ensures { result ≡ uncertified_condition error.now }
+{
+    match error {
+        CertifyError::Unhardened(error) => unhardened_condition(error),
+        CertifyError::Unshown(mismatch) => u64::from(mismatch.number()),
+        CertifyError::TooDear { bound, .. } => u64::from(*bound),
+        CertifyError::Uncertified(refusal) => u64::from(refusal.number()),
+    }
+}
+
+/// Why a program isn't certified.
+fn uncertified(error: CertifyError) -> BpfRefusal
+    ensures { TellsCertifying error result }
+{
+    BpfRefusal {
+        kind: letter(b'H'),
+        number: u32::from(error.number()),
+        place: u64::from(error.slot()),
+        condition: uncertified_condition(&error),
+    }
+}
+
 /// What a search answered, its refusal as it is told.
 pub(crate) fn of_search(found: Result<Certificate, InferError>) -> Result<Certificate, Unmade>
     ensures { MatchResult found (λ certificate. result ≡ Ok certificate) (λ error. IsErrAnd result (TellsSearch error)) }
@@ -104,5 +129,16 @@ pub(crate) fn of_hardening(made: Result<Hardened, HardenError>) -> Result<Harden
         Ok(hardened) => Ok(hardened),
         Err(HardenError::Memory) => Err(Unmade::Memory),
         Err(error) => Err(Unmade::Refused(unhardened(error))),
+    }
+}
+
+/// What a certification answered, its refusal as it is told.
+pub(crate) fn of_certifying(found: Result<Certified, CertifyError>) -> Result<Certified, Unmade>
+    ensures { MatchResult found (λ certified. result ≡ Ok certified) (λ error. IsErrAnd result (TellsCertify error)) }
+{
+    match found {
+        Ok(certified) => Ok(certified),
+        Err(CertifyError::Unhardened(HardenError::Memory)) => Err(Unmade::Memory),
+        Err(error) => Err(Unmade::Refused(uncertified(error))),
     }
 }

@@ -1,9 +1,8 @@
 //! What the refusals and faults say, in words.
 
 ghost use Rattle.std.specs.Prelude.{◌≡◌, ◌<◌, ◌≤◌, ◌↔◌, ◌++◌, [], IsSome, IfSome, MatchOption, get_or, length, take, drop};
-ghost use Rattle.bpf_host_advice.specs.Texts.{refusal_text, answer_text, notes_texts, IsNumbered};
+ghost use Rattle.bpf_host_advice.specs.Texts.{refusal_text, answer_text, hardening_texts, notes_texts, IsNumbered};
 
-use crate::refusals::UNSHOWN;
 use bpf_cert::CertError;
 use bpf_follows_notes::mismatch_text;
 use bpf_harden_notes::HardenError;
@@ -25,6 +24,20 @@ fn notes_text(number: u32) -> Option<&'static str>
     }
 }
 
+/// Why a program isn't hardened or certified.
+fn hardening_text(number: u32) -> Option<&'static str>
+    ensures numbered { IsSome result ↔ ((1 ≤ number) × (number ≤ 15)) }
+    ensures said { IfSome result (λ text. 0 < length text.now) }
+    ensures words { MatchOption result (get_or hardening_texts number [] ≡ []) (λ text. text.now ≡ get_or hardening_texts number []) }
+{
+    match number {
+        13 => Some("the hardened program isn't shown to keep the meaning"),
+        14 => Some("a run of the hardened program may take more instructions than are paid for"),
+        15 => Some("the checker refuses the certificate that was found"),
+        _ => HardenError::text_numbered(number),
+    }
+}
+
 /// What a refusal or a fault says.
 fn sentence(kind: u32, number: u32) -> Option<&'static str>
     ensures numbered { IsSome result ↔ IsNumbered kind number }
@@ -35,8 +48,7 @@ fn sentence(kind: u32, number: u32) -> Option<&'static str>
         67 => Condition::text_numbered(number),
         69 => DecodeError::text_numbered(number),
         70 => Reason::text_numbered(number),
-        72 if number == UNSHOWN => Some("the hardened program isn't shown to keep the meaning"),
-        72 => HardenError::text_numbered(number),
+        72 => hardening_text(number),
         73 => InferError::text_numbered(number),
         75 => CertError::text_numbered(number),
         77 => mismatch_text(number),

@@ -1,7 +1,7 @@
--- Packets in blocks: a block is the packet's length, the packet, and padding. A state on the packet and the same state inside of the block
+-- Packets in blocks: a block is a length, the packet, and padding. A state on the packet and the same state inside of the block
 -- differ by where pointers into the context lead: there each is eight bytes further on.
-use Rattle.std.specs.Prelude.{◌≡◌, ℕ, ℤ, pos, ◌+ℤ◌, List, ◌++◌, length, map, option_map}
-use Rattle.bpf_insn.specs.Order.{bytes_of}
+use Rattle.std.specs.Prelude.{◌≡◌, ℕ, ◌≤◌, ℤ, pos, ◌+ℤ◌, List, length, take, drop, map, option_map}
+use Rattle.bpf_insn.specs.Order.{number_of}
 use Rattle.bpf_insn.specs.declared.order.Order.{Order}
 use Rattle.bpf_semantics.specs.State.{Cell, StackFrame, State}
 use Rattle.bpf_semantics.specs.State.Cell.{Byte, Part}
@@ -13,14 +13,18 @@ use Rattle.bpf_semantics.specs.declared.value.Region.TheVariants.{Context, Frame
 
 -- ---- blocks
 
--- the bytes before the packet, which are its length
+-- the bytes before the packet, which tell a length
 abbrev pub head_bytes : ℕ
 head_bytes = 8
 
--- the block holds the packet, and its length in the byte order
+-- the length that they tell, in the byte order
+abbrev pub told_length : Order → List ℕ → ℕ
+told_length order block = number_of order head_bytes (take head_bytes block)
+
+-- The packet that a block holds: as many bytes behind the head as that tells, or all that the block has room for.
 pub record IsBlock (order : Order) (packet block : List ℕ) : Type 0 where
-  pub padding : List ℕ
-  pub bytes_are : block ≡ bytes_of order head_bytes (length packet) ++ packet ++ padding
+  pub has_head : head_bytes ≤ length block
+  pub packet_is : packet ≡ take (told_length order block) (drop head_bytes block)
 
 -- ---- the same state inside of the block
 

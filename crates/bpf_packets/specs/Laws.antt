@@ -1,7 +1,7 @@
 -- The run of a program on a packet is the same run inside of a block that holds the packet. Each law is proved as the contract of a function of its own.
-use Rattle.std.specs.Prelude.{◌≡◌, ℕ, ◌+◌, ◌^◌, ◌<◌, ◌≤◌, ◌↔◌, ℤ, pos, List, length, take, drop, Some}
+use Rattle.std.specs.Prelude.{◌≡◌, ℕ, ◌+◌, ◌-◌, ◌^◌, ◌<◌, ◌≤◌, ◌↔◌, min, ℤ, pos, List, length, take, drop, ◌++◌, Some}
 use Rattle.bpf_insn.specs.Laws.{AreBytes}
-use Rattle.bpf_insn.specs.Order.{number_of}
+use Rattle.bpf_insn.specs.Order.{bytes_of}
 use Rattle.bpf_insn.specs.Image.{IsProgram}
 use Rattle.bpf_insn.specs.Instruction.{Instructions, insn_at, byte_count}
 use Rattle.bpf_insn.specs.Effects.{Access, access_of}
@@ -15,7 +15,7 @@ use Rattle.bpf_semantics.specs.Run.{Steps}
 use Rattle.bpf_semantics.specs.declared.value.Value.{Value}
 use Rattle.bpf_semantics.specs.declared.value.Value.TheVariants.{Number, Pointer}
 use Rattle.bpf_semantics.specs.declared.value.Region.TheVariants.{Context}
-use Rattle.bpf_packets.specs.Blocks.{head_bytes, IsBlock, inside_value, inside}
+use Rattle.bpf_packets.specs.Blocks.{head_bytes, told_length, IsBlock, inside_value, inside}
 
 -- a state of a program on a packet of less than 2^32 bytes, which the block holds
 pub record StandsOn (p : Instructions) (packet block : List ℕ) (s : State) : Type 0 where
@@ -68,8 +68,12 @@ AccessesInside =
 -- what stands where in a block
 pub record HasHead (order : Order) (packet block : List ℕ) : Type 0 where
   pub long : head_bytes + length packet ≤ length block
-  pub head : number_of order head_bytes (take head_bytes block) ≡ length packet
+  pub head : length packet ≡ min (told_length order block) (length block - head_bytes)
   pub behind : take (length packet) (drop head_bytes block) ≡ packet
 
 abbrev pub HeadOfBlock : Type 0
-HeadOfBlock = (order : Order) (packet block : List ℕ) → length packet < 2 ^ 64 → IsBlock order packet block → HasHead order packet block
+HeadOfBlock = (order : Order) (packet block : List ℕ) → IsBlock order packet block → HasHead order packet block
+
+-- A frame behind its length, with padding, is cut to the room that is there: the packet is the frame, cut alike.
+abbrev pub BlockOfFrame : Type 0
+BlockOfFrame = (order : Order) (frame padding : List ℕ) (room : ℕ) → length frame < 2 ^ 64 → IsBlock order (take room frame) (bytes_of order head_bytes (length frame) ++ take room (frame ++ padding))

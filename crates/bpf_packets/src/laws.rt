@@ -1,6 +1,6 @@
 //! A run on a packet is the same run inside of a block that holds the packet. Each law is the contract of a function.
 
-ghost use Rattle.bpf_packets.specs.Laws.{StartInside, StepInside, StepsInside, FinishesInside, StateInside, AccessesInside, HeadOfBlock};
+ghost use Rattle.bpf_packets.specs.Laws.{StartInside, StepInside, StepsInside, FinishesInside, StateInside, AccessesInside, HeadOfBlock, BlockOfFrame};
 
 /// The start on the packet is the start on the block, with the packet's start and length in r1 and r2.
 pub fn start_inside()
@@ -32,7 +32,12 @@ pub fn accesses_inside()
     ensures { AccessesInside }
 {}
 
-/// The first eight bytes of a block are the packet's length, and then the packet stands.
+/// The first eight bytes of a block tell the packet's length, or more than there is room for, and then the packet stands.
 pub fn head_of_block()
     ensures { HeadOfBlock }
+{}
+
+/// A frame behind its length is the packet that the block holds, cut to the room that is there.
+pub fn block_of_frame()
+    ensures { BlockOfFrame }
 {}

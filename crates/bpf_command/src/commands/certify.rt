@@ -3,13 +3,13 @@
 ghost use Rattle.std.specs.Prelude.{◌≡◌, ◌≤◌, IfOk, IfErr, IfSome, false, IsTrue};
 ghost use Rattle.bpf_insn.specs.Limits.{max_context};
 ghost use Rattle.bpf_insn.specs.Written.{AppendsBeginning};
-ghost use Rattle.bpf_certify.specs.Certified.{Answers as IsAnswer};
+ghost use Rattle.bpf_certify.specs.Certified.{Answers as IsAnswer, IsRefused};
 ghost use Rattle.bpf_answers.specs.Answer.{Answered, Says, Unfinished, text_of as answer_text};
 ghost use Rattle.bpf_answers.specs.Both.{pairing};
 ghost use Rattle.bpf_answers.specs.Told.{OutputFails};
 ghost use Rattle.bpf_follows_notes.specs.NotesText.{notes_text};
 ghost use Rattle.bpf_places.specs.Made.{making};
-ghost use Rattle.bpf_command.specs.Certified.{AllPut, CertifyFails, CertifySays, CertifyWithFails, CertifyWithSays, NotAllPut, NotAllStand, NotCertified, NotCertifiedWith, made_of, notes_of, refused_as, told_of, wish_of};
+ghost use Rattle.bpf_command.specs.Certified.{AllPut, CertifyFails, CertifySays, CertifyWithFails, CertifyWithSays, NotAllPut, NotAllStand, NotCertified, NotCertifiedWith, made_of, notes_of, refused_as, rewriting_of, told_of, wish_of};
 
 use crate::aside::Aside;
 use crate::commands::explain::lines_at;
@@ -23,7 +23,7 @@ use bpf_cert::Certificate;
 use bpf_certify::{Certified, CertifyError, MOST_BOUND, Wish, certify};
 use bpf_follows_law::Place;
 use bpf_harden::HardenError;
-use bpf_insn::{MAX_CONTEXT, Program};
+use bpf_insn::{Code, MAX_CONTEXT, Program};
 use bpf_places::Places;
 use bpf_request::Certifying;
 use std::alloc::{AllocError, Global};
@@ -51,11 +51,11 @@ fn length_of(asked: Certifying<'_>) -> u32
     asked.length.min(MAX_CONTEXT as u32)
 }
 
-/// What is told of a certified program.
-fn told_of(asked: Certifying<'_>, length: u32, certified: &Certified) -> Certification
-    ensures { result ≡ told_of asked.entry length certified.now }
+/// What is told of what was done to a program; None of one that stands as it is.
+fn rewriting_of(asked: Certifying<'_>, certified: &Certified) -> Option<Rewriting>
+    ensures { result ≡ rewriting_of asked.entry certified.now.rewritten }
 {
-    let rewriting = match &certified.rewritten {
+    match &certified.rewritten {
         None => None,
         Some(rewritten) => Some(Rewriting {
             turns: rewritten.turns,
@@ -63,11 +63,17 @@ fn told_of(asked: Certifying<'_>, length: u32, certified: &Certified) -> Certifi
             untouched: rewritten.untouched,
             is_shown: rewritten.is_shown,
         }),
-    };
+    }
+}
+
+/// What is told of a certified program.
+fn told_of(asked: Certifying<'_>, length: u32, certified: &Certified) -> Certification
+    ensures { result ≡ told_of asked.entry length certified.now }
+{
     Certification {
         length,
         bound: certified.bound,
-        rewriting,
+        rewriting: rewriting_of(asked, certified),
     }
 }
 
@@ -154,21 +160,30 @@ fn put_all<'a, P: Places>(
     put_beside(places, asked.hardening(), beside)
 }
 
+/// What is certified of a program, and what goes beside the image and its certificate.
+#[derive(Drop)]
+struct Found {
+    certified: Certified,
+    beside: Beside,
+}
+
 /// What is certified of a program, with what goes beside it.
 fn found_for(
     alloc: Global,
     program: &Program,
     asked: Certifying<'_>,
     length: u32,
-) -> Result<(Certified, Beside), CertifyError>
+) -> Result<Found, CertifyError>
     requires { length ≤ max_context }
-    ensures ok { IfOk result (λ f. IsAnswer program.now length (wish_of asked.entry) f.0) }
-    ensures shown { asked.entry.unproved ≡ false → IfOk result (λ f. IfSome f.0.rewritten (λ r. IsTrue r.is_shown)) }
-    ensures notes { IfOk result (λ f. IfSome asked.entry.notes (λ _. f.1.notes.items ≡ notes_text (notes_of f.0.rewritten))) }
+    ensures ok { IfOk result (λ f. IsAnswer program.now length (wish_of asked.entry) f.certified) }
+    ensures shown { asked.entry.unproved ≡ false → IfOk result (λ f. IfSome f.certified.rewritten (λ r. IsTrue r.is_shown)) }
+    ensures notes { IfOk result (λ f. IfSome asked.entry.notes (λ _. f.beside.notes.items ≡ notes_text (notes_of f.certified.rewritten))) }
+    ensures err { IfErr result (IsRefused program.now length (wish_of asked.entry)) }
 {
+    let _slots = Code::slots(program);
     let certified = certify(alloc, program, length, wish_of(asked))?;
     match beside_of(alloc, asked, &certified) {
-        Ok(beside) => Ok((certified, beside)),
+        Ok(beside) => Ok(Found { certified, beside }),
         Err(_no_memory) => Err(CertifyError::Unhardened(HardenError::Memory)),
     }
 }
@@ -179,18 +194,18 @@ fn certified_with<'a, P: Places, W: Write, H: Aside>(
     places: &mut P,
     out: &mut W,
     aside: &H,
-    asked: Certifying<'a>,
-    lines: &[u8],
+    source: Source<'a, '_>,
 ) -> Result<u8, Failure<'a>>
     ensures ok { IfOk result (Answered (CertifySays P.opens (making P.creates P.ends P.Writer.contents) (pairing P.creates P.ends P.Writer.contents)
-        places.old asked.entry places.new) (W.contents out.old) (W.contents out.new)) }
+        places.old source.entry.asked places.new) (W.contents out.old) (W.contents out.new)) }
     ensures err { IfErr result (CertifyFails P.opens (making P.creates P.ends P.Writer.contents) (pairing P.creates P.ends P.Writer.contents)
-        places.old asked.entry places.new) }
+        places.old source.entry.asked places.new) }
     ensures begun { IfErr result (λ _. Unfinished (CertifySays P.opens (making P.creates P.ends P.Writer.contents)
-        (pairing P.creates P.ends P.Writer.contents) places.old asked.entry places.new) (W.contents out.old) (W.contents out.new)) }
+        (pairing P.creates P.ends P.Writer.contents) places.old source.entry.asked places.new) (W.contents out.old) (W.contents out.new)) }
     ensures names { IfErr result (λ _. NotCertified P.opens (making P.creates P.ends P.Writer.contents) (pairing P.creates P.ends P.Writer.contents)
-        places.old asked.entry places.new) }
+        places.old source.entry.asked places.new) }
 {
+    let asked = source.asked;
     let program = match program_at(alloc, places, asked.input, asked.order)? {
         Ok(program) => program,
         Err(error) => {
@@ -200,17 +215,18 @@ fn certified_with<'a, P: Places, W: Write, H: Aside>(
         }
     };
     let length = length_of(asked);
-    let (certified, beside) = match found_for(alloc, &program, asked, length) {
+    let found = match found_for(alloc, &program, asked, length) {
         Ok(found) => found,
         Err(error) => {
             let answer = refuse_certifying(alloc, out, error);
-            tell_refusal(aside, Source { asked, lines }, error);
+            tell_refusal(aside, source, error);
             return answer;
         }
     };
-    let told = told_of(asked, length, &certified);
-    let made = made_of(&program, &certified);
-    put_all(places, asked, made, &certified.certificate, &beside)?;
+    let Found { certified, beside } = &found;
+    let told = told_of(asked, length, certified);
+    let made = made_of(&program, certified);
+    put_all(places, asked, made, &certified.certificate, beside)?;
     say_certified(alloc, out, told)
 }
 
@@ -235,5 +251,5 @@ pub fn certified<'a, P: Places, W: Write, H: Aside>(
 {
     let table = lines_at(alloc, places, asked.lines)?;
     let lines = table.as_str().as_bytes();
-    certified_with(alloc, places, out, aside, asked, lines)
+    certified_with(alloc, places, out, aside, Source { asked, lines })
 }

@@ -178,7 +178,7 @@ fn evidence(
 
 /// What is said of untouched bytes for which it is shown: nothing of those that are asked for.
 fn said_of(asked: Hardening<'_>, untouched: u32) -> Option<u32>
-    requires { AreLeft asked.entry untouched }
+    requires { AreLeft asked untouched }
     ensures { IsLeftSaid asked.entry untouched result }
 {
     match asked.untouched {

@@ -8,7 +8,7 @@ use Rattle.bpf_lines.specs.Words.{behind}
 use Rattle.bpf_follows_law.specs.declared.notes.Area.{Area}
 use Rattle.bpf_follows_law.specs.declared.notes.Area.TheVariants.{Given, Own}
 use Rattle.bpf_follows_law.specs.declared.notes.Kind.{Kind}
-use Rattle.bpf_follows_law.specs.declared.notes.Kind.TheVariants.{Nothing, Unset, Same, Both, Number, Natural, Inner, Length, Sized, Ending, Closing, Offset, Fixed, Within, Start, Head, Base, Moved, Address, Saved, Kept, Constant, Counter, Turn, Alone, Returns}
+use Rattle.bpf_follows_law.specs.declared.notes.Kind.TheVariants.{Nothing, Unset, Same, Both, Number, Natural, Inner, Length, Ending, Closing, Offset, Fixed, Within, Start, Head, Base, Moved, Address, Saved, Kept, Constant, Counter, Turn, Alone, Returns}
 use Rattle.bpf_follows_law.specs.declared.notes.Place.{Place}
 use Rattle.bpf_follows_notes.specs.declared.error.NotesError.{NotesError}
 use Rattle.bpf_follows_notes.specs.declared.error.NotesError.TheVariants.{Form}
@@ -132,10 +132,9 @@ numbered_in text =
     (or_else (option_map (λ x. (Turn x.0, x.1)) (number_in (codes "turn:") text))
     (or_else (option_map (λ x. (Natural x.0, x.1)) (number_in (codes "natural:") text))
     (or_else (option_map (λ x. (Length x.0, x.1)) (number_in (codes "length:") text))
-    (or_else (option_map (λ x. (Sized x.0, x.1)) (number_in (codes "sized:") text))
     (or_else (option_map (λ x. (Ending x.0, x.1)) (number_in (codes "ending:") text))
     (or_else (option_map (λ x. (Returns x.0 x.1, x.2)) (bounds_in (codes "returns:") text))
-    (or_else (option_map (λ x. (Inner x.0 x.1, x.2)) (bounds_in (codes "inner:") text)) (held_in text))))))))))
+    (or_else (option_map (λ x. (Inner x.0 x.1, x.2)) (bounds_in (codes "inner:") text)) (held_in text)))))))))
 
 -- an offset into an area, or the pointer there
 unfoldable pub offset_in : Area → List ℕ → Option (Kind × List ℕ)

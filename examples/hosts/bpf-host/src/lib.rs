@@ -2,6 +2,7 @@
 
 use std::ffi::c_void;
 use std::fmt;
+use std::num::NonZeroU32;
 
 /// The byte order of an image and of the memory that it runs on.
 #[derive(Clone, Copy, Debug)]
@@ -80,6 +81,19 @@ unsafe extern "C" {
         wanted: &mut usize,
         refusal: &mut Refusal,
     ) -> i32;
+    fn bpf_host_certify(
+        image: *const u8,
+        image_len: usize,
+        order: u32,
+        size: u32,
+        wish: &Asked,
+        made: *mut u8,
+        made_len: usize,
+        text: *mut u8,
+        text_len: usize,
+        told: &mut Told,
+        refusal: &mut Refusal,
+    ) -> i32;
     fn bpf_host_explain_size(image_len: usize, certificate_len: usize, lines_len: usize) -> usize;
     fn bpf_host_explain(
         image: *const u8,
@@ -102,6 +116,29 @@ unsafe extern "C" {
 
 /// The version of the library that these functions are of, as BPF_HOST_VERSION of bpf.h.
 pub const VERSION: u32 = 200;
+
+/// `struct bpf_wish` of bpf.h.
+#[repr(C)]
+struct Asked {
+    bound: u32,
+    turns: u32,
+    otherwise: u64,
+    padded: u32,
+    unproved: u32,
+}
+
+/// `struct bpf_certified` of bpf.h.
+#[repr(C)]
+#[derive(Default)]
+struct Told {
+    image_len: usize,
+    certificate_len: usize,
+    bound: u32,
+    turns: u32,
+    untouched: u32,
+    is_rewritten: u32,
+    is_shown: u32,
+}
 
 /// The library's answers.
 const YES: i32 = 1;
@@ -129,7 +166,7 @@ impl fmt::Display for Refusal {
     }
 }
 
-/// Why nothing is loaded, proposed, hardened or explained.
+/// Why nothing is loaded, proposed, hardened, certified or explained.
 #[derive(Clone, Copy, Debug)]
 pub enum Error {
     Refused(Refusal),
@@ -264,15 +301,20 @@ impl Filter {
     }
 }
 
-/// What a call writes into room for so many bytes: it is given the room, and where to tell how many bytes it takes and why it refuses. Room
-/// that isn't written isn't filled either.
+/// Room for so many bytes. What isn't written isn't filled either.
+fn room_for(room: usize) -> Result<Vec<u8>, Error> {
+    let mut bytes: Vec<u8> = Vec::new();
+    bytes.try_reserve_exact(room).map_err(|_| Error::NoMemory)?;
+    Ok(bytes)
+}
+
+/// What a call writes into room for so many bytes: it is given the room, and where to tell how many bytes it takes and why it refuses.
 fn written(
     room: usize,
     call: impl FnOnce(*mut u8, usize, &mut usize, &mut Refusal) -> i32,
 ) -> Result<Vec<u8>, Error> {
     same_version()?;
-    let mut bytes: Vec<u8> = Vec::new();
-    bytes.try_reserve_exact(room).map_err(|_| Error::NoMemory)?;
+    let mut bytes = room_for(room)?;
     let (mut wanted, mut refusal) = (0, Refusal::default());
     match call(bytes.as_mut_ptr(), room, &mut wanted, &mut refusal) {
         YES => {
@@ -362,6 +404,107 @@ pub fn harden(image: &[u8], order: Order, size: u32, asked: &Hardening) -> Resul
                 refusal,
             )
         }
+    })
+}
+
+/// What is asked of a certification.
+#[derive(Clone, Copy, Debug)]
+pub struct Wish {
+    /// The greatest bound that is paid for, in instructions.
+    pub bound: u32,
+    /// How often a loop that nothing counts may turn. None for as often as is found to stay within the bound.
+    pub turns: Option<NonZeroU32>,
+    /// r0 where a trap ends the program.
+    pub otherwise: u64,
+    /// Whether the context is a block of a packet's length in eight bytes, the packet and padding.
+    pub padded: bool,
+    /// Whether a hardened image that isn't shown to keep the meaning of the old one is wanted too.
+    pub unproved: bool,
+}
+
+impl Default for Wish {
+    fn default() -> Wish {
+        Wish {
+            bound: 1_000_000,
+            turns: None,
+            otherwise: 0,
+            padded: false,
+            unproved: false,
+        }
+    }
+}
+
+/// How an image was hardened.
+#[derive(Clone, Copy, Debug, PartialEq, Eq)]
+pub struct Rewriting {
+    /// It is shown of runs of the old image that come to no instruction more often.
+    pub turns: u32,
+    /// And that leave so many of the lowest bytes of each frame to r10.
+    pub untouched: u32,
+    /// Whether it is shown that the new image keeps the meaning of the old one, on those runs.
+    pub is_shown: bool,
+}
+
+/// An image with a certificate.
+#[derive(Clone, Debug)]
+pub struct Certified {
+    pub image: Vec<u8>,
+    pub certificate: Vec<u8>,
+    /// The greatest number of instructions of a run.
+    pub bound: u32,
+    /// None where the image is the one that was given.
+    pub rewriting: Option<Rewriting>,
+}
+
+/// An image certified for contexts of `size` bytes, as it stands or hardened.
+pub fn certify(image: &[u8], order: Order, size: u32, wish: &Wish) -> Result<Certified, Error> {
+    same_version()?;
+    // SAFETY: a number goes in and a number comes back.
+    let text_room = unsafe { bpf_host_infer_size(IMAGE_MOST) };
+    let (mut made, mut text) = (room_for(IMAGE_MOST)?, room_for(text_room)?);
+    let (mut told, mut refusal) = (Told::default(), Refusal::default());
+    let asked = Asked {
+        bound: wish.bound,
+        turns: wish.turns.map_or(0, NonZeroU32::get),
+        otherwise: wish.otherwise,
+        padded: u32::from(wish.padded),
+        unproved: u32::from(wish.unproved),
+    };
+    // SAFETY: the pointers and lengths are those of a slice and of vectors' room.
+    let answer = unsafe {
+        bpf_host_certify(
+            image.as_ptr(),
+            image.len(),
+            order as u32,
+            size,
+            &asked,
+            made.as_mut_ptr(),
+            made.capacity(),
+            text.as_mut_ptr(),
+            text.capacity(),
+            &mut told,
+            &mut refusal,
+        )
+    };
+    if answer != YES {
+        return Err(Error::of(answer, refusal));
+    }
+    // SAFETY: the library wrote so many bytes of each, and no more than there is room for.
+    unsafe {
+        made.set_len(told.image_len);
+        text.set_len(told.certificate_len);
+    }
+    made.shrink_to_fit();
+    text.shrink_to_fit();
+    Ok(Certified {
+        image: made,
+        certificate: text,
+        bound: told.bound,
+        rewriting: (told.is_rewritten == 1).then_some(Rewriting {
+            turns: told.turns,
+            untouched: told.untouched,
+            is_shown: told.is_shown == 1,
+        }),
     })
 }
 

@@ -1,6 +1,7 @@
 //! The filters of examples/c, loaded and run.
 
-use bpf::{Error, Filter, Hardening, Order, explain, harden, infer};
+use bpf::{Error, Filter, Hardening, Order, Rewriting, Wish, certify, explain, harden, infer};
+use std::num::NonZeroU32;
 
 const PORT: (&[u8], &[u8]) = (
     include_bytes!("../../../c/port.img"),
@@ -121,4 +122,43 @@ fn hardens_images() {
         ..asked
     };
     assert!(harden(&ordered, Order::Little, 16, &unproved).unwrap() != ordered);
+}
+
+#[test]
+fn certifies_images() {
+    let wish = Wish::default();
+    let kept = certify(PORT.0, Order::Little, 128, &wish).unwrap();
+    assert_eq!((kept.image.as_slice(), kept.rewriting), (PORT.0, None));
+    let filter = Filter::load(&kept.image, &kept.certificate, Order::Little, kept.bound).unwrap();
+    assert_eq!(filter.run(&block_of(&frame_to(443))), Some(1));
+    // The byte at an offset that the context's first one tells: there is a test, and a trap.
+    let nth: Vec<u8> = [
+        [0x71, 0x12, 0, 0, 0, 0, 0, 0],
+        [0x0f, 0x21, 0, 0, 0, 0, 0, 0],
+        [0x71, 0x10, 0, 0, 0, 0, 0, 0],
+        [0x95, 0, 0, 0, 0, 0, 0, 0],
+    ]
+    .concat();
+    let asked = Wish {
+        turns: NonZeroU32::new(3),
+        otherwise: 7,
+        ..wish
+    };
+    let made = certify(&nth, Order::Little, 16, &asked).unwrap();
+    let hardened = Rewriting {
+        turns: 3,
+        untouched: 0,
+        is_shown: true,
+    };
+    assert_eq!(made.rewriting, Some(hardened));
+    let filter = Filter::load(&made.image, &made.certificate, Order::Little, made.bound).unwrap();
+    let context = |first| [&[first][..], &[5; 15]].concat();
+    assert_eq!(filter.run(&context(9)), Some(5));
+    assert_eq!(filter.run(&context(16)), Some(7));
+    let poor = Wish { bound: 1, ..wish };
+    let why = certify(PORT.0, Order::Little, 128, &poor).unwrap_err();
+    assert!(
+        why.to_string().starts_with("refused by H14 at slot 0: "),
+        "{why}"
+    );
 }

@@ -20,3 +20,15 @@ returns-in-Run-clause-begun g c = rw c.in-Run.is c.ran_on.ensures.begun
 
 pub returns-in-RunChecked-clause-begun : goal.returns-in-RunChecked-clause-begun
 returns-in-RunChecked-clause-begun g c = rw c.in-RunChecked.is c.ran_checked_on.ensures.begun
+
+pub returns-in-Certify-clause-ok : goal.returns-in-Certify-clause-ok
+returns-in-Certify-clause-ok g c = rw c.in-Certify.is c.certified.ensures.ok
+
+pub returns-in-Certify-clause-err : goal.returns-in-Certify-clause-err
+returns-in-Certify-clause-err g c = rw c.in-Certify.is c.certified.ensures.err
+
+pub returns-in-Certify-clause-begun : goal.returns-in-Certify-clause-begun
+returns-in-Certify-clause-begun g c = rw c.in-Certify.is c.certified.ensures.begun
+
+pub returns-in-Certify-clause-names : goal.returns-in-Certify-clause-names
+returns-in-Certify-clause-names g c = rw c.in-Certify.is c.certified.ensures.names

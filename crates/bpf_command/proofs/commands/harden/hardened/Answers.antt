@@ -1,4 +1,5 @@
 use Rattle.std.proofs.Common.{inl, inr, rules, ◌≡◌, ◌⊎◌, ◌<◌, true, false, IfErr}
+use Rattle.std.proofs.lemmas.Result.{err_from_is_err_and}
 use Rattle.bpf_insn.specs.Instruction.{slots}
 use Rattle.bpf_insn.specs.Image.{image as image_of}
 use Rattle.bpf_answers.specs.Loaded.{LoadsImage}
@@ -7,7 +8,7 @@ use Rattle.bpf_harden_notes.specs.declared.error.HardenError.TheVariants.{Memory
 use Rattle.bpf_answers.specs.declared.failure.Failure.TheVariants.{CannotWrite, NoMemory}
 use Rattle.bpf_command.proofs.HardenedLemmas.{all_said, all_stand, answered, made_of, out_fails, texts_fail, texts_left, unsaid}
 use Rattle.bpf_answers.specs.Answer.Answer.{NoImage, NotHardened, NotShown}
-use Rattle.bpf_answers.proofs.MadeLemmas.{not_all_printed, on_failure}
+use Rattle.bpf_answers.proofs.MadeLemmas.{not_all_printed, nothing_printed, on_failure}
 use Rattle.bpf_command.specs.Hardened.{AllStand, IsUnshown, NotBothPut, NotBothStand, said_answer}
 use Rattle.bpf_command.specs.declared.commands.harden.Unshown.TheVariants.{Differs}
 use Rattle.bpf_command.proofs.commands.harden.hardened.Goals as goal
@@ -21,7 +22,8 @@ returns-in_err-put-clause-err g c =
     let shown = c.in-Ok-beside_of.ensures.shown in
     let image : LoadsImage at asked.order c.args.places.now asked.input.now c.program_at.new.places c.in-Ok.program = search rules in
     let hardens = made_of at c.args.places.now asked shown.1 c.program_at.new.places c.in-Ok.program made shown.0 c.matching_keeps_meaning.ensures image c.in-Ok-answer_of.ensures.program shown.3 in
-    let fails : IfErr c.from_residual-in_err-put.result (λ f. ((f ≡ CannotWrite asked.output) ⊎ (f ≡ NoMemory)) × puts c.program_at.new.places asked.output.now (image_of made.order made.list) false c.put.new.places) = search rules in
+    let fails : IfErr c.from_residual-in_err-put.result (λ f. ((f ≡ CannotWrite asked.output) ⊎ (f ≡ NoMemory)) × puts c.program_at.new.places asked.output.now (image_of made.order made.list) false c.put.new.places)
+    = let p = err_from_is_err_and c.from_residual-in_err-put.result c.from_residual-in_err-put.ensures.1 in rw (p.1, p.2) c.in_err-put.ensures.err in
     out_fails c.from_residual-in_err-put.result at puts c.args.places.now asked c.program_at.new.places c.put.new.places made shown.0 shown.1 hardens fails
 
 pub returns-in_err-put_beside-clause-err : goal.returns-in_err-put_beside-clause-err
@@ -34,7 +36,8 @@ returns-in_err-put_beside-clause-err g c =
     let image : LoadsImage at asked.order c.args.places.now asked.input.now c.program_at.new.places c.in-Ok.program = search rules in
     let hardens = made_of at c.args.places.now asked shown.1 c.program_at.new.places c.in-Ok.program made shown.0 c.matching_keeps_meaning.ensures image c.in-Ok-answer_of.ensures.program shown.3 in
     let whole : puts c.program_at.new.places asked.output.now (image_of made.order made.list) true c.put.new.places = c.in_ok-put.ensures.ok.1 in
-    let fails : IfErr c.from_residual-in_err-put_beside.result (NotBothPut puts c.put.new.places asked c.put_beside.new.places) = search rules in
+    let fails : IfErr c.from_residual-in_err-put_beside.result (NotBothPut puts c.put.new.places asked c.put_beside.new.places)
+    = let p = err_from_is_err_and c.from_residual-in_err-put_beside.result c.from_residual-in_err-put_beside.ensures.1 in rw (p.1, p.2) c.in_err-put_beside.ensures.err in
     texts_fail c.from_residual-in_err-put_beside.result at puts c.args.places.now asked c.program_at.new.places c.put.new.places c.put_beside.new.places made shown.0 shown.1 hardens whole fails
 
 pub returns-in_err-put_beside-clause-names : goal.returns-in_err-put_beside-clause-names
@@ -134,3 +137,9 @@ returns-clause-names g c =
     let stand : AllStand at puts c.args.places.now asked c.put_beside.new.places c.in-Ok-beside_of.beside.said
     = all_stand at puts c.args.places.now asked c.program_at.new.places c.put.new.places c.put_beside.new.places made shown.0 shown.1 c.in-Ok-beside_of.beside.said _ shown.2 hardens whole shown.4 c.in_ok-put_beside.ensures.ok.1 in
     on_failure c.say_left.result _ (inr (inr (inr (c.in-Ok-beside_of.beside.said, stand))))
+
+pub returns-in_err-put-clause-begun : goal.returns-in_err-put-clause-begun
+returns-in_err-put-clause-begun g c = nothing_printed c.from_residual-in_err-put.result _ _
+
+pub returns-in_err-put_beside-clause-begun : goal.returns-in_err-put_beside-clause-begun
+returns-in_err-put_beside-clause-begun g c = nothing_printed c.from_residual-in_err-put_beside.result _ _

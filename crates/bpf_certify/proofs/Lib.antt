@@ -1,0 +1,2 @@
+-- what is certified, and what is refused
+mod CertifiedLemmas
