@@ -30,6 +30,8 @@ use Rattle.bpf_follows_law.specs.declared.notes.Bounds.{Bounds}
 use Rattle.bpf_follows_notes.specs.Refused.{refusal_number as notes_number, refusal_line as notes_line}
 use Rattle.bpf_follows_notes.specs.declared.error.NotesError.{NotesError}
 use Rattle.bpf_answers.specs.declared.certified.Certification.{Certification}
+use Rattle.bpf_answers.specs.declared.converted.Unconverted.{Unconverted}
+use Rattle.bpf_answers.specs.declared.converted.Unconverted.TheVariants.{InLine, InFilter}
 use Rattle.bpf_answers.specs.declared.certified.Rewriting.{Rewriting}
 use Rattle.bpf_machine.specs.declared.outcome.Outcome.{Outcome}
 use Rattle.bpf_machine.specs.declared.outcome.Outcome.TheVariants.{Done as DoneRun, Fault as FaultRun, OutOfFuel}
@@ -51,6 +53,8 @@ pub data Answer : Type 0 where
   Certified : (told : Certification) → Answer
   TooDear : Answer
   Uncertified : Answer
+  -- a filter of classic BPF isn't converted
+  NotConverted : (why : Unconverted) → Answer
   -- notes show that one image's program keeps the meaning of another's, on these contexts and for these runs
   Follows : (bounds : Bounds) → Answer
   -- what is at the name of the old one or of the new one is no image, what is at the notes' name none; or they don't show it
@@ -93,6 +97,7 @@ status_of (NotShown mismatch) = 1
 status_of (Certified told) = 0
 status_of TooDear = 1
 status_of Uncertified = 1
+status_of (NotConverted why) = 1
 status_of (Follows bounds) = 0
 status_of (NoOld error) = 1
 status_of (NoNew error) = 1
@@ -118,6 +123,14 @@ at_slot = codes " at slot "
 
 abbrev pub at_line : List ℕ
 at_line = codes " at line "
+
+abbrev pub at_instruction : List ℕ
+at_instruction = codes " at instruction "
+
+-- `no B5 at instruction 7`, or `no B8 at line 1`
+abbrev pub unconverted_line : Unconverted → List ℕ
+unconverted_line (InLine number line) = refusal_line (codes "B") number at_line line
+unconverted_line (InFilter number at) = refusal_line (codes "B") number at_instruction at
 
 -- `no E4 of NEW at slot 0`: of two images this one
 abbrev pub at_slot_of_old : List ℕ
@@ -228,6 +241,7 @@ text_of (NotShown mismatch) = refusal_line (codes "H") not_shown at_slot (mismat
 text_of (Certified told) = certified_line told.length told.bound told.rewriting
 text_of TooDear = refusal_line (codes "H") too_dear at_slot 0
 text_of Uncertified = refusal_line (codes "H") uncertified at_slot 0
+text_of (NotConverted why) = unconverted_line why
 text_of (Follows bounds) = follows_line bounds
 text_of (NoOld error) = refusal_line (codes "E") (decode_number error) at_slot_of_old (decode_slot error)
 text_of (NoNew error) = refusal_line (codes "E") (decode_number error) at_slot_of_new (decode_slot error)

@@ -1,8 +1,13 @@
 //! Filters as `tcpdump` writes them, and as the bytes of `struct sock_filter`.
 #![tactic(auto)]
 
+mod border;
 mod bytes;
+mod fault;
+mod line;
+mod number;
 mod text;
 
-pub use bytes::{RAW_BYTES, raws_in};
-pub use text::{TextFault, raws_of};
+pub use bytes::raws_in;
+pub use fault::TextFault;
+pub use text::raws_of;

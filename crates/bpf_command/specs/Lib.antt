@@ -4,4 +4,5 @@ pub mod Hardened
 pub mod Names
 pub mod Explained
 pub mod Certified
+pub mod Conversion
 pub mod Response

@@ -14,6 +14,8 @@ use Rattle.bpf_command.specs.Inferred.{InferSays, InferFails, NotInferred}
 use Rattle.bpf_command.specs.Hardened.{HardenFails, HardenSays, NotAllMade}
 use Rattle.bpf_answers.specs.Both.{Pairing}
 use Rattle.bpf_command.specs.Certified.{CertifyWithFails, CertifyWithSays, NotCertifiedWith}
+use Rattle.bpf_command.specs.Conversion.{IsConversionInTheWay, conversion_conflict}
+use Rattle.bpf_command_convert.specs.Converted.{ConvertFails, ConvertSays, NotConverted}
 use Rattle.bpf_command_core.specs.Followed.{FollowsFails, FollowsSays}
 use Rattle.bpf_command_core.specs.Given.{CheckedFails, CheckedLeaves, CheckedSays, RunFails, RunLeaves, RunSays}
 use Rattle.bpf_command_core.specs.Names.{names_checked, names_run}
@@ -24,7 +26,7 @@ use Rattle.std.specs.Str.{bytes_eq}
 use Rattle.bpf_request.specs.declared.certifying.Certifying.{Certifying}
 use Rattle.bpf_request.specs.declared.hardening.Hardening.{Hardening}
 use Rattle.bpf_request.specs.declared.words.Request.{Request}
-use Rattle.bpf_request.specs.declared.words.Request.TheVariants.{Groups, Asm, List as ListOf, Run, Check, RunChecked, Infer, Harden, Certify, Follows, Migrate, Explain}
+use Rattle.bpf_request.specs.declared.words.Request.TheVariants.{Groups, Asm, List as ListOf, Run, Check, RunChecked, Infer, Harden, Certify, Convert, Follows, Migrate, Explain}
 use Rattle.bpf_request.specs.declared.subject.Aspect.{Aspect}
 use Rattle.bpf_request.specs.declared.subject.Aspect.TheVariants.{Listing, Slot as OneSlot, Graph as Drawn}
 use Rattle.bpf_request.specs.declared.subject.Subject.{Subject}
@@ -111,6 +113,7 @@ conflict_of (RunChecked input certificate contexts order) = thrice input.now cer
 conflict_of (Infer input least most deep output order) = out_of_order least most
 conflict_of (Harden h) = written_twice h.output.now h.notes h.changes
 conflict_of (Certify c) = certify_conflict c
+conflict_of (Convert c) = conversion_conflict c
 conflict_of (Follows f) = thrice f.original.now f.rewritten.now f.notes.now
 conflict_of (Migrate certificate output) = None
 conflict_of (Explain input subject lines order) = conflict_with input.now lines subject
@@ -170,6 +173,7 @@ Obstructs meets s (Infer input least most deep output order) one = one ≡ false
 Obstructs meets s (Explain input subject lines order) one = one ≡ false
 Obstructs meets s (Harden h) one = IsInTheWay meets s h one
 Obstructs meets s (Certify c) one = IsAnyInTheWay meets s c one
+Obstructs meets s (Convert c) one = IsConversionInTheWay meets s c one
 Obstructs meets s (Follows f) one = one ≡ false
 Obstructs meets s (Migrate certificate output) one = one ≡ false
 
@@ -187,6 +191,7 @@ Does o m b old new before after (Infer input least most deep output order) = Ans
 Does o m b old new before after (Explain input subject lines order) = ExplainWithSays o order old input.now subject lines new
 Does o m b old new before after (Harden h) = Answered (HardenSays o m old h new) before after
 Does o m b old new before after (Certify c) = Answered (CertifyWithSays o m b old c new) before after
+Does o m b old new before after (Convert c) = Answered (ConvertSays o b old c new) before after
 Does o m b old new before after (Follows f) = Answered (FollowsSays o old f new) before after
 Does o m b old new before after (Migrate certificate output) = Answered (MigrateSays o m old certificate.now output.now new) before after
 
@@ -202,6 +207,7 @@ Misses o m b old new before after (Infer input least most deep output order) = I
 Misses o m b old new before after (Explain input subject lines order) = ExplainWithFails o order old input.now subject lines new
 Misses o m b old new before after (Harden h) = HardenFails o m old h new
 Misses o m b old new before after (Certify c) = CertifyWithFails o m b old c new
+Misses o m b old new before after (Convert c) = ConvertFails o b old c new
 Misses o m b old new before after (Follows f) = FollowsFails o old f new
 Misses o m b old new before after (Migrate certificate output) = MigrateFails o m old certificate.now output.now new
 
@@ -218,6 +224,7 @@ Leaves o m b old new before after (Infer input least most deep output order) = U
 Leaves o m b old new before after (Explain input subject lines order) = ⊤
 Leaves o m b old new before after (Harden h) = Unfinished (HardenSays o m old h new) before after
 Leaves o m b old new before after (Certify c) = Unfinished (CertifyWithSays o m b old c new) before after
+Leaves o m b old new before after (Convert c) = Unfinished (ConvertSays o b old c new) before after
 Leaves o m b old new before after (Follows f) = Unfinished (FollowsSays o old f new) before after
 Leaves o m b old new before after (Migrate certificate output) = Unfinished (MigrateSays o m old certificate.now output.now new) before after
 
@@ -233,6 +240,7 @@ NotMade o m b old new (Infer input least most deep output order) = NotInferred o
 NotMade o m b old new (Explain input subject lines order) = OpensFirst o (behind_lines lines (names_explained input.now subject)) old new
 NotMade o m b old new (Harden h) = NotAllMade o m old h new
 NotMade o m b old new (Certify c) = NotCertifiedWith o m b old c new
+NotMade o m b old new (Convert c) = NotConverted o b old c new
 NotMade o m b old new (Follows f) = OpensFirst o (f.original.now ∷ f.rewritten.now ∷ f.notes.now ∷ []) old new
 NotMade o m b old new (Migrate certificate output) = NotMigrated o m old certificate.now output.now new
 

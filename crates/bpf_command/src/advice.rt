@@ -290,6 +290,9 @@ fn misfit_text(request: Request<'_>) -> Option<&'static str> {
         Request::Certify(_) => Some(
             "OUT, CERT, --notes and --changes lead to files of their own; CERT, --notes and --changes not to IN, and none of them to --lines",
         ),
+        Request::Convert(_) => Some(
+            "OUT and CERT lead to files of their own, not to IN; LEN is at least 8 for blocks, and 64 with --seccomp, which doesn't go with --plain",
+        ),
         Request::Harden(_) => Some(
             "OUT, --notes and --changes lead to files of their own, and neither --notes nor --changes to IN",
         ),

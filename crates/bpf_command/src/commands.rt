@@ -2,12 +2,14 @@
 
 mod certify;
 mod changes;
+mod convert;
 mod explain;
 mod harden;
 mod infer;
 mod trace;
 
 pub use certify::certified;
+pub use convert::{conversion_conflict, convert, is_conversion_in_the_way};
 pub use explain::explained;
 pub use harden::hardened;
 pub use infer::inferred;

@@ -10,7 +10,10 @@ ghost use Rattle.bpf_answers.specs.Told.{IsTold, Tells};
 
 use crate::advice::{after_failure, after_refusal};
 use crate::aside::Aside;
-use crate::commands::{Trace, certified, explained, hardened, inferred};
+use crate::commands::{
+    Trace, certified, conversion_conflict, convert, explained, hardened, inferred,
+    is_conversion_in_the_way,
+};
 use crate::shown::tell_mistake;
 use bpf_answers::{BAD_WORDS, CLOSED, FAILED, Failure, REFUSED, tell};
 use bpf_command_core::{
@@ -204,6 +207,7 @@ fn conflict_in(request: Request<'_>) -> Option<Failure<'static>>
         Request::Infer { least, most, .. } => out_of_order(least, most),
         Request::Harden(asked) => written_twice(asked.output, asked.notes, asked.changes),
         Request::Certify(asked) => certify_conflict(asked),
+        Request::Convert(asked) => conversion_conflict(asked),
         Request::Follows(asked) => thrice(asked.original, asked.rewritten, asked.notes),
     }
 }
@@ -286,6 +290,7 @@ fn obstructs<P: Places>(places: &P, request: Request<'_>) -> Result<bool, AllocE
     match request {
         Request::Harden(asked) => is_in_the_way(places, asked),
         Request::Certify(asked) => is_any_in_the_way(places, asked),
+        Request::Convert(asked) => is_conversion_in_the_way(places, asked),
         Request::Groups { .. } | Request::Asm { .. } | Request::List { .. } => Ok(false),
         Request::Run { .. } | Request::Check { .. } | Request::RunChecked { .. } => Ok(false),
         Request::Infer { .. } | Request::Explain { .. } => Ok(false),
@@ -359,6 +364,7 @@ fn carry_out<'a, P: Places, W: Write, H: Aside>(
         ),
         Request::Harden(asked) => hardened(alloc, places, out, &*aside, asked),
         Request::Certify(asked) => certified(alloc, places, out, &*aside, asked),
+        Request::Convert(asked) => convert(alloc, places, out, &*aside, asked),
         Request::Follows(asked) => followed(alloc, places, out, asked),
         Request::Explain {
             input,

@@ -23,7 +23,7 @@ pub(crate) struct Source<'a, 'b> {
 
 /// Tells a sentence in a line of its own, with the line of the source at a slot, if it is known. Whether it can be written makes no
 /// difference.
-fn tell_sentence<H: Aside, D: Display + Drop>(aside: &H, sentence: D, source: &str) {
+pub(crate) fn tell_sentence<H: Aside, D: Display + Drop>(aside: &H, sentence: D, source: &str) {
     let mut stream = aside.stream();
     let _ = write!(Line::new(&mut stream), "{sentence}");
     if !source.is_empty() {

@@ -103,7 +103,8 @@ fn tell_stop(out: &mut impl Write, stop: Stop) -> io::Result<()> {
     match stop {
         Stop::Memory => write!(out, "no memory"),
         Stop::Text(TextFault::Row { line }) => write!(out, "B8 at line {line}"),
-        Stop::Text(TextFault::Count { said, found }) => write!(out, "B8 {said} and {found}"),
+        Stop::Text(TextFault::Count { said, found, .. }) => write!(out, "B8 {said} and {found}"),
+        Stop::Text(TextFault::Part { at }) => write!(out, "B8 in {at}"),
         Stop::Text(TextFault::Memory) => write!(out, "B9"),
         Stop::Filter(refusal) => {
             let number = refusal.number();

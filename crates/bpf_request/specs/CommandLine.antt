@@ -8,11 +8,12 @@ use Rattle.bpf_insn.specs.declared.order.Order.{Order}
 use Rattle.bpf_insn.specs.declared.order.Order.TheVariants.{Little, Big}
 use Rattle.bpf_request.specs.declared.certifying.Certifying.{Certifying}
 use Rattle.bpf_request.specs.declared.contexts.Contexts.{Contexts}
+use Rattle.bpf_request.specs.declared.converting.Converting.{Converting}
 use Rattle.bpf_request.specs.declared.contexts.Contexts.TheVariants.{Word, Bytes, Lines, Nothing, Several}
 use Rattle.bpf_request.specs.declared.following.Following.{Following}
 use Rattle.bpf_request.specs.declared.hardening.Hardening.{Hardening}
 use Rattle.bpf_request.specs.declared.words.Request.{Request}
-use Rattle.bpf_request.specs.declared.words.Request.TheVariants.{Groups, Asm, List as ListOf, Run, Check, RunChecked, Infer, Harden, Certify, Follows, Migrate, Explain}
+use Rattle.bpf_request.specs.declared.words.Request.TheVariants.{Groups, Asm, List as ListOf, Run, Check, RunChecked, Infer, Harden, Certify, Convert, Follows, Migrate, Explain}
 use Rattle.bpf_request.specs.declared.subject.Aspect.{Aspect}
 use Rattle.bpf_request.specs.declared.subject.Aspect.TheVariants.{Listing, Slot as OneSlot, Graph as Drawn}
 use Rattle.bpf_request.specs.declared.subject.Clash.{Clash}
@@ -165,6 +166,13 @@ hardening_of c = record {
   order = c.order;
 }
 
+-- which filter is to be converted, for which contexts, and where the answers go
+abbrev pub IsConverting : List Row → Converting → Type 0
+IsConverting rows c =
+    IsInput rows c.input.now c.order × IsCount 32 0 (one_of (codes "LEN") rows) c.length
+    × (c.output.now ≡ word_of (codes "OUT") rows) × (c.certificate.now ≡ word_of (codes "CERT") rows)
+    × IsFlag (one_of (codes "plain") rows) c.plain × IsFlag (one_of (codes "seccomp") rows) c.seccomp × IsFlag (one_of (codes "raw") rows) c.raw
+
 -- which programs are to be compared, by which notes, for which contexts and runs
 abbrev pub IsFollowing : List Row → Following → Type 0
 IsFollowing rows f =
@@ -176,7 +184,7 @@ IsFollowing rows f =
 abbrev pub Asks : Text → List Row → Request → Type 0
 Asks name rows (Groups input order) =
     (name ≢ codes "asm") × (name ≢ codes "list") × (name ≢ codes "run") × (name ≢ codes "check") × (name ≢ codes "run-checked") × (name ≢ codes "infer")
-    × (name ≢ codes "harden") × (name ≢ codes "certify") × (name ≢ codes "follows") × (name ≢ codes "migrate") × (name ≢ codes "explain") × IsInput rows input.now order
+    × (name ≢ codes "harden") × (name ≢ codes "certify") × (name ≢ codes "convert") × (name ≢ codes "follows") × (name ≢ codes "migrate") × (name ≢ codes "explain") × IsInput rows input.now order
 Asks name rows (Asm input output order) = (name ≡ codes "asm") × IsInput rows input.now order × (output.now ≡ word_of (codes "OUT") rows)
 Asks name rows (ListOf input slots bytes order) =
     (name ≡ codes "list") × IsInput rows input.now order × IsFlag (one_of (codes "slots") rows) slots × IsFlag (one_of (codes "bytes") rows) bytes
@@ -192,6 +200,7 @@ Asks name rows (Infer input least most deep output order) =
     × IsCount 32 least (one_of (codes "most") rows) most × IsFlag (one_of (codes "deep") rows) deep × (output.now ≡ word_of (codes "OUT") rows)
 Asks name rows (Harden hardening) = (name ≡ codes "harden") × IsHardening rows hardening
 Asks name rows (Certify certifying) = (name ≡ codes "certify") × IsCertifying rows certifying
+Asks name rows (Convert converting) = (name ≡ codes "convert") × IsConverting rows converting
 Asks name rows (Follows following) = (name ≡ codes "follows") × IsFollowing rows following
 Asks name rows (Explain input subject lines order) =
     (name ≡ codes "explain") × IsInput rows input.now order × IsSubject rows subject × (option_map (λ s. s.now) lines ≡ first_of (codes "lines") rows)

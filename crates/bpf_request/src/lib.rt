@@ -3,6 +3,7 @@
 
 mod certifying;
 mod contexts;
+mod converting;
 mod following;
 mod hardening;
 mod subject;
@@ -10,6 +11,7 @@ mod words;
 
 pub use certifying::Certifying;
 pub use contexts::Contexts;
+pub use converting::Converting;
 pub use following::Following;
 pub use hardening::Hardening;
 pub use subject::{Aspect, Clash, Subject};

@@ -3,11 +3,12 @@
 ghost use Rattle.std.specs.Prelude.{◌≡◌, IfOk, IfErr, map, option_map, true};
 ghost use Rattle.std.specs.String.{string_bytes};
 ghost use Rattle.clap.specs.Words.{FailsBy, first_of, found_of, kind_of, one_of, rows_of, subcommand_of, takes};
-ghost use Rattle.bpf_request.specs.CommandLine.{AreContexts, Asks, GivenBy, IsAsked, IsCertifying, IsCount, IsFlag, IsFollowing, IsHardening, IsNumber, IsOrder, IsSubject, bpf, faults_in, word_of};
+ghost use Rattle.bpf_request.specs.CommandLine.{AreContexts, Asks, GivenBy, IsAsked, IsCertifying, IsConverting, IsCount, IsFlag, IsFollowing, IsHardening, IsNumber, IsOrder, IsSubject, bpf, faults_in, word_of};
 ghost use Rattle.clap.specs.declared.error.ErrorKind.TheVariants.{OutOfMemory};
 
 use crate::certifying::Certifying;
 use crate::contexts::Contexts;
+use crate::converting::Converting;
 use crate::following::Following;
 use crate::hardening::Hardening;
 use crate::subject::{Subject, subject_of};
@@ -76,6 +77,8 @@ pub enum Request<'a> {
     Harden(Hardening<'a>),
     /// An image with its certificate, hardened where it needs to be.
     Certify(Certifying<'a>),
+    /// An image of a filter of classic BPF, with its certificate.
+    Convert(Converting<'a>),
     /// Whether notes show that one program keeps the meaning of another.
     Follows(Following<'a>),
     /// What the checker or the inferrer sees of a program, or why an input is refused, in words, with the lines of its source at a
@@ -224,6 +227,22 @@ fn certifying_in<'a>(matches: &ArgMatches<'a>) -> Certifying<'a>
     }
 }
 
+/// What is to be converted.
+fn converting_in<'a>(matches: &ArgMatches<'a>) -> Converting<'a>
+    ensures { IsConverting (rows_of (found_of matches.now)) result }
+{
+    Converting {
+        input: word(matches, "IN"),
+        length: number(matches, "LEN", 0),
+        output: word(matches, "OUT"),
+        certificate: word(matches, "CERT"),
+        plain: has_flag(matches, "plain"),
+        seccomp: has_flag(matches, "seccomp"),
+        raw: has_flag(matches, "raw"),
+        order: order_of(matches),
+    }
+}
+
 /// Which programs are to be compared.
 fn following_in<'a>(matches: &ArgMatches<'a>) -> Following<'a>
     ensures { IsFollowing (rows_of (found_of matches.now)) result }
@@ -290,6 +309,7 @@ fn request_in<'a>(name: &str, matches: &ArgMatches<'a>) -> Request<'a>
         }
         "harden" => Request::Harden(hardening_in(matches)),
         "certify" => Request::Certify(certifying_in(matches)),
+        "convert" => Request::Convert(converting_in(matches)),
         "follows" => Request::Follows(following_in(matches)),
         "explain" => Request::Explain {
             input,

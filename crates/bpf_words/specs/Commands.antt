@@ -126,6 +126,13 @@ certify =
     with_rule (with_rule (with_rule (with_rule (with_rule (with_rule (with_rule (with_rule (with_rule certify_places bound) turns) otherwise) (flag (codes "padded")))
     (flag (codes "unproved"))) (option (codes "notes"))) (option (codes "changes"))) (option (codes "lines"))) big
 
+abbrev pub convert_places : App
+convert_places =
+    with_rule (with_rule (with_rule (with_rule (new_app (codes "convert")) (place (codes "IN"))) context_length) (place (codes "OUT"))) (place (codes "CERT"))
+
+abbrev pub convert : App
+convert = with_rule (with_rule (with_rule (with_rule convert_places (flag (codes "plain"))) (flag (codes "seccomp"))) (flag (codes "raw"))) big
+
 abbrev pub follows_places : App
 follows_places = with_rule (with_rule (with_rule (with_rule (new_app (codes "follows")) (place (codes "OLD"))) (place (codes "NEW"))) (place (codes "NOTES"))) context_length
 
@@ -153,6 +160,6 @@ explain = with_rule (with_rule (with_rule (with_rule (with_rule (with_rule (with
 abbrev pub with_proposals : App
 with_proposals = with_subcommand (with_subcommand (with_subcommand (with_subcommand without_certificates check.top) run_checked.top) infer.top) harden.top
 
--- `bpf` with all twelve
+-- `bpf` with all thirteen
 abbrev pub bpf : App
-bpf = with_subcommand (with_subcommand (with_subcommand (with_subcommand with_proposals certify.top) follows.top) migrate.top) explain.top
+bpf = with_subcommand (with_subcommand (with_subcommand (with_subcommand (with_subcommand with_proposals certify.top) convert.top) follows.top) migrate.top) explain.top

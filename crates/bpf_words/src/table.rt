@@ -165,7 +165,7 @@ pub const SECOND: [Entry; 4] = [
 ];
 
 /// The others.
-pub const LAST: [Entry; 4] = [
+pub const LAST: [Entry; 5] = [
     Entry {
         name: "certify",
         about: "Writes an image and its certificate within a bound, hardened where it needs to be",
@@ -197,6 +197,32 @@ pub const LAST: [Entry; 4] = [
             NOTES,
             CHANGES,
             LINES,
+            BIG,
+        ],
+    },
+    Entry {
+        name: "convert",
+        about: "Converts a filter of tcpdump, libpcap or seccomp to an image with its certificate",
+        arguments: &[
+            Place(
+                "IN",
+                "a filter of classic BPF, as tcpdump -ddd or -dd prints it",
+            ),
+            Length("the length of the contexts in bytes, at most 4096; 64 with --seccomp"),
+            Place("OUT", "where the image goes"),
+            Place("CERT", "where its certificate goes"),
+            Flag(
+                "plain",
+                "contexts are packets of LEN bytes, else blocks: a packet's length in 8 bytes, the packet, padding up to LEN",
+            ),
+            Flag(
+                "seccomp",
+                "IN is a filter of seccomp, and contexts are struct seccomp_data",
+            ),
+            Flag(
+                "raw",
+                "IN is struct sock_filter, 8 bytes for each instruction",
+            ),
             BIG,
         ],
     },

@@ -1,0 +1,5 @@
+-- Definitions, in the order in which they read best.
+-- the bytes of `struct sock_filter`
+pub mod Bytes
+-- the text of `tcpdump -ddd` and `tcpdump -dd`
+pub mod Text

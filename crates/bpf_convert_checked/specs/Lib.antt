@@ -1,0 +1,2 @@
+-- what is made of a filter
+pub mod Made

@@ -1,0 +1,99 @@
+//! The program of a filter, and its certificate.
+
+ghost use Rattle.std.specs.Prelude.{◌≡◌, ◌≤◌, ◌⊎◌, IfOk, IfErr};
+ghost use Rattle.bpf_insn.specs.Limits.{max_context};
+ghost use Rattle.bpf_check.specs.CheckedProgram.{IsCertifiedBy};
+ghost use Rattle.bpf_convert.specs.Meaning.{KeepsAnswers};
+ghost use Rattle.bpf_convert_checked.specs.Made.{IsMade, IsRefusedFor, kind_of};
+ghost use Rattle.bpf_convert_checked.specs.declared.error.ConvertError.TheVariants.{Memory, Uncertified};
+
+use crate::error::ConvertError;
+use bpf_cert::Certificate;
+use bpf_check::check;
+use bpf_classic::{Filter, Kind, Raw};
+use bpf_convert::{Converted, Form, convert};
+use bpf_convert_cert::certificate;
+use bpf_insn::{BuildError, Order};
+use std::alloc::Global;
+
+/// A filter's program, and a certificate that the checker takes.
+#[derive(Drop)]
+pub struct Made {
+    pub converted: Converted,
+    pub certificate: Certificate,
+}
+
+/// What a filter is for that is given such contexts.
+pub fn kind_of(form: Form) -> Kind
+    ensures { result ≡ kind_of form }
+{
+    match form {
+        Form::Blocks | Form::Plain => Kind::Packets,
+        Form::Seccomp => Kind::Seccomp,
+    }
+}
+
+/// The certificate of a filter's program, if the checker takes it and it is for contexts of this length.
+fn certified(alloc: Global, converted: &Converted, length: u32) -> Result<Certificate, ConvertError>
+    ensures certified { IfOk result (λ c. IsCertifiedBy converted.now.program c) }
+    ensures length { IfOk result (λ c. (c.least ≡ length) × (c.most ≡ length)) }
+    ensures err { IfErr result (λ e. (e ≡ Memory) ⊎ (e ≡ Uncertified)) }
+{
+    let Ok(certificate) = certificate(alloc, converted) else {
+        return Err(ConvertError::Memory);
+    };
+    if certificate.least() != length || certificate.most() != length {
+        return Err(ConvertError::Uncertified);
+    }
+    match check(converted.program(), &certificate) {
+        Ok(_checked) => {}
+        Err(_refusal) => return Err(ConvertError::Uncertified),
+    }
+    Ok(certificate)
+}
+
+/// The program of a filter.
+fn program_of(
+    alloc: Global,
+    filter: &Filter,
+    form: Form,
+    length: u32,
+    order: Order,
+) -> Result<Converted, ConvertError>
+    requires { length ≤ max_context }
+    ensures answers { IfOk result (λ c. KeepsAnswers filter.now.list c.layout c.program) }
+    ensures layout { IfOk result (λ c. (c.layout.form ≡ form) × (c.layout.length ≡ length) × (c.layout.order ≡ order)) }
+    ensures err { IfErr result (λ e. (e ≡ Memory) ⊎ (e ≡ Uncertified)) }
+{
+    match convert(alloc, filter, form, length, order) {
+        Ok(converted) => Ok(converted),
+        Err(BuildError::Memory) => Err(ConvertError::Memory),
+        Err(_) => Err(ConvertError::Uncertified),
+    }
+}
+
+/// The program of instructions as they are written, for contexts of `length` bytes in a form: from 0 to 4,096, of blocks at least 8, of seccomp
+/// 64; and a certificate that the checker takes, for contexts of this length alone. B1 to B7 where they are no filter, B9 where memory runs
+/// out, B10 where the checker doesn't take the certificate.
+pub fn converted(
+    alloc: Global,
+    raws: &[Raw],
+    form: Form,
+    length: u32,
+    order: Order,
+) -> Result<Made, ConvertError>
+    requires { length ≤ max_context }
+    ensures ok { IfOk result (IsMade raws.now form length order) }
+    ensures err { IfErr result (IsRefusedFor raws.now form) }
+{
+    let filter = match Filter::new(alloc, kind_of(form), raws) {
+        Ok(filter) => filter,
+        Err(refusal) => return Err(ConvertError::Filter(refusal)),
+    };
+    let converted = program_of(alloc, &filter, form, length, order)?;
+    let certificate = certified(alloc, &converted, length)?;
+    Ok(Made {
+        converted,
+        certificate,
+    })
+}

@@ -1,0 +1,66 @@
+/* classic: libpcap's side of tests/classic.py. A line of standard input is `compile LINK EXPRESSION`, which is answered by the text of
+ * `tcpdump -ddd` with `/` for the ends of lines, or `no`; or `filter TEXT ROOM HEX..`, which is answered by what bpf_filter() says of each packet
+ * of which ROOM bytes are there (`none` is an empty one). */
+#include <pcap/pcap.h>
+#include <stdio.h>
+#include <stdlib.h>
+#include <string.h>
+
+static struct bpf_insn code[4096];
+static unsigned char packet[65536];
+
+static void compile(void)
+{
+    char *link = strtok(NULL, " "), *text = strtok(NULL, "\n");
+    pcap_t *dead = pcap_open_dead(pcap_datalink_name_to_val(link), 262144);
+    struct bpf_program made;
+
+    if (dead == NULL || pcap_compile(dead, &made, text, 1, 0xffffff00) != 0) {
+        puts("no");
+    } else {
+        printf("%u", made.bf_len);
+        for (unsigned at = 0; at < made.bf_len; at++)
+            printf("/%u %u %u %u", made.bf_insns[at].code, made.bf_insns[at].jt, made.bf_insns[at].jf, made.bf_insns[at].k);
+        puts("/");
+        pcap_freecode(&made);
+    }
+    if (dead != NULL)
+        pcap_close(dead);
+}
+
+static void filter(void)
+{
+    char *text = strtok(NULL, " "), *end;
+    size_t room = strtoul(strtok(NULL, " "), NULL, 10), count = strtoul(text, &end, 10);
+
+    for (size_t at = 0; at < count; at++) {
+        code[at].code = strtoul(end + 1, &end, 10);
+        code[at].jt = strtoul(end + 1, &end, 10);
+        code[at].jf = strtoul(end + 1, &end, 10);
+        code[at].k = strtoul(end + 1, &end, 10);
+    }
+    for (char *hex = strtok(NULL, " \n"); hex != NULL; hex = strtok(NULL, " \n")) {
+        size_t size = strcmp(hex, "none") == 0 ? 0 : strlen(hex) / 2;
+        for (size_t at = 0; at < size; at++) {
+            char pair[3] = {hex[2 * at], hex[2 * at + 1], 0};
+            packet[at] = strtoul(pair, NULL, 16);
+        }
+        printf("%u ", bpf_filter(code, packet, size, size < room ? size : room));
+    }
+    puts("");
+}
+
+int main(void)
+{
+    static char line[1 << 22];
+
+    while (fgets(line, sizeof line, stdin)) {
+        char *word = strtok(line, " ");
+        if (word != NULL && strcmp(word, "compile") == 0)
+            compile();
+        else if (word != NULL)
+            filter();
+        fflush(stdout);
+    }
+    return 0;
+}
