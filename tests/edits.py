@@ -60,7 +60,7 @@ COMMANDS = {
     "certify": ["bpf_command/certify-writes-the-old-image", "bpf_command/certify-tells-turns-that-are-not-shown"],
     "convert": ["bpf_command_convert/told_of-tells-another-bound", "bpf_convert_checked/certified-takes-what-is-refused"],
     "check": ["bpf_command_core/check-tells-the-length-as-the-bound"],
-    "explain": ["bpf_command/explain-seeks-for-length-0-whatever-was-asked"],
+    "explain": ["bpf_command/explain-seeks-for-length-0-whatever-was-asked", "bpf_command/explain-hardens-for-length-0-whatever-was-asked"],
     "follows": ["bpf_command_core/follows-compares-the-old-image-with-itself"],
     "groups": ["bpf_command_core/groups-names-divmul-for-atomic"],
     "harden": ["bpf_command/harden-writes-what-is-not-shown"],

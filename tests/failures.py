@@ -20,6 +20,7 @@ E9, K4, A7, I5, H12 = 'no E9 at slot 0\n', 'no K4 at line 0\n', 'no A7 at line 0
 E9_OLD, E9_NEW, N2 = 'no E9 of OLD at slot 0\n', 'no E9 of NEW at slot 0\n', 'no N2 at line 0\n'
 # Of an explanation: of a text behind its first reading, and of a search, whose words stand behind what was found out before it.
 A7_TOLD, I5_TOLD = 'A7: out of memory\n', 'no certificate: I5, out of memory\n'
+H12_TOLD = 'no hardened program: H12 at slot 0\nout of memory\n'
 # The names that are written.
 MADE = ['OUT', 'standard output', '/dev/null', '/dev/zero']
 # What the line of an answer takes as it grows, in bytes: half a frame of a program.
@@ -72,6 +73,8 @@ COMMANDS = [
     ('explain checksum.img --infer 16', [E9, I5_TOLD]),
     ('explain checksum.img --infer 15', [E9, I5_TOLD]),
     ('explain checksum.img --infer 15 --deep', [E9, I5_TOLD]),
+    ('explain checksum.img --harden 15', [E9, H12_TOLD]),
+    ('explain checksum.img --harden 15 --padded', [E9, H12_TOLD]),
 ]
 
 

@@ -43,6 +43,8 @@ CALLS = [
     ('explain smallest.img smallest.cert --slot 1', 0),
     ('explain smallest.img --infer 0', 0),
     ('explain smallest.img --infer 0 --deep', 0),
+    ('explain smallest.img --harden 0', 0),
+    ('explain smallest.img --harden 0 --padded', 1),
     ('explain refused.img', 1),
     ('explain --text refused.asm', 1),
     ('explain smallest.img refused.cert', 1),

@@ -1,5 +1,5 @@
 -- The status of what is explained, from what is said of the image, the text and the certificate.
-use Rattle.std.proofs.Common.{◌≡◌, ◌⊎◌, ℕ, List, Option, Some, None, IfSome, IfNone, false, Result, Ok, Err, IfOk, IfErr, refl, sym, subst, inl, inr, ◌∙◌}
+use Rattle.std.proofs.Common.{◌≡◌, ◌⊎◌, ℕ, Bool, List, Option, Some, None, IfSome, IfNone, false, Result, Ok, Err, IfOk, IfErr, refl, sym, subst, inl, inr, ◌∙◌}
 use Rattle.bpf_insn.specs.Instruction.{Instructions}
 use Rattle.bpf_insn.specs.declared.order.Order.{Order}
 use Rattle.bpf_cert.specs.View.{CertificateView}
@@ -17,7 +17,9 @@ use Rattle.std.specs.Borrow.{Bor}
 use Rattle.bpf_request.specs.declared.subject.Subject.{Subject}
 use Rattle.bpf_answers.specs.declared.failure.Failure.{Failure}
 use Rattle.bpf_answers.specs.declared.failure.Failure.TheVariants.{CannotRead}
-use Rattle.bpf_command.specs.Explained.{Answers, ExplainFails, ExplainSays, ExplainWithFails, ExplainWithSays, JudgesOf, LinesAt, LinesFail, SoughtSays}
+use Rattle.bpf_command.specs.Explained.{Answers, ExplainFails, ExplainSays, ExplainWithFails, ExplainWithSays, HardenedSays, IsHardened, JudgesOf, LinesAt, LinesFail, SoughtSays, TaskSays}
+use Rattle.bpf_command.specs.declared.commands.explain.Task.{Task}
+use Rattle.bpf_command.specs.declared.commands.explain.Task.TheVariants.{Search, Harden}
 use Rattle.bpf_command_core.proofs.JudgedLemmas.{loaded_says}
 
 -- an answer that was printed has its status
@@ -54,15 +56,24 @@ pub judges_by : (p : Instructions) (c : CertificateView) (o : Option Refusal) (s
 judges_by p c None status certifies flaw done refused = inl (done, certifies)
 judges_by p c (Some r) status certifies flaw done refused = inr (refused, (r, flaw))
 
-image_says : {S : Type 0} (opening : Opening S) (order : Order) (old : S) (input : List ℕ) (new : S) (least most : ℕ) (p : Instructions) → LoadsImage opening order old input new p → (x : Answer) → SoughtSays least most p x
-    → ImageSays opening order old input new (SoughtSays least most) x
-image_says opening order old input new least most p image (NoImage e) h = absurd h
-image_says opening order old input new least most p image x h = (p, image, h)
+-- ---- what is made for a program
 
-pub sought_so : {S E : Type 0} (result : Result ℕ E) (opening : Opening S) (order : Order) (old : S) (input : List ℕ) (new : S) (least most : ℕ) (p : Instructions) → LoadsImage opening order old input new p
-    → IfOk result (Answers (SoughtSays least most p)) → IfOk result (Answers (ImageSays opening order old input new (SoughtSays least most)))
-sought_so (Ok s) opening order old input new least most p image h = (h.0, h.1, image_says opening order old input new least most p image h.0 h.2)
-sought_so (Err e) opening order old input new least most p image h = tt
+-- what was hardened is told so, with the checker's answer
+pub hardened_so : (length : ℕ) (padded : Bool) (turns : ℕ) (p made : Instructions) (c : CertificateView) (status : ℕ) → IsHardened length padded turns p made c → JudgesOf made c status
+    → Answers (HardenedSays length padded turns p) status
+hardened_so length padded turns p made c status is (inl h) = (Written, h.0, (made, c, is, h.1))
+hardened_so length padded turns p made c status is (inr h) = (NotCertified (h.1).0, h.0, (made, c, is, (h.1).1))
+
+made_says : {S : Type 0} (opening : Opening S) (order : Order) (old : S) (input : List ℕ) (new : S) (task : Task) (p : Instructions) → LoadsImage opening order old input new p → (x : Answer) → TaskSays task p x
+    → ImageSays opening order old input new (TaskSays task) x
+made_says opening order old input new (Search asked) p image (NoImage e) h = absurd h
+made_says opening order old input new (Harden asked) p image (NoImage e) h = absurd h
+made_says opening order old input new task p image x h = (p, image, h)
+
+pub made_so : {S E : Type 0} (result : Result ℕ E) (opening : Opening S) (order : Order) (old : S) (input : List ℕ) (new : S) (task : Task) (p : Instructions) → LoadsImage opening order old input new p
+    → IfOk result (Answers (TaskSays task p)) → IfOk result (Answers (ImageSays opening order old input new (TaskSays task)))
+made_so (Ok s) opening order old input new task p image h = (h.0, h.1, made_says opening order old input new task p image h.0 h.2)
+made_so (Err e) opening order old input new task p image h = tt
 
 -- ---- with the lines of the source
 

@@ -1,6 +1,6 @@
 -- Which status `explain` answers, by what the names hold: that of an answer of the command that judges the same. What it
 -- prints are words.
-use Rattle.std.specs.Prelude.{◌≡◌, ◌⊎◌, ◌<◌, ℕ, List, Option, Some, None, false}
+use Rattle.std.specs.Prelude.{◌≡◌, ◌⊎◌, ◌<◌, ℕ, Bool, List, Option, Some, None, false, min}
 use Rattle.std.specs.Borrow.{Bor}
 use Rattle.bpf_insn.specs.Instruction.{Instructions, slots}
 use Rattle.bpf_insn.specs.declared.order.Order.{Order}
@@ -11,18 +11,27 @@ use Rattle.bpf_safety.specs.Certified.{IsLeastFlaw}
 use Rattle.bpf_check.specs.CheckedProgram.{IsCertifiedBy}
 use Rattle.bpf_check.specs.declared.refusal.Refusal.{Refusal}
 use Rattle.bpf_check.specs.RefusalNumbers.{refusal_slot, refusal_number}
+use Rattle.bpf_insn.specs.Limits.{max_context}
 use Rattle.bpf_infer_error.specs.RefusalNumbers.{infer_slot}
+use Rattle.bpf_follows_law.specs.declared.notes.Bounds.{Bounds}
+use Rattle.bpf_follows_law.specs.declared.notes.Place.{Place}
+use Rattle.bpf_follows_law.specs.Meaning.{KeepsMeaning}
+use Rattle.bpf_follows.specs.Mismatches.{IsMismatch}
+use Rattle.bpf_harden_notes.specs.RefusalNumbers.{harden_slot}
 use Rattle.bpf_places.specs.Opened.{Opening}
 use Rattle.bpf_answers.specs.Loaded.{ImageFails, ReadableFails, ShortTextAt, Tried}
 use Rattle.bpf_answers.specs.Answer.{Answer, status_of}
-use Rattle.bpf_answers.specs.Answer.Answer.{NoText, NotCertified, NotProposed, Lists, Written}
+use Rattle.bpf_answers.specs.Answer.Answer.{NoText, NotCertified, NotProposed, NotHardened, NotShown, Lists, Written}
 use Rattle.bpf_answers.specs.Told.{OutputFails}
 use Rattle.bpf_command_core.specs.Printed.{ImageSays, ListSays, LoadedSays, LoadedFails, YesSays}
 use Rattle.bpf_command.specs.Inferred.{IsProposal}
 use Rattle.bpf_answers.specs.declared.failure.Failure.{Failure}
 use Rattle.bpf_answers.specs.declared.failure.Failure.TheVariants.{CannotRead, NotTogether}
 use Rattle.bpf_request.specs.declared.subject.Subject.{Subject}
-use Rattle.bpf_request.specs.declared.subject.Subject.TheVariants.{Image, Text, Certified, Slot, Inferred, Graph, GraphAlone, Misfit}
+use Rattle.bpf_request.specs.declared.subject.Subject.TheVariants.{Image, Text, Certified, Slot, Inferred, Hardened, Graph, GraphAlone, Misfit}
+use Rattle.bpf_request.specs.CommandLine.{usual_turns}
+use Rattle.bpf_command.specs.declared.commands.explain.Task.{Task}
+use Rattle.bpf_command.specs.declared.commands.explain.Task.TheVariants.{Search, Harden}
 
 -- the status of an answer of which this holds
 abbrev pub Answers : (Answer → Type 0) → ℕ → Type 0
@@ -46,13 +55,40 @@ SoughtSays least most p (NotCertified r) = (c : CertificateView) × IsProposal l
 SoughtSays least most p (NotProposed e) = infer_slot e < slots p.list
 SoughtSays least most p answer = ⊥
 
--- the image is judged as by `list`, the text as by `asm`, the certificate as by `check`, and what is inferred as by both
+-- the runs for which a program is hardened, where so many of the lowest bytes of each frame are left to r10
+abbrev pub runs_for : (length : ℕ) → (padded : Bool) → (turns untouched : ℕ) → Bounds
+runs_for length padded turns untouched = record { length = min length max_context; padded = padded; turns = turns; untouched = untouched }
+
+-- The new program keeps the meaning of the old one, and the certificate is for contexts of this length.
+pub record IsHardened (length : ℕ) (padded : Bool) (turns : ℕ) (old new : Instructions) (c : CertificateView) : Type 0 where
+  pub untouched : ℕ
+  pub keeps : KeepsMeaning old new (runs_for length padded turns untouched)
+  pub least : c.least ≡ min length max_context
+  pub most : c.most ≡ min length max_context
+
+-- What is said of a program that was to be hardened: what was made keeps its meaning, and its certificate certifies it, or doesn't; or none was
+-- made; or notes don't show that it keeps the meaning.
+abbrev pub HardenedSays : (length : ℕ) → (padded : Bool) → (turns : ℕ) → Instructions → Answer → Type 0
+HardenedSays length padded turns p Written = (made : Instructions) × (c : CertificateView) × IsHardened length padded turns p made c × IsCertifiedBy made c
+HardenedSays length padded turns p (NotCertified r) =
+    (made : Instructions) × (c : CertificateView) × IsHardened length padded turns p made c × IsLeastFlaw made c (refusal_slot r) (refusal_number r)
+HardenedSays length padded turns p (NotHardened e) = harden_slot e < slots p.list
+HardenedSays length padded turns p (NotShown m) = (made : Instructions) × (notes : List (Option Place)) × IsMismatch p made notes (runs_for length padded turns 0) m
+HardenedSays length padded turns p answer = ⊥
+
+-- what is said of a program for which something was made
+abbrev pub TaskSays : Task → Instructions → Answer → Type 0
+TaskSays (Search asked) = SoughtSays asked.wanted.least asked.wanted.most
+TaskSays (Harden asked) = HardenedSays asked.length asked.padded asked.turns
+
+-- the image is judged as by `list`, the text as by `asm`, the certificate as by `check`, and what is inferred or hardened as by both
 abbrev pub ExplainSays : {S : Type 0} → Opening S → Order → S → List ℕ → Subject → S → ℕ → Type 0
 ExplainSays o order old input Image new = Answers (ImageSays o order old input new (ListSays None))
 ExplainSays o order old input Text new = Answers (TextSays o old input new)
 ExplainSays o order old input (Certified certificate) new = Answers (LoadedSays o order old input certificate.now new (λ bytes. YesSays false))
 ExplainSays o order old input (Slot certificate slot) new = Answers (LoadedSays o order old input certificate.now new (λ bytes. YesSays false))
 ExplainSays o order old input (Inferred least most deep aspect) new = Answers (ImageSays o order old input new (SoughtSays least most))
+ExplainSays o order old input (Hardened length padded aspect) new = Answers (ImageSays o order old input new (HardenedSays length padded usual_turns))
 ExplainSays o order old input (Graph certificate) new = Answers (LoadedSays o order old input certificate.now new (λ bytes. YesSays false))
 ExplainSays o order old input GraphAlone new = Answers (ImageSays o order old input new (ListSays None))
 ExplainSays o order old input (Misfit clash) new = λ status. ⊥
@@ -63,6 +99,7 @@ ExplainFails o order old input Text new = ReadableFails o old input new
 ExplainFails o order old input (Certified certificate) new = LoadedFails o order old input certificate.now new
 ExplainFails o order old input (Slot certificate slot) new = LoadedFails o order old input certificate.now new
 ExplainFails o order old input (Inferred least most deep aspect) new = ImageFails o old input new
+ExplainFails o order old input (Hardened length padded aspect) new = ImageFails o old input new
 ExplainFails o order old input (Graph certificate) new = LoadedFails o order old input certificate.now new
 ExplainFails o order old input GraphAlone new = ImageFails o old input new
 ExplainFails o order old input (Misfit clash) new = λ failure. (failure ≡ NotTogether) × (new ≡ old)

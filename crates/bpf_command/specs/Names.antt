@@ -2,7 +2,7 @@
 use Rattle.std.specs.Prelude.{ℕ, List, [], ◌∷◌, Option, Some, None}
 use Rattle.std.specs.Borrow.{Bor}
 use Rattle.bpf_request.specs.declared.subject.Subject.{Subject}
-use Rattle.bpf_request.specs.declared.subject.Subject.TheVariants.{Image, Text, Certified, Slot, Inferred, Graph, GraphAlone, Misfit}
+use Rattle.bpf_request.specs.declared.subject.Subject.TheVariants.{Image, Text, Certified, Slot, Inferred, Hardened, Graph, GraphAlone, Misfit}
 
 -- what is explained
 abbrev pub names_explained : List ℕ → Subject → List (List ℕ)
@@ -11,6 +11,7 @@ names_explained input Text = input ∷ []
 names_explained input (Certified certificate) = input ∷ certificate.now ∷ []
 names_explained input (Slot certificate slot) = input ∷ certificate.now ∷ []
 names_explained input (Inferred least most deep aspect) = input ∷ []
+names_explained input (Hardened length padded aspect) = input ∷ []
 names_explained input (Graph certificate) = input ∷ certificate.now ∷ []
 names_explained input GraphAlone = input ∷ []
 names_explained input (Misfit clash) = []

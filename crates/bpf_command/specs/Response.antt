@@ -30,7 +30,7 @@ use Rattle.bpf_request.specs.declared.words.Request.TheVariants.{Groups, Asm, Li
 use Rattle.bpf_request.specs.declared.subject.Aspect.{Aspect}
 use Rattle.bpf_request.specs.declared.subject.Aspect.TheVariants.{Listing, Slot as OneSlot, Graph as Drawn}
 use Rattle.bpf_request.specs.declared.subject.Subject.{Subject}
-use Rattle.bpf_request.specs.declared.subject.Subject.TheVariants.{Image, Text as TextAlone, Certified, Slot, Inferred, Graph, GraphAlone, Misfit}
+use Rattle.bpf_request.specs.declared.subject.Subject.TheVariants.{Image, Text as TextAlone, Certified, Slot, Inferred, Hardened, Graph, GraphAlone, Misfit}
 use Rattle.bpf_answers.specs.declared.failure.Failure.{Failure}
 use Rattle.bpf_answers.specs.declared.failure.Failure.TheVariants.{NoMemory, MostBelowLeast, InputTwice, NotTogether}
 
@@ -99,6 +99,7 @@ conflict_with input lines TextAlone = misplaced lines
 conflict_with input lines (Certified certificate) = thrice input certificate.now (name_given lines)
 conflict_with input lines (Slot certificate slot) = thrice input certificate.now (name_given lines)
 conflict_with input lines (Inferred least most deep aspect) = option_or (out_of_order least most) (option_or (misplaced_in lines aspect) (twice input (name_given lines)))
+conflict_with input lines (Hardened length padded aspect) = option_or (misplaced_in lines aspect) (twice input (name_given lines))
 conflict_with input lines (Graph certificate) = option_or (misplaced lines) (twice input certificate.now)
 conflict_with input lines GraphAlone = misplaced lines
 conflict_with input lines (Misfit clash) = Some NotTogether

@@ -10,12 +10,12 @@ use crate::aside::Terminal;
 use crate::shown::Line;
 use bpf_answers::{ContextError, Failure};
 use bpf_explain::may_be_found;
+use bpf_explain_harden::Unshown;
 use bpf_follows::Mismatch;
 use bpf_follows_law::{Bounds, Place};
 use bpf_harden::HardenError;
 use bpf_infer::{Condition, InferError, Wanted};
-use bpf_insn::{MAX_CONTEXT, Order, Program};
-use bpf_packets::HEAD_BYTES;
+use bpf_insn::{Order, Program};
 use bpf_request::{Clash, Contexts, Hardening, Request, Subject};
 use std::alloc::{AllocError, Global};
 use std::fmt::{self, Display};
@@ -87,12 +87,9 @@ pub(crate) struct Sought<'a> {
     pub order: Order,
 }
 
-/// The command that explains the search, or an instruction at a slot with what the search knows there.
+/// The command that explains the search.
 #[derive(Clone, Copy)]
-struct Explaining<'a> {
-    sought: Sought<'a>,
-    slot: Option<u32>,
-}
+struct Explaining<'a>(Sought<'a>);
 
 impl<'a> Display for Explaining<'a> {
     fn fmt<W: fmt::Write>(&self, f: &mut fmt::Formatter<W>) -> fmt::Result {
@@ -100,7 +97,7 @@ impl<'a> Display for Explaining<'a> {
             input,
             wanted,
             order,
-        } = self.sought;
+        } = self.0;
         let Wanted { least, most, .. } = wanted;
         let order = order_word(order);
         write!(f, "`bpf explain {order}{input} --infer {least}")?;
@@ -109,9 +106,6 @@ impl<'a> Display for Explaining<'a> {
         }
         if wanted.deep {
             f.write_str(" --deep")?;
-        }
-        if let Some(slot) = self.slot {
-            write!(f, " --slot {slot}")?;
         }
         f.write_str("`")
     }
@@ -146,7 +140,7 @@ pub(crate) fn after_search<H: Terminal>(
     }
     let Sought { input, wanted, .. } = sought;
     let Wanted { least, most, deep } = wanted;
-    let explaining = Explaining { sought, slot: None };
+    let explaining = Explaining(sought);
     let order = order_word(sought.order);
     let may_deepen = !deep && may_be_found(program, error);
     let may_harden = least == most && may_be_hardened(error);
@@ -166,37 +160,37 @@ pub(crate) fn after_search<H: Terminal>(
 
 // ---- a refusal of hardening
 
-/// The command that shows an instruction of the program that was to be hardened: in blocks it has packets as its contexts.
-fn showing<'a>(asked: Hardening<'a>, slot: u32) -> Explaining<'a> {
-    let most = asked.length.min(MAX_CONTEXT as u32);
-    let (least, most) = if asked.padded {
-        (0, most.saturating_sub(HEAD_BYTES))
-    } else {
-        (most, most)
-    };
-    let wanted = Wanted {
-        least,
-        most,
-        deep: true,
-    };
-    let sought = Sought {
-        input: asked.input,
-        wanted,
-        order: asked.order,
-    };
-    Explaining {
-        sought,
-        slot: Some(slot),
-    }
+/// Names the command that tells why a program isn't hardened.
+fn tell_hardening<H: Terminal>(aside: &H, asked: Hardening<'_>) {
+    let Hardening {
+        input,
+        length,
+        padded,
+        order,
+        ..
+    } = asked;
+    let order = order_word(order);
+    let padded = if padded { " --padded" } else { "" };
+    tell!(
+        aside,
+        "`bpf explain {order}{input} --harden {length}{padded}` tells why"
+    )
 }
 
-/// Names the command that shows the instruction for which a program isn't hardened.
+/// Names the command that tells why a program isn't hardened, but for want of memory.
 pub(crate) fn after_hardening<H: Terminal>(aside: &H, asked: Hardening<'_>, error: HardenError) {
     if let HardenError::Memory = error {
         return;
     }
-    let showing = showing(asked, error.slot());
-    tell!(aside, "{showing} shows the instruction")
+    tell_hardening(aside, asked);
+}
+
+/// The same where what comes out isn't shown to keep the meaning. Of bytes that were asked for no command tells it: here is the sentence.
+pub(crate) fn after_unshown<H: Terminal>(aside: &H, asked: Hardening<'_>, mismatch: Mismatch) {
+    match asked.untouched {
+        Some(_bytes) => tell_line(aside, Unshown(mismatch)),
+        None => tell_hardening(aside, asked),
+    }
 }
 
 // ---- what a hardened program is shown to keep
@@ -251,29 +245,24 @@ pub(crate) fn after_mismatch<H: Terminal>(aside: &H, judged: Judged<'_>, mismatc
     )
 }
 
-/// Tells what fails of the notes of a program that isn't written for that, and names the command that shows where.
-pub(crate) fn after_unshown<H: Terminal>(aside: &H, asked: Hardening<'_>, mismatch: Mismatch) {
-    let (number, showing) = (mismatch.number(), showing(asked, mismatch.slot()));
-    tell!(
-        aside,
-        "M{number} of its notes; {showing} shows the instruction"
-    )
-}
-
 // ---- failures
 
 /// Which words of `explain` don't go together.
 fn clash_text(clash: Clash) -> &'static str {
     match clash {
         Clash::CertificateInfer => "CERT and --infer: one of the two",
+        Clash::CertificateHarden => "CERT and --harden: one of the two",
+        Clash::InferHarden => "--infer and --harden: one of the two",
         Clash::TextCertificate => "--text goes with IN alone, not with CERT",
         Clash::TextInfer => "--text goes with IN alone, not with --infer",
+        Clash::TextHarden => "--text goes with IN alone, not with --harden",
         Clash::TextSlot => "--text goes with IN alone, not with --slot",
         Clash::TextDot => "--text goes with IN alone, not with --dot",
         Clash::SlotDot => "--slot and --dot: one of the two",
-        Clash::SlotAlone => "--slot goes with CERT or --infer",
+        Clash::SlotAlone => "--slot goes with CERT, --infer or --harden",
         Clash::MostAlone => "--most goes with --infer",
         Clash::DeepAlone => "--deep goes with --infer",
+        Clash::PaddedAlone => "--padded goes with --harden",
     }
 }
 
@@ -285,7 +274,7 @@ fn misfit_text(request: Request<'_>) -> Option<&'static str> {
             ..
         } => Some(clash_text(clash)),
         Request::Explain { lines: Some(_), .. } => Some(
-            "--lines goes with CERT or --infer, and not with --dot",
+            "--lines goes with CERT, --infer or --harden, and not with --dot",
         ),
         Request::Certify(_) => Some(
             "OUT, CERT, --notes and --changes lead to files of their own; CERT, --notes and --changes not to IN, and none of them to --lines",

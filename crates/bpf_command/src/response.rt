@@ -170,6 +170,9 @@ fn conflict_with(input: &str, lines: Option<&str>, subject: Subject<'_>) -> Opti
             input,
             name_given(lines),
         ))),
+        Subject::Hardened { aspect, .. } => {
+            misplaced_in(lines, aspect).or(twice(input, name_given(lines)))
+        }
         Subject::Graph(certificate) => misplaced(lines).or(twice(input, certificate)),
         Subject::Misfit(_) => Some(Failure::NotTogether),
     }

@@ -1,18 +1,16 @@
 //! Why an image isn't certified, in a sentence: on standard error, whether or not people read there.
 
+use crate::advice::{after_hardening, after_unshown};
 use crate::aside::Aside;
 use crate::shown::Line;
-use bpf_certify::{CertifyError, MOST_BOUND, Mismatch};
+use bpf_certify::{CertifyError, MOST_BOUND};
 use bpf_check::Refusal;
+use bpf_explain_harden::Unshown;
 use bpf_explain_program::source_at;
-use bpf_follows_notes::mismatch_text;
 use bpf_insn::DecodeError;
 use bpf_request::Certifying;
 use std::fmt::{self, Display};
 use std::io::Write;
-
-/// The number of the mismatch of an instruction that reads what may be something else, as where pointers are put in order.
-const READS_OTHER: u8 = 5;
 
 /// What was asked for, and the table of the lines of the program's source, which may be empty.
 #[derive(Clone, Copy)]
@@ -30,25 +28,6 @@ pub(crate) fn tell_sentence<H: Aside, D: Display + Drop>(aside: &H, sentence: D,
         let _ = write!(Line::new(&mut stream), "; from {source}");
     }
     let _ = write!(stream, "\n");
-}
-
-/// What isn't shown of a hardened program.
-#[derive(Clone, Copy)]
-struct Unshown(Mismatch);
-
-impl Display for Unshown {
-    fn fmt<W: fmt::Write>(&self, f: &mut fmt::Formatter<W>) -> fmt::Result {
-        let (number, slot) = (self.0.number(), self.0.slot());
-        let text = mismatch_text(u32::from(number)).unwrap_or("its notes fail");
-        write!(
-            f,
-            "at slot {slot}: the hardened program isn't shown to keep the meaning: M{number}: {text}"
-        )?;
-        if number == READS_OTHER {
-            f.write_str("; where it puts pointers in order, compare offsets, not pointers")?;
-        }
-        Ok(())
-    }
 }
 
 /// By how much a bound is too great, and what lowers it.
@@ -100,10 +79,12 @@ pub(crate) fn tell_refusal<H: Aside>(aside: &H, source: Source<'_, '_>, error: C
     match error {
         CertifyError::Unhardened(error) => {
             tell_sentence(aside, error, source_at(lines, error.slot()));
+            after_hardening(aside, asked.hardening(), error);
         }
         CertifyError::Unshown(mismatch) => {
             let line = source_at(lines, mismatch.slot());
             tell_sentence(aside, Unshown(mismatch), line);
+            after_unshown(aside, asked.hardening(), mismatch);
         }
         CertifyError::TooDear { turns, bound } => {
             let dear = Dear {

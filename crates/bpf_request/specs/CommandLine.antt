@@ -1,5 +1,5 @@
 -- What is wrong with the words of a command line, or what they ask for.
-use Rattle.std.specs.Prelude.{◌≡◌, ◌≢◌, ℕ, Bool, List, [], Option, Some, None, is_some, is_none, ◌&&◌, ◌||◌, option_map, unwrap_or, codes, true, false}
+use Rattle.std.specs.Prelude.{◌≡◌, ◌≢◌, ℕ, Bool, List, [], Option, Some, None, is_some, ◌&&◌, ◌||◌, option_map, unwrap_or, codes, true, false}
 use Rattle.std.specs.Str.Parse.{ParsesUnsigned}
 use Rattle.std.specs.declared.num.ParseIntError.{ParseIntError}
 use Rattle.clap.specs.Words.{Kinds, ReadsOne, Row, Text, fault_of, first_of, one_of}
@@ -14,12 +14,9 @@ use Rattle.bpf_request.specs.declared.following.Following.{Following}
 use Rattle.bpf_request.specs.declared.hardening.Hardening.{Hardening}
 use Rattle.bpf_request.specs.declared.words.Request.{Request}
 use Rattle.bpf_request.specs.declared.words.Request.TheVariants.{Groups, Asm, List as ListOf, Run, Check, RunChecked, Infer, Harden, Certify, Convert, Follows, Migrate, Explain}
-use Rattle.bpf_request.specs.declared.subject.Aspect.{Aspect}
-use Rattle.bpf_request.specs.declared.subject.Aspect.TheVariants.{Listing, Slot as OneSlot, Graph as Drawn}
-use Rattle.bpf_request.specs.declared.subject.Clash.{Clash}
-use Rattle.bpf_request.specs.declared.subject.Clash.TheVariants.{CertificateInfer, TextCertificate, TextInfer, TextSlot, TextDot, SlotDot, SlotAlone, MostAlone, DeepAlone}
 use Rattle.bpf_request.specs.declared.subject.Subject.{Subject}
-use Rattle.bpf_request.specs.declared.subject.Subject.TheVariants.{Image, Text as TextAlone, Certified, Slot, Inferred, Graph, GraphAlone, Misfit}
+use Rattle.bpf_request.specs.declared.subject.Told.{Told}
+use Rattle.bpf_request.specs.Explaining.{GivesSubject}
 
 -- the kinds of what is wrong with the words, by the first step of the parse that fails; none of words that are taken
 abbrev pub faults_in : List Text → Kinds
@@ -75,57 +72,14 @@ name_of (Lines name) = name.now
 name_of Nothing = []
 name_of Several = []
 
--- At most one of CERT, `--infer` and `--text` is given, `--most` and `--deep` with `--infer` alone, `--slot` with CERT or `--infer`, and `--dot` with
--- neither `--text` nor `--slot`: which of this isn't so.
-abbrev pub Clashes : Option Text → (least greatest slot : Option ℕ) → (text dot deep : Bool) → Clash → Type 0
-Clashes certificate least _ _ _ _ _ CertificateInfer = (is_some certificate && is_some least) ≡ true
-Clashes certificate _ _ _ text _ _ TextCertificate = (text && is_some certificate) ≡ true
-Clashes _ least _ _ text _ _ TextInfer = (text && is_some least) ≡ true
-Clashes _ _ _ slot text _ _ TextSlot = (text && is_some slot) ≡ true
-Clashes _ _ _ _ text dot _ TextDot = (text && dot) ≡ true
-Clashes _ _ _ slot _ dot _ SlotDot = (is_some slot && dot) ≡ true
-Clashes certificate least _ slot _ _ _ SlotAlone = (is_some slot && is_none certificate && is_none least) ≡ true
-Clashes _ least greatest _ _ _ _ MostAlone = (is_some greatest && is_none least) ≡ true
-Clashes _ least _ _ _ _ deep DeepAlone = (deep && is_none least) ≡ true
-
--- by the slot, and whether a graph is wanted
-abbrev pub GivesAspect : (slot : Option ℕ) → (dot : Bool) → Aspect → Type 0
-GivesAspect slot dot Listing = (slot ≡ None) × (dot ≡ false)
-GivesAspect slot dot (OneSlot s) = (slot ≡ Some s) × (dot ≡ false)
-GivesAspect slot dot Drawn = (slot ≡ None) × (dot ≡ true)
-
--- by the word for a certificate, the lengths, the slot, whether it is a text, whether a graph is wanted, and whether to search deeply
-abbrev pub GivesSubject : Option Text → (least most slot : Option ℕ) → (text dot deep : Bool) → Subject → Type 0
-GivesSubject certificate least most slot text dot deep Image =
-    (certificate ≡ None) × (least ≡ None) × (most ≡ None) × (slot ≡ None)
-    × (text ≡ false) × (dot ≡ false) × (deep ≡ false)
-GivesSubject certificate least most slot text dot deep TextAlone =
-    (certificate ≡ None) × (least ≡ None) × (most ≡ None) × (slot ≡ None)
-    × (text ≡ true) × (dot ≡ false) × (deep ≡ false)
-GivesSubject certificate least most slot text dot deep (Certified c) =
-    (certificate ≡ Some c.now) × (least ≡ None) × (most ≡ None) × (slot ≡ None)
-    × (text ≡ false) × (dot ≡ false) × (deep ≡ false)
-GivesSubject certificate least most slot text dot deep (Slot c s) =
-    (certificate ≡ Some c.now) × (least ≡ None) × (most ≡ None) × (slot ≡ Some s)
-    × (text ≡ false) × (dot ≡ false) × (deep ≡ false)
-GivesSubject certificate least most slot text dot deep (Inferred l m d aspect) =
-    (certificate ≡ None) × (least ≡ Some l) × (m ≡ unwrap_or most l) × GivesAspect slot dot aspect
-    × (text ≡ false) × (deep ≡ d)
-GivesSubject certificate least most slot text dot deep (Graph c) =
-    (certificate ≡ Some c.now) × (least ≡ None) × (most ≡ None) × (slot ≡ None)
-    × (text ≡ false) × (dot ≡ true) × (deep ≡ false)
-GivesSubject certificate least most slot text dot deep GraphAlone =
-    (certificate ≡ None) × (least ≡ None) × (most ≡ None) × (slot ≡ None)
-    × (text ≡ false) × (dot ≡ true) × (deep ≡ false)
-GivesSubject certificate least most slot text dot deep (Misfit clash) = Clashes certificate least most slot text dot deep clash
-
--- what CERT, `--infer`, `--most`, `--slot`, `--text`, `--dot` and `--deep` want explained
+-- what CERT, `--infer`, `--most`, `--deep`, `--harden`, `--padded`, `--slot`, `--text` and `--dot` want explained
 abbrev pub IsSubject : List Row → Subject → Type 0
 IsSubject rows subject =
-    (least : Option ℕ) × (most : Option ℕ) × (slot : Option ℕ) × (text : Bool) × (dot : Bool) × (deep : Bool)
-    × IsNumber (one_of (codes "infer") rows) least × IsNumber (one_of (codes "most") rows) most
-    × IsNumber (one_of (codes "slot") rows) slot × IsFlag (one_of (codes "text") rows) text × IsFlag (one_of (codes "dot") rows) dot × IsFlag (one_of (codes "deep") rows) deep
-    × GivesSubject (first_of (codes "CERT") rows) least most slot text dot deep subject
+    (told : Told) × (option_map (λ s. s.now) told.certificate ≡ first_of (codes "CERT") rows)
+    × IsNumber (one_of (codes "infer") rows) told.infer × IsNumber (one_of (codes "most") rows) told.most × IsFlag (one_of (codes "deep") rows) told.deep
+    × IsNumber (one_of (codes "harden") rows) told.harden × IsFlag (one_of (codes "padded") rows) told.padded
+    × IsNumber (one_of (codes "slot") rows) told.slot × IsFlag (one_of (codes "text") rows) told.text × IsFlag (one_of (codes "dot") rows) told.dot
+    × GivesSubject told subject
 
 -- how often a loop that gets a counter may turn, where nothing else is said
 abbrev pub usual_turns : ℕ

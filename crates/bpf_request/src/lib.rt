@@ -14,5 +14,5 @@ pub use contexts::Contexts;
 pub use converting::Converting;
 pub use following::Following;
 pub use hardening::Hardening;
-pub use subject::{Aspect, Clash, Subject};
-pub use words::{Request, request_of};
+pub use subject::{Aspect, Clash, Subject, Told};
+pub use words::{Request, USUAL_TURNS, request_of};

@@ -1,7 +1,7 @@
 //! What a command line wants explained.
 
-ghost use Rattle.std.specs.Prelude.{◌≡◌, ◌&&◌, IfSome, IfNone, Some, None, is_some, option_map, true, false};
-ghost use Rattle.bpf_request.specs.CommandLine.{GivesAspect, GivesSubject};
+ghost use Rattle.std.specs.Prelude.{◌≡◌, ◌&&◌, IfSome, IfNone, Some, None, is_some, true, false};
+ghost use Rattle.bpf_request.specs.Explaining.{GivesAspect, GivesSubject, IsAlone};
 
 /// What is shown of a program with what a search found for it.
 #[derive(Clone, Copy)]
@@ -19,22 +19,51 @@ pub enum Aspect {
 pub enum Clash {
     /// CERT and `--infer`.
     CertificateInfer,
+    /// CERT and `--harden`.
+    CertificateHarden,
+    /// `--infer` and `--harden`.
+    InferHarden,
     /// `--text` and CERT.
     TextCertificate,
     /// `--text` and `--infer`.
     TextInfer,
+    /// `--text` and `--harden`.
+    TextHarden,
     /// `--text` and `--slot`.
     TextSlot,
     /// `--text` and `--dot`.
     TextDot,
     /// `--slot` and `--dot`.
     SlotDot,
-    /// `--slot` with neither CERT nor `--infer`.
+    /// `--slot` with none of CERT, `--infer` and `--harden`.
     SlotAlone,
     /// `--most` without `--infer`.
     MostAlone,
     /// `--deep` without `--infer`.
     DeepAlone,
+    /// `--padded` without `--harden`.
+    PaddedAlone,
+}
+
+/// The words that say what is to be explained.
+#[derive(Clone, Copy)]
+pub struct Told<'a> {
+    /// The name of a certificate.
+    pub certificate: Option<&'a str>,
+    /// The least and the greatest length of the contexts of a search.
+    pub infer: Option<u32>,
+    pub most: Option<u32>,
+    /// Whether it is the deep search.
+    pub deep: bool,
+    /// The length of the contexts of a hardening.
+    pub harden: Option<u32>,
+    /// Whether they are blocks.
+    pub padded: bool,
+    pub slot: Option<u32>,
+    /// Whether the input is a text.
+    pub text: bool,
+    /// Whether a graph is wanted.
+    pub dot: bool,
 }
 
 /// What is to be explained of a program.
@@ -59,6 +88,12 @@ pub enum Subject<'a> {
         deep: bool,
         aspect: Aspect,
     },
+    /// What hardening makes for contexts of a length, and what is shown of it.
+    Hardened {
+        length: u32,
+        padded: bool,
+        aspect: Aspect,
+    },
     /// The program's control-flow graph with what the certificate at a name says.
     Graph(&'a str),
     /// Its control-flow graph by itself.
@@ -81,35 +116,66 @@ fn aspect_of(slot: Option<u32>, dot: bool) -> Option<Aspect>
 }
 
 /// What a search is to find, by the other words that are given.
-fn sought_of<'a>(
-    certificate: Option<&'a str>,
-    least: u32,
-    most: Option<u32>,
-    slot: Option<u32>,
-    text: bool,
-    dot: bool,
-    deep: bool,
-) -> Subject<'a>
-    ensures { GivesSubject (option_map (λ s. s.now) certificate.entry) (Some least) most slot text dot deep result }
+fn sought_of<'a>(told: Told<'a>, least: u32) -> Subject<'a>
+    requires infer { told.infer ≡ Some least }
+    requires alone { told.harden ≡ None }
+    ensures { GivesSubject told.entry result }
 {
-    match (text, certificate, aspect_of(slot, dot)) {
-        (false, None, Some(aspect)) => Subject::Inferred {
+    let aspect = aspect_of(told.slot, told.dot);
+    match (told.text, told.certificate, told.padded, aspect) {
+        (false, None, false, Some(aspect)) => Subject::Inferred {
             least,
-            most: most.unwrap_or(least),
-            deep,
+            most: told.most.unwrap_or(least),
+            deep: told.deep,
             aspect,
         },
-        (true, _, _) => Subject::Misfit(Clash::TextInfer),
-        (false, Some(_), _) => Subject::Misfit(Clash::CertificateInfer),
+        (true, _, _, _) => Subject::Misfit(Clash::TextInfer),
+        (false, Some(_), _, _) => Subject::Misfit(Clash::CertificateInfer),
+        (false, None, true, _) => Subject::Misfit(Clash::PaddedAlone),
+        (false, None, false, None) => Subject::Misfit(Clash::SlotDot),
+    }
+}
+
+/// What hardening is to make, by the words beside those of a search.
+fn made_of<'a>(told: Told<'a>, length: u32) -> Subject<'a>
+    requires harden { told.harden ≡ Some length }
+    requires unsought { told.infer ≡ None }
+    requires unbounded { told.most ≡ None }
+    requires plain { told.deep ≡ false }
+    ensures { GivesSubject told.entry result }
+{
+    match (told.text, told.certificate, aspect_of(told.slot, told.dot)) {
+        (false, None, Some(aspect)) => Subject::Hardened {
+            length,
+            padded: told.padded,
+            aspect,
+        },
+        (true, _, _) => Subject::Misfit(Clash::TextHarden),
+        (false, Some(_), _) => Subject::Misfit(Clash::CertificateHarden),
         (false, None, None) => Subject::Misfit(Clash::SlotDot),
     }
 }
 
-/// Which graph is wanted, by the other words that are given.
-fn graph_of<'a>(certificate: Option<&'a str>, slot: Option<u32>, text: bool) -> Subject<'a>
-    ensures { GivesSubject (option_map (λ s. s.now) certificate.entry) None None slot text true false result }
+/// What hardening is to make, by the other words that are given.
+fn hardened_of<'a>(told: Told<'a>, length: u32) -> Subject<'a>
+    requires harden { told.harden ≡ Some length }
+    requires unsought { told.infer ≡ None }
+    ensures { GivesSubject told.entry result }
 {
-    match (text, certificate, slot) {
+    match (told.most, told.deep) {
+        (None, false) => made_of(told, length),
+        (Some(_), _) => Subject::Misfit(Clash::MostAlone),
+        (None, true) => Subject::Misfit(Clash::DeepAlone),
+    }
+}
+
+/// Which graph is wanted, by the other words that are given.
+fn graph_of<'a>(told: Told<'a>) -> Subject<'a>
+    requires alone { IsAlone told }
+    requires dot { told.dot ≡ true }
+    ensures { GivesSubject told.entry result }
+{
+    match (told.text, told.certificate, told.slot) {
         (false, None, None) => Subject::GraphAlone,
         (false, Some(certificate), None) => Subject::Graph(certificate),
         (true, _, _) => Subject::Misfit(Clash::TextDot),
@@ -118,10 +184,12 @@ fn graph_of<'a>(certificate: Option<&'a str>, slot: Option<u32>, text: bool) -> 
 }
 
 /// What is to be explained in words without a search, by the words that are given.
-fn told_of<'a>(certificate: Option<&'a str>, slot: Option<u32>, text: bool) -> Subject<'a>
-    ensures { GivesSubject (option_map (λ s. s.now) certificate.entry) None None slot text false false result }
+fn told_of<'a>(told: Told<'a>) -> Subject<'a>
+    requires alone { IsAlone told }
+    requires words { told.dot ≡ false }
+    ensures { GivesSubject told.entry result }
 {
-    match (text, certificate, slot) {
+    match (told.text, told.certificate, told.slot) {
         (false, None, None) => Subject::Image,
         (true, None, None) => Subject::Text,
         (false, Some(certificate), None) => Subject::Certified(certificate),
@@ -132,24 +200,29 @@ fn told_of<'a>(certificate: Option<&'a str>, slot: Option<u32>, text: bool) -> S
     }
 }
 
-/// What is to be explained, by the words that are given: the name of a certificate, the least and the greatest length of
-/// contexts, a slot, whether it is a text, whether a graph is wanted, and whether to search deeply.
-pub fn subject_of<'a>(
-    certificate: Option<&'a str>,
-    least: Option<u32>,
-    most: Option<u32>,
-    slot: Option<u32>,
-    text: bool,
-    dot: bool,
-    deep: bool,
-) -> Subject<'a>
-    ensures { GivesSubject (option_map (λ s. s.now) certificate.entry) least most slot text dot deep result }
+/// What is to be explained without a search or a hardening.
+fn plain_of<'a>(told: Told<'a>) -> Subject<'a>
+    requires unsought { told.infer ≡ None }
+    requires unhardened { told.harden ≡ None }
+    ensures { GivesSubject told.entry result }
 {
-    match (least, most, deep, dot) {
-        (Some(least), _, _, _) => sought_of(certificate, least, most, slot, text, dot, deep),
-        (None, None, false, true) => graph_of(certificate, slot, text),
-        (None, None, false, false) => told_of(certificate, slot, text),
-        (None, Some(_), _, _) => Subject::Misfit(Clash::MostAlone),
-        (None, None, true, _) => Subject::Misfit(Clash::DeepAlone),
+    match (told.most, told.deep, told.padded, told.dot) {
+        (None, false, false, true) => graph_of(told),
+        (None, false, false, false) => told_of(told),
+        (Some(_), _, _, _) => Subject::Misfit(Clash::MostAlone),
+        (None, true, _, _) => Subject::Misfit(Clash::DeepAlone),
+        (None, false, true, _) => Subject::Misfit(Clash::PaddedAlone),
+    }
+}
+
+/// What is to be explained, by the words that are given.
+pub fn subject_of<'a>(told: Told<'a>) -> Subject<'a>
+    ensures { GivesSubject told.entry result }
+{
+    match (told.infer, told.harden) {
+        (None, None) => plain_of(told),
+        (Some(least), None) => sought_of(told, least),
+        (None, Some(length)) => hardened_of(told, length),
+        (Some(_), Some(_)) => Subject::Misfit(Clash::InferHarden),
     }
 }

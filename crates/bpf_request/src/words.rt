@@ -11,14 +11,14 @@ use crate::contexts::Contexts;
 use crate::converting::Converting;
 use crate::following::Following;
 use crate::hardening::Hardening;
-use crate::subject::{Subject, subject_of};
+use crate::subject::{Subject, Told, subject_of};
 use bpf_insn::Order;
 use bpf_words::command;
 use clap::{ArgMatches, Error};
 use std::alloc::Global;
 
 /// How often a loop that gets a counter may turn in one call of its function, where nothing is said.
-const USUAL_TURNS: u32 = 65_536;
+pub const USUAL_TURNS: u32 = 65_536;
 
 /// What a command line asks for. Images are of the byte order.
 #[derive(Clone, Copy)]
@@ -177,14 +177,17 @@ fn contexts_of<'a>(matches: &ArgMatches<'a>) -> Contexts<'a>
 fn subject_in<'a>(matches: &ArgMatches<'a>) -> Subject<'a>
     ensures { IsSubject (rows_of (found_of matches.now)) result }
 {
-    let certificate = matches.get_str("CERT");
-    let least = number_if(matches, "infer");
-    let most = number_if(matches, "most");
-    let slot = number_if(matches, "slot");
-    let text = has_flag(matches, "text");
-    let dot = has_flag(matches, "dot");
-    let deep = has_flag(matches, "deep");
-    subject_of(certificate, least, most, slot, text, dot, deep)
+    subject_of(Told {
+        certificate: word_if(matches, "CERT"),
+        infer: number_if(matches, "infer"),
+        most: number_if(matches, "most"),
+        deep: has_flag(matches, "deep"),
+        harden: number_if(matches, "harden"),
+        padded: has_flag(matches, "padded"),
+        slot: number_if(matches, "slot"),
+        text: has_flag(matches, "text"),
+        dot: has_flag(matches, "dot"),
+    })
 }
 
 /// What is to be hardened.

@@ -146,6 +146,10 @@ migrate = with_rule (with_rule (new_app (codes "migrate")) (place (codes "CERT")
 abbrev pub inferred : Rule
 inferred = number (codes "infer") (pos 0) (pos max_context)
 
+-- the option `--harden`, with such a number
+abbrev pub hardened : Rule
+hardened = number (codes "harden") (pos 0) (pos max_context)
+
 -- the option `--slot`, with a number up to the greatest slot
 abbrev pub one_slot : Rule
 one_slot = number (codes "slot") (pos 0) (pos greatest_slot)
@@ -154,7 +158,9 @@ abbrev pub explain_places : App
 explain_places = with_rule (with_rule (new_app (codes "explain")) (place (codes "IN"))) (new_rule (codes "CERT"))
 
 abbrev pub explain : App
-explain = with_rule (with_rule (with_rule (with_rule (with_rule (with_rule (with_rule (with_rule explain_places one_slot) inferred) most) (flag (codes "deep"))) (flag (codes "text"))) (flag (codes "dot"))) (option (codes "lines"))) big
+explain =
+    with_rule (with_rule (with_rule (with_rule (with_rule (with_rule (with_rule (with_rule (with_rule (with_rule explain_places one_slot) inferred) most)
+    (flag (codes "deep"))) hardened) (flag (codes "padded"))) (flag (codes "text"))) (flag (codes "dot"))) (option (codes "lines"))) big
 
 -- `bpf` with the commands that judge, run and propose
 abbrev pub with_proposals : App

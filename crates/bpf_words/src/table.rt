@@ -285,6 +285,17 @@ pub const LAST: [Entry; 5] = [
                 "deep",
                 "with --infer: searches longer, and finds more certificates",
             ),
+            Number(
+                "harden",
+                "LEN",
+                0,
+                MAX_CONTEXT as i64,
+                "in place of CERT: what `harden` makes for contexts of LEN bytes, or why it refuses",
+            ),
+            Flag(
+                "padded",
+                "with --harden: contexts are blocks, as for `harden`",
+            ),
             Flag("text", "IN is a text of the assembly language"),
             Flag("dot", "the control-flow graph as DOT text"),
             LINES,

@@ -10,7 +10,7 @@ ghost use Rattle.bpf_check.specs.RefusalNumbers.{refusal_number, refusal_slot};
 ghost use Rattle.bpf_infer_error.specs.RefusalNumbers.{infer_slot};
 ghost use Rattle.bpf_command.specs.Names.{behind_lines, names_explained};
 ghost use Rattle.bpf_answers.specs.Loaded.{CertificateAt, CertificateFails, CertificateRefused, ImageFails, OpensFirst, ReadableFails, Tried};
-ghost use Rattle.bpf_command.specs.Explained.{Answers, ExplainFails, ExplainSays, ExplainWithFails, ExplainWithSays, JudgesOf, LinesAt, LinesFail, SoughtSays, TextSays};
+ghost use Rattle.bpf_command.specs.Explained.{Answers, ExplainFails, ExplainSays, ExplainWithFails, ExplainWithSays, HardenedSays, JudgesOf, LinesAt, LinesFail, SoughtSays, TaskSays, TextSays};
 ghost use Rattle.bpf_command_core.specs.Printed.{ImageSays, JudgedSays, ListSays, LoadedFails, LoadedSays, YesSays};
 ghost use Rattle.bpf_answers.specs.Told.{OutputFails};
 
@@ -24,10 +24,11 @@ use bpf_explain::{
     Search, Shown, explain, explain_search, is_table, write_alone, write_fault, write_program,
     write_refusal, write_text_refusal,
 };
+use bpf_explain_harden::{Hardening, explain_hardening};
 use bpf_infer::{Wanted, Watch};
 use bpf_insn::{Code, DecodeError, MAX_CONTEXT, Order, Program, ProgramView, decode};
 use bpf_places::{Keeping, Places};
-use bpf_request::{Aspect, Subject};
+use bpf_request::{Aspect, Subject, USUAL_TURNS};
 use bpf_text::{TextError, assemble};
 use std::alloc::Global;
 use std::io::{self, Write};
@@ -244,18 +245,68 @@ fn say_inferred<'a, W: Write, H: Watch>(
     }
 }
 
-/// Explains what a search finds for the image's program.
-fn explained_inferred<'a, P: Places, W: Write, H: Watch>(
+// ---- hardening
+
+/// Explains what hardening makes of a program, and answers the status.
+fn say_hardened<'a, W: Write, H: Watch>(
+    alloc: Global,
+    out: &mut W,
+    watch: &mut H,
+    program: &Program,
+    asked: Hardening<'_>,
+) -> Result<u8, Failure<'a>>
+    ensures ok { IfOk result (Answers (HardenedSays asked.entry.length asked.entry.padded asked.entry.turns program.now)) }
+    ensures err { IfErr result OutputFails }
+{
+    // The words' parser has seen that it is at most the greatest.
+    let length = asked.length.min(MAX_CONTEXT as u32);
+    let within = Hardening { length, ..asked };
+    match explain_hardening(alloc, program, within, watch, out) {
+        Ok(Ok((_made, refusal))) => Ok(status_by(refusal)),
+        Ok(Err(_why)) => Ok(REFUSED),
+        Err(_) => Err(Failure::CannotWrite("standard output")),
+    }
+}
+
+// ---- what is made for a program before it is explained
+
+/// What is made for a program before it is explained.
+#[derive(Clone, Copy)]
+pub enum Task<'t> {
+    /// A certificate.
+    Search(Search<'t>),
+    /// A hardened program.
+    Harden(Hardening<'t>),
+}
+
+/// Explains what is made for a program, and answers the status.
+fn say_made<'a, W: Write, H: Watch>(
+    alloc: Global,
+    out: &mut W,
+    watch: &mut H,
+    program: &Program,
+    task: Task<'_>,
+) -> Result<u8, Failure<'a>>
+    ensures ok { IfOk result (Answers (TaskSays task.entry program.now)) }
+    ensures err { IfErr result OutputFails }
+{
+    match task {
+        Task::Search(asked) => say_inferred(alloc, out, watch, program, asked),
+        Task::Harden(asked) => say_hardened(alloc, out, watch, program, asked),
+    }
+}
+
+/// Explains what is made for the image's program.
+fn explained_made<'a, P: Places, W: Write, H: Watch>(
     alloc: Global,
     places: &mut P,
     out: &mut W,
     watch: &mut H,
     input: &'a str,
-    asked: Search<'_>,
+    task: Task<'_>,
     order: Order,
 ) -> Result<u8, Failure<'a>>
-    ensures ok { IfOk result (Answers (ImageSays P.opens order places.old input.entry.now places.new
-        (SoughtSays asked.entry.wanted.least asked.entry.wanted.most))) }
+    ensures ok { IfOk result (Answers (ImageSays P.opens order places.old input.entry.now places.new (TaskSays task.entry))) }
     ensures err { IfErr result (ImageFails P.opens places.old input.entry.now places.new) }
     ensures opened { OpensFirst P.opens (input.entry.now ∷ []) places.old places.new }
 {
@@ -264,7 +315,7 @@ fn explained_inferred<'a, P: Places, W: Write, H: Watch>(
         Err(error) => return refuse_image(alloc, out, error),
     };
     match decode(alloc, &bytes, order) {
-        Ok(program) => say_inferred(alloc, out, watch, &program, asked),
+        Ok(program) => say_made(alloc, out, watch, &program, task),
         Err(DecodeError::Memory) => refuse_image(alloc, out, DecodeError::Memory),
         Err(error) => refused_image(out, &bytes, order, error),
     }
@@ -337,11 +388,24 @@ fn explained_subject<'a, P: Places, W: Write, H: Watch>(
             deep,
             aspect,
         } => {
-            let asked = Search {
+            let task = Task::Search(Search {
                 wanted: Wanted { least, most, deep },
                 shown: shown_of(aspect, lines),
-            };
-            explained_inferred(alloc, places, out, watch, input, asked, order)
+            });
+            explained_made(alloc, places, out, watch, input, task, order)
+        }
+        Subject::Hardened {
+            length,
+            padded,
+            aspect,
+        } => {
+            let task = Task::Harden(Hardening {
+                length,
+                padded,
+                turns: USUAL_TURNS,
+                shown: shown_of(aspect, lines),
+            });
+            explained_made(alloc, places, out, watch, input, task, order)
         }
         Subject::Misfit(_) => Err(Failure::NotTogether),
     }

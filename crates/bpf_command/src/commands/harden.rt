@@ -35,7 +35,7 @@ use std::io::Write;
 /// The number of the refusal of a hardened program that isn't shown to keep the meaning, behind those of hardening itself.
 pub(super) const NOT_SHOWN: u8 = 13;
 
-/// Prints why a program isn't hardened, and tells people how to see the instruction.
+/// Prints why a program isn't hardened, and tells people what explains it.
 fn refuse_hardening<'a, W: Write, H: Terminal>(
     alloc: Global,
     out: &mut W,
@@ -53,7 +53,7 @@ fn refuse_hardening<'a, W: Write, H: Terminal>(
     answer
 }
 
-/// Prints that a hardened program isn't shown to keep the meaning, and tells people what of its notes fails.
+/// Prints that a hardened program isn't shown to keep the meaning, and tells people what explains it.
 fn refuse_unshown<'a, W: Write, H: Terminal>(
     alloc: Global,
     out: &mut W,

@@ -1,0 +1,2 @@
+-- what is shown of a hardened program
+mod HardenedLemmas

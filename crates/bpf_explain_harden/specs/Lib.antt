@@ -1,0 +1,2 @@
+-- what comes of a hardening that is explained
+pub mod Hardened

@@ -1,0 +1,72 @@
+//! Why no hardened program comes out, in a sentence.
+
+use bpf_follows::Mismatch;
+use bpf_follows_notes::mismatch_text;
+use bpf_harden::HardenError;
+use std::fmt::{self, Display};
+
+/// The number of the mismatch of an instruction that reads what may be something else, as where pointers are put in order.
+const READS_OTHER: u8 = 5;
+
+/// The number of the refusal of a hardened program that isn't shown to keep the meaning.
+const NOT_SHOWN: u8 = 13;
+
+/// Why no hardened program comes out.
+#[derive(Clone, Copy)]
+pub enum Unhardened {
+    /// H1 to H12: none is made.
+    Refused(HardenError),
+    /// H13: the one that is made isn't shown to keep the meaning: this of its notes fails.
+    Unshown(Mismatch),
+}
+
+impl Unhardened {
+    /// The slot of the old program that is named; None where none is.
+    pub(crate) fn slot(&self) -> Option<u32> {
+        match self {
+            Unhardened::Refused(HardenError::ShortBlock | HardenError::Memory) => None,
+            Unhardened::Refused(error) => Some(error.slot()),
+            Unhardened::Unshown(mismatch) => Some(mismatch.slot()),
+        }
+    }
+}
+
+/// `no hardened program: H13 (M5) at slot 12`
+impl Display for Unhardened {
+    fn fmt<W: fmt::Write>(&self, f: &mut fmt::Formatter<W>) -> fmt::Result {
+        f.write_str("no hardened program: ")?;
+        match *self {
+            Unhardened::Unshown(mismatch) => {
+                let (number, slot) = (mismatch.number(), mismatch.slot());
+                write!(f, "H{NOT_SHOWN} (M{number}) at slot {slot}")
+            }
+            Unhardened::Refused(HardenError::Fault { slot, condition }) => {
+                let failed = condition.number();
+                write!(f, "H7 (C{failed}) at slot {slot}")
+            }
+            Unhardened::Refused(error) => {
+                let (number, slot) = (error.number(), error.slot());
+                write!(f, "H{number} at slot {slot}")
+            }
+        }
+    }
+}
+
+/// What isn't shown of a hardened program, in a sentence with its slot.
+#[derive(Clone, Copy)]
+pub struct Unshown(pub Mismatch);
+
+impl Display for Unshown {
+    fn fmt<W: fmt::Write>(&self, f: &mut fmt::Formatter<W>) -> fmt::Result {
+        let (number, slot) = (self.0.number(), self.0.slot());
+        let text = mismatch_text(u32::from(number)).unwrap_or("its notes fail");
+        write!(
+            f,
+            "at slot {slot}: the hardened program isn't shown to keep the meaning: M{number}: {text}"
+        )?;
+        if number == READS_OTHER {
+            f.write_str("; where it puts pointers in order, compare offsets, not pointers")?;
+        }
+        Ok(())
+    }
+}
