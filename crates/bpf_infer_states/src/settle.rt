@@ -9,7 +9,7 @@ use bpf_infer_base::{
     put, vacant,
 };
 use bpf_insn::Insn;
-use bpf_state::{Entries, State};
+use bpf_state::{Entries, Reach as Touched, State};
 use std::alloc::AllocError;
 
 /// How often a head's state is joined before bounds are moved on.
@@ -26,6 +26,21 @@ const NARROWINGS: u32 = 3;
 
 /// The most blocks of a function that are gone over before bounds are moved to extremes at once, 400 for each label and 2,000.
 const MOST_PATIENCE: usize = 2_000_000;
+
+/// How many slots of a frame are gone over in the time of one instruction.
+const SLOTS_AT_ONCE: usize = 6;
+
+/// The work of an access to a frame beside its instruction: each slot that it may touch is gone over.
+fn touch_work(insn: &Insn, state: &State) -> usize {
+    let Some(touched) = insn
+        .access()
+        .and_then(|access| Touched::of_access(access, state))
+    else {
+        return 0;
+    };
+    let (first, end) = touched.slots();
+    end.saturating_sub(first) / SLOTS_AT_ONCE
+}
 
 /// What a turn of a loop is for.
 #[derive(Clone, Copy)]
@@ -93,6 +108,7 @@ impl<'a> Visitor for Settler<'a> {
     type Stop = AllocError;
 
     fn before(&mut self, _slot: u32, insn: &Insn, state: &State) -> Result<(), AllocError> {
+        self.work = self.work.saturating_add(touch_work(insn, state));
         if !matches!(insn, Insn::JumpIf { .. }) {
             return Ok(());
         }
