@@ -1,16 +1,24 @@
 -- The status of what is explained, from what is said of the image, the text and the certificate.
-use Rattle.std.proofs.Common.{◌≡◌, ◌⊎◌, ℕ, Bool, List, Option, Some, None, IfSome, IfNone, false, Result, Ok, Err, IfOk, IfErr, refl, sym, subst, inl, inr, ◌∙◌}
+use Rattle.std.proofs.Common.{◌≡◌, ◌⊎◌, ℕ, Bool, List, Option, Some, None, IfSome, IfNone, false, Result, Ok, Err, IfOk, IfErr, refl, sym, subst, inl, inr, ◌∙◌, min}
 use Rattle.bpf_insn.specs.Instruction.{Instructions}
+use Rattle.bpf_insn.specs.Limits.{max_context}
 use Rattle.bpf_insn.specs.declared.order.Order.{Order}
 use Rattle.bpf_cert.specs.View.{CertificateView}
 use Rattle.bpf_safety.specs.Certified.{IsLeastFlaw}
 use Rattle.bpf_check.specs.CheckedProgram.{CheckedProgram, IsCertifiedBy}
 use Rattle.bpf_check.specs.RefusalNumbers.{refusal_number, refusal_slot}
 use Rattle.bpf_check.specs.declared.refusal.Refusal.{Refusal}
+use Rattle.bpf_follows_law.specs.Meaning.{KeepsMeaning}
+use Rattle.bpf_follows.specs.Mismatches.{IsMismatch}
+use Rattle.bpf_explain_harden.specs.Hardened.{IsMade, IsUnhardened}
+use Rattle.bpf_explain_harden.specs.declared.hardened.Hardening.{Hardening}
+use Rattle.bpf_explain_harden.specs.declared.hardened.Made.{Made}
+use Rattle.bpf_explain_harden.specs.declared.refusal.Unhardened.{Unhardened}
+use Rattle.bpf_explain_harden.specs.declared.refusal.Unhardened.TheVariants.{Refused, Unshown}
 use Rattle.bpf_places.specs.Opened.{Opening, Unreadable}
 use Rattle.bpf_answers.specs.Loaded.{LoadsImage, CertificateAt, TextAt, TextFails, Tried}
 use Rattle.bpf_answers.specs.Answer.{Answer, Says, status_of}
-use Rattle.bpf_answers.specs.Answer.Answer.{Yes, NoImage, NotCertified, Written}
+use Rattle.bpf_answers.specs.Answer.Answer.{Yes, NoImage, NotCertified, NotHardened, NotShown, Written}
 use Rattle.bpf_command_core.specs.Printed.{ImageSays, JudgedSays, LoadedSays, YesSays}
 use Rattle.bpf_command.specs.Inferred.{IsProposal}
 use Rattle.std.specs.Borrow.{Bor}
@@ -63,6 +71,22 @@ pub hardened_so : (length : ℕ) (padded : Bool) (turns : ℕ) (p made : Instruc
     → Answers (HardenedSays length padded turns p) status
 hardened_so length padded turns p made c status is (inl h) = (Written, h.0, (made, c, is, h.1))
 hardened_so length padded turns p made c status is (inr h) = (NotCertified (h.1).0, h.0, (made, c, is, (h.1).1))
+
+-- what is hardened for contexts of at most the greatest length, is so for those that were asked for
+pub is_hardened : (within : Hardening) (length : ℕ) (p : Instructions) (m : Made) → within.length ≡ min length max_context → IsMade p within m → IsHardened length within.padded within.turns p m.program m.certificate
+is_hardened within length p m same made =
+    record {
+      untouched = m.untouched;
+      keeps = subst (λ n. KeepsMeaning p m.program (record { length = n; padded = within.padded; turns = within.turns; untouched = m.untouched })) same made.keeps;
+      least = made.least ∙ same;
+      most = made.most ∙ same;
+    }
+
+-- what isn't hardened is told with its refusal
+pub unhardened_so : (within : Hardening) (length : ℕ) (p : Instructions) (why : Unhardened) → within.length ≡ min length max_context → IsUnhardened p within why → Answers (HardenedSays length within.padded within.turns p) 1
+unhardened_so within length p (Refused e) same inside = (NotHardened e, refl, inside)
+unhardened_so within length p (Unshown m) same fails =
+    (NotShown m, refl, (fails.0, fails.1, subst (λ n. IsMismatch p fails.0 fails.1 (record { length = n; padded = within.padded; turns = within.turns; untouched = 0 }) m) same fails.2))
 
 made_says : {S : Type 0} (opening : Opening S) (order : Order) (old : S) (input : List ℕ) (new : S) (task : Task) (p : Instructions) → LoadsImage opening order old input new p → (x : Answer) → TaskSays task p x
     → ImageSays opening order old input new (TaskSays task) x

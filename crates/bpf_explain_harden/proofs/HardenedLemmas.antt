@@ -1,5 +1,5 @@
--- What is shown of a hardened program, and what isn't, by the notes that were judged.
-use Rattle.std.proofs.Common.{◌≡◌, ℕ, List, Option, Some, None, MatchOption, IfSome, subst}
+-- What is shown of a hardened program, by the notes that were judged.
+use Rattle.std.proofs.Common.{◌≡◌, ℕ, List, Option, None, MatchOption, subst}
 use Rattle.bpf_insn.specs.Instruction.{Instructions}
 use Rattle.bpf_insn.specs.Image.{IsProgram}
 use Rattle.bpf_follows_law.specs.declared.notes.Bounds.{Bounds}
@@ -9,9 +9,8 @@ use Rattle.bpf_follows_law.specs.Matching.{Matches}
 use Rattle.bpf_follows_law.specs.Meaning.{KeepsMeaning}
 use Rattle.bpf_follows.specs.Mismatches.{IsMismatch}
 use Rattle.bpf_follows.specs.declared.mismatch.Mismatch.{Mismatch}
-use Rattle.bpf_explain_harden.specs.Hardened.{IsUnhardened, runs_of}
+use Rattle.bpf_explain_harden.specs.Hardened.{runs_of}
 use Rattle.bpf_explain_harden.specs.declared.hardened.Hardening.{Hardening}
-use Rattle.bpf_explain_harden.specs.declared.refusal.Unhardened.TheVariants.{Unshown}
 
 -- the same runs, with so many bytes left to r10
 abbrev pub leaving : Bounds → ℕ → Bounds
@@ -27,13 +26,3 @@ pub kept : (old new : Instructions) (notes : List (Option Place)) (h : Hardening
 kept old new notes h runs untouched o law program e none judged =
     let P : Bounds → Type 0 = λ r. Matches old new notes (leaving r untouched) in
     law old new notes (runs_of h untouched) program (subst P e (subst (λ p. Judged old new notes (leaving runs untouched) p) none judged))
-
--- of notes that don't match, it is told what fails
-pub unshown : (old new : Instructions) (notes : List (Option Place)) (h : Hardening) (runs : Bounds) (untouched : ℕ) (o : Option Mismatch) (m : Mismatch) → runs ≡ runs_of h 0 → o ≡ Some m
-    → IfSome o (λ _. untouched ≡ 0) → Judged old new notes (leaving runs untouched) o → IsUnhardened old h (Unshown m)
-unshown old new notes h runs untouched o m e is few judged =
-    let zero : untouched ≡ 0 = subst (λ p. IfSome p (λ _. untouched ≡ 0)) is few in
-    let fails : IsMismatch old new notes (leaving runs untouched) m = subst (λ p. Judged old new notes (leaving runs untouched) p) is judged in
-    let P : Bounds → Type 0 = λ r. IsMismatch old new notes (leaving r 0) m in
-    let Q : ℕ → Type 0 = λ n. IsMismatch old new notes (leaving runs n) m in
-    (new, notes, subst P e (subst Q zero fails))

@@ -58,7 +58,7 @@ pub fn is_conversion_in_the_way<P: Places>(
     let both = places.lead_to_one(asked.certificate, asked.output)?;
     let image = places.lead_to_one(asked.input, asked.output)?;
     let certificate = places.lead_to_one(asked.input, asked.certificate)?;
-    Ok(both || image || certificate)
+    Ok(both | image | certificate)
 }
 
 /// Tells why a filter isn't converted on standard error, whether or not people read there.
