@@ -1,4 +1,4 @@
-/* bpf.h: the proved checker, machine and inferrer of eBPF (RFC 9669, integer profile), for C and C++.
+/* bpf.h: the proved checker, machine and inferrer of eBPF (RFC 9669, integer profile), and the converter of classic BPF, for C and C++.
  *
  * Link libbpf_host.a. docs/HOSTS.md has each call's duty, answers, memory and threads. It wants C99 or C++11.
  *
@@ -19,8 +19,8 @@
 extern "C" {
 #endif
 
-/* The version of this header, 0.2.0, as one number: 10,000 times its first part, 100 times its second, and its third, together. */
-#define BPF_HOST_VERSION 200
+/* The version of this header, 0.3.0, as one number: 10,000 times its first part, 100 times its second, and its third, together. */
+#define BPF_HOST_VERSION 300
 
 /* The greatest image that there is, in bytes. */
 enum { BPF_IMAGE_MOST = 524288 };
@@ -44,6 +44,7 @@ enum bpf_order { BPF_LITTLE = 0, BPF_BIG = 1 };
 
 /* The letter of a refusal, or F of a fault. */
 enum bpf_kind {
+    BPF_CLASSIC = 'B',     /* the instructions are no filter of classic BPF */
     BPF_CHECK = 'C',       /* the certificate doesn't certify the program */
     BPF_IMAGE = 'E',       /* the bytes are no image */
     BPF_FAULT = 'F',       /* an instruction that the machine can't do */
@@ -64,7 +65,7 @@ struct bpf_verdict {
 struct bpf_refusal {
     uint32_t kind;      /* enum bpf_kind, but BPF_FAULT */
     uint32_t number;    /* from 1 */
-    uint64_t place;     /* the slot, from 0; of BPF_CERTIFICATE and BPF_NOTES the line, from 1 */
+    uint64_t place;     /* the slot, from 0; of BPF_CERTIFICATE and BPF_NOTES the line, from 1; of BPF_CLASSIC the filter's instruction, from 0 */
     uint64_t condition; /* of I4 and H7: the number of the checker's condition, 3 to 12; of H13: that of BPF_MISMATCH, 1 to 7; of H14: the bound that
                            is too great; of H15: the number of BPF_CHECK, 1 to 13; of BPF_IMAGE by bpf_follows: 0 of the old image, 1 of the new
                            one; else 0 */
@@ -105,6 +106,20 @@ struct bpf_certified {
     uint32_t is_shown;      /* 1: it keeps the meaning of the old one, on those runs; 0: nobody showed it */
 };
 
+/* The form of the contexts that a filter of classic BPF is converted for. */
+enum bpf_form {
+    BPF_BLOCKS = 0, /* a packet's length in eight bytes, in the image's order, the packet, as much of it as fits, and anything */
+    BPF_PLAIN = 1,  /* the packet alone */
+    BPF_SECCOMP = 2 /* `struct seccomp_data`, 64 bytes, with its words in the image's order; the filter is one of seccomp */
+};
+
+/* What was converted. */
+struct bpf_converted {
+    size_t image_len;       /* how many bytes the image has, at most BPF_IMAGE_MOST */
+    size_t certificate_len; /* and how many its certificate */
+    uint32_t bound;         /* the greatest number of instructions of a run: the longest way through the program */
+};
+
 /* ---- the library's functions. In C and C++ call those below them, which look at what they are handed; from other languages these: no
  * pointer is null, also where its length is 0 (then any that is aligned does), `memory` is aligned to 8 bytes and its length counts bytes,
  * and no bytes that are read are those that are written. */
@@ -126,6 +141,10 @@ int32_t bpf_host_run(const uint8_t *image, size_t image_len, uint32_t order, con
                      uint64_t fuel, struct bpf_outcome *outcome);
 int32_t bpf_host_follows(const uint8_t *old_image, size_t old_len, const uint8_t *new_image, size_t new_len, uint32_t order,
                          const uint8_t *notes, size_t notes_len, uint32_t size, uint32_t turns, uint32_t padded, uint32_t untouched,
+                         struct bpf_refusal *refusal);
+size_t bpf_host_convert_size(size_t count);
+int32_t bpf_host_convert(const uint8_t *filter, size_t filter_len, uint32_t filter_order, uint32_t form, uint32_t size, uint32_t order,
+                         uint8_t *made, size_t made_len, uint8_t *text, size_t text_len, struct bpf_converted *converted,
                          struct bpf_refusal *refusal);
 size_t bpf_host_infer_size(size_t image_len);
 size_t bpf_host_explain_size(size_t image_len, size_t certificate_len, size_t lines_len);
@@ -176,6 +195,20 @@ static inline int bpf_may_tell(const void *text, size_t text_len, const size_t *
                                size_t in_len) {
     return !bpf_overlap(text, text_len, in, in_len) && bpf_is_apart(wanted, sizeof *wanted, in, in_len, text, text_len) &&
            bpf_is_apart(refusal, sizeof *refusal, in, in_len, text, text_len);
+}
+
+/* The order of the bytes of this machine's numbers. */
+static inline uint32_t bpf_order_here(void) {
+    const uint16_t one = 1;
+    return *(const uint8_t *)&one ? BPF_LITTLE : BPF_BIG;
+}
+
+/* Whether two memories that are written share no byte with memory that is read, or with one another, and no answer with one of the three. */
+static inline int bpf_may_make(const void *made, size_t made_len, const void *text, size_t text_len, const void *told, size_t told_len,
+                               const struct bpf_refusal *refusal, const void *in, size_t in_len) {
+    return !bpf_overlap(made, made_len, in, in_len) && !bpf_overlap(text, text_len, in, in_len) && !bpf_overlap(made, made_len, text, text_len) &&
+           bpf_is_apart(told, told_len, in, in_len, made, made_len) && bpf_is_apart(told, told_len, text, text_len, NULL, 0) &&
+           bpf_is_apart(refusal, sizeof *refusal, in, in_len, made, made_len) && bpf_is_apart(refusal, sizeof *refusal, text, text_len, NULL, 0);
 }
 
 /* How many words stand in front of the image in a prepared program, and in a handle. */
@@ -393,12 +426,7 @@ static inline int32_t bpf_certify(const void *image, size_t image_len, uint32_t 
     uint8_t no_image = 0, no_text = 0;
     int32_t answer;
     if (!bpf_are_bytes(image, image_len) || !bpf_are_bytes(made, made_len) || !bpf_are_bytes(text, text_len)) return BPF_BAD_MEMORY;
-    if (bpf_overlap(made, made_len, image, image_len) || bpf_overlap(text, text_len, image, image_len)) return BPF_BAD_MEMORY;
-    if (bpf_overlap(made, made_len, text, text_len)) return BPF_BAD_MEMORY;
-    if (!bpf_is_apart(certified, sizeof *certified, image, image_len, made, made_len)) return BPF_BAD_MEMORY;
-    if (!bpf_is_apart(refusal, sizeof *refusal, image, image_len, made, made_len)) return BPF_BAD_MEMORY;
-    if (!bpf_is_apart(certified, sizeof *certified, text, text_len, NULL, 0)) return BPF_BAD_MEMORY;
-    if (!bpf_is_apart(refusal, sizeof *refusal, text, text_len, NULL, 0)) return BPF_BAD_MEMORY;
+    if (!bpf_may_make(made, made_len, text, text_len, certified, sizeof *certified, refusal, image, image_len)) return BPF_BAD_MEMORY;
     if (wish) {
         uint32_t usual = asked.bound;
         asked = *wish;
@@ -407,6 +435,37 @@ static inline int32_t bpf_certify(const void *image, size_t image_len, uint32_t 
     answer = bpf_host_certify(bpf_bytes(image), image_len, order, size, &asked, made ? (uint8_t *)made : &no_image, made_len,
                               text ? (uint8_t *)text : &no_text, text_len, &told, &why);
     if ((answer == BPF_YES || answer == BPF_TOO_SMALL) && certified) *certified = told;
+    if (answer == BPF_NO && refusal) *refusal = why;
+    return answer;
+}
+
+/* How many bytes of memory do for the certificate of a filter of so many instructions, so that nothing need be converted twice; most take far
+ * less. An image takes at most BPF_IMAGE_MOST bytes. */
+static inline size_t bpf_convert_size(size_t count) {
+    return bpf_host_convert_size(count);
+}
+
+/* Makes an image of a filter of classic BPF: `count` instructions of eight bytes each, in this machine's order, as pcap_compile makes them (bf_insns and
+ * bf_len of its `struct bpf_program`), and `struct sock_filter` has them. Contexts have exactly `size` bytes, in the form of enum bpf_form. BPF_YES:
+ * the first converted->image_len bytes of `made` are an image, and the first converted->certificate_len bytes of `text` a certificate, of which
+ * bpf_verify and bpf_load say yes, with the bound that is told. On each such context the image ends with what the filter answers: of how many bytes of
+ * the packet are accepted, 0 for none, and of seccomp what is to be done with the call. BPF_TOO_SMALL: *converted says what there is, and `made` or
+ * `text`, which may be null with the length 0, has less room. BPF_IMAGE_MOST bytes do for the one, and bpf_convert_size(count) for the other. BPF_NO:
+ * *refusal says why, by B, and at which instruction. BPF_NO_MEMORY. BPF_BAD_CALL: an order or a form that isn't one, or a size that no context of the
+ * form has: above 4,096, of blocks below 8, of seccomp other than 64. BPF_BAD_MEMORY: no instructions where there is a count, `made` or `text` that
+ * lies in them or in the other one, or an answer that lies in one of the three. No search is made: the time is in proportion to the filter. */
+static inline int32_t bpf_convert(const void *filter, size_t count, uint32_t form, uint32_t size, uint32_t order, void *made, size_t made_len,
+                                  char *text, size_t text_len, struct bpf_converted *converted, struct bpf_refusal *refusal) {
+    struct bpf_converted told = {0, 0, 0};
+    struct bpf_refusal why = {0, 0, 0, 0};
+    uint8_t no_image = 0, no_text = 0;
+    int32_t answer;
+    if (count > (size_t)PTRDIFF_MAX / 8 || !bpf_are_bytes(filter, 8 * count)) return BPF_BAD_MEMORY;
+    if (!bpf_are_bytes(made, made_len) || !bpf_are_bytes(text, text_len)) return BPF_BAD_MEMORY;
+    if (!bpf_may_make(made, made_len, text, text_len, converted, sizeof *converted, refusal, filter, 8 * count)) return BPF_BAD_MEMORY;
+    answer = bpf_host_convert(bpf_bytes(filter), 8 * count, bpf_order_here(), form, size, order, made ? (uint8_t *)made : &no_image, made_len,
+                              text ? (uint8_t *)text : &no_text, text_len, &told, &why);
+    if ((answer == BPF_YES || answer == BPF_TOO_SMALL) && converted) *converted = told;
     if (answer == BPF_NO && refusal) *refusal = why;
     return answer;
 }

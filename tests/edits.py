@@ -26,7 +26,7 @@ FOLDER = "wrong"
 # `rt ci` tries the edits of these crates itself, in must-fail/, and proves each of the crates a second time for them.
 BY_THE_KIT = {"bpf_lines", "bpf_flat", "bpf_request", "bpf_host_runs", "bpf_command_core", "bpf_command"}
 # The wrong bodies of these crates are tried by hand, by the crate's name: the gate would take too long with them.
-BY_NAME = {"bpf_classic", "bpf_convert", "bpf_answers", "bpf_explain", "bpf_command_core", "bpf_command", "bpf_host_runs", "bpf_host_advice", "bpf_host"}
+BY_NAME = {"bpf_classic", "bpf_convert", "bpf_answers", "bpf_explain", "bpf_command_core", "bpf_command", "bpf_host_runs", "bpf_host_convert", "bpf_host_advice", "bpf_host"}
 
 # The mistakes that a toolchain like this is known for, each with the wrong bodies that make it.
 KNOWN = {
@@ -72,6 +72,8 @@ COMMANDS = {
 }
 CALLS = {
     "bpf_host_certify": ["bpf_host_advice/certify-writes-the-old-image", "bpf_host_advice/certify-tells-another-bound"],
+    "bpf_host_convert": ["bpf_host_convert/convert-converts-for-half-the-size", "bpf_host_convert/convert-reads-the-filter-in-the-order-of-the-image",
+                         "bpf_host_convert/conversion-tells-another-bound"],
     "bpf_host_explain": ["bpf_host_advice/explain-says-yes-of-a-refused-program"],
     "bpf_host_explain_search": ["bpf_host_advice/explain_search-says-yes-of-a-refused-certificate"],
     "bpf_host_follows": ["bpf_host_advice/follows-judges-the-old-image-beside-itself"],
@@ -87,7 +89,7 @@ CALLS = {
     "bpf_host_verify": ["bpf_host_runs/verify-tells-the-least-as-the-most"],
 }
 # Those whose answer is an equation, or isn't pinned by a clause (docs/PROOFS.md, "What no clause says").
-WITHOUT = ["bpf_host_answer_text", "bpf_host_explain_image", "bpf_host_explain_size", "bpf_host_infer_size", "bpf_host_loaded_size", "bpf_host_version"]
+WITHOUT = ["bpf_host_answer_text", "bpf_host_convert_size", "bpf_host_explain_image", "bpf_host_explain_size", "bpf_host_infer_size", "bpf_host_loaded_size", "bpf_host_version"]
 
 
 class BadEdit(Exception):

@@ -309,6 +309,52 @@ static void say_certify(uint32_t order, char **word) {
     free(from.at);
 }
 
+/* How it is converted in exactly the room that it takes. */
+static void convert_in(uint32_t order, const struct bytes *from, uint32_t form, uint32_t size, struct bpf_converted want, char **names) {
+    const size_t count = from->len / 8;
+    struct bytes made = of_size(want.image_len), text = of_size(want.certificate_len);
+    struct bpf_converted told = {7, 7, 7};
+    struct bpf_verdict v;
+    memset(made.at, 7, made.len), memset(text.at, 7, text.len);
+    if (bpf_convert(from->at, count, form, size, order, made.at, made.len - 1, (char *)text.at, text.len, &told, NULL) != BPF_TOO_SMALL) abort();
+    if (bpf_convert(from->at, count, form, size, order, made.at, made.len, (char *)text.at, text.len - 1, NULL, NULL) != BPF_TOO_SMALL) abort();
+    for (size_t i = 0; i < made.len; i++)
+        if (made.at[i] != 7) abort();
+    for (size_t i = 0; i < text.len; i++)
+        if (text.at[i] != 7) abort();
+    if (told.image_len != want.image_len || told.certificate_len != want.certificate_len || told.bound != want.bound) abort();
+    if (bpf_convert(from->at, count, form, size, order, made.at, made.len, (char *)text.at, text.len, &told, NULL) != BPF_YES) abort();
+    if (told.image_len != want.image_len || told.certificate_len != want.certificate_len || told.bound != want.bound) abort();
+    if (bpf_verify(made.at, made.len, order, text.at, text.len, &v, NULL) != BPF_YES || v.least != size || v.most != size || v.bound != want.bound) abort();
+    for (int i = 0; i < 2; i++) {
+        FILE *file = fopen(names[i], "wb");
+        struct bytes *it = i ? &text : &made;
+        if (!file || fwrite(it->at, 1, it->len, file) != it->len || fclose(file)) abort();
+    }
+    free(made.at), free(text.at);
+}
+
+/* convert ORDER FILTER FORM SIZE OUT CERT, with the instructions in this machine's order; the sizes are asked for first. */
+static void say_convert(uint32_t order, char **word) {
+    struct bytes from = read_file(word[0]);
+    const uint32_t form = (uint32_t)atol(word[1]), size = (uint32_t)atol(word[2]);
+    struct bpf_converted told = {7, 7, 7};
+    struct bpf_refusal why = {7, 7, 7, 7};
+    switch (bpf_convert(from.at, from.len / 8, form, size, order, NULL, 0, NULL, 0, &told, &why)) {
+    case BPF_NO:
+        if (!bpf_refusal_text(why.kind, why.number, NULL, 0) || told.image_len != 7 || why.kind != BPF_CLASSIC || why.condition) abort();
+        printf("1 no %c%u at instruction %u\n", (int)why.kind, (unsigned)why.number, (unsigned)why.place);
+        break;
+    case BPF_TOO_SMALL:
+        if (why.kind != 7 || told.image_len > BPF_IMAGE_MOST || told.certificate_len > bpf_convert_size(from.len / 8)) abort();
+        convert_in(order, &from, form, size, told, word + 3);
+        printf("0 yes length %u bound %u\n", (unsigned)size, (unsigned)told.bound);
+        break;
+    default: abort();
+    }
+    free(from.at);
+}
+
 static void answer(char **word) {
     uint32_t order = strcmp(word[1], "big") ? BPF_LITTLE : BPF_BIG;
     struct bytes image = {NULL, 0}, second = {NULL, 0}, third = {NULL, 0};
@@ -322,6 +368,10 @@ static void answer(char **word) {
     }
     if (!strcmp(word[0], "certify")) {
         say_certify(order, word + 2);
+        return;
+    }
+    if (!strcmp(word[0], "convert")) {
+        say_convert(order, word + 2);
         return;
     }
     image = read_file(word[2]);
@@ -359,7 +409,7 @@ static int table(void) {
 
 static int texts(void) {
     char text[128];
-    for (const char *kind = "CEFHIKMN"; *kind; kind++)
+    for (const char *kind = "BCEFHIKMN"; *kind; kind++)
         for (uint32_t n = 1; bpf_refusal_text((uint32_t)*kind, n, text, sizeof text); n++) printf("%c%u %s\n", *kind, n, text);
     return 0;
 }
@@ -636,7 +686,85 @@ static void bad_certifying(void) {
     WANTS(bpf_certify(IMAGE, BPF_LITTLE, 0, &most, made, 32, text, 256, NULL, NULL), BPF_YES);
 }
 
+/* `ip`, as tcpdump compiles it for Ethernet: 14 bytes, a type, and the answer; and instructions that are no filter. */
+struct instruction {
+    uint16_t code;
+    uint8_t jt, jf;
+    uint32_t k;
+};
+static const struct instruction ip[] = {{0x28, 0, 0, 12}, {0x15, 0, 1, 0x800}, {6, 0, 0, 262144}, {6, 0, 0, 0}}, no_end[] = {{6, 0, 0, 0}, {5, 0, 0, 0}};
+#define IP ip, sizeof ip / sizeof *ip
+
+/* Numbers that are none, bytes that aren't there, and answers that lie in what is read or written. */
+static void bad_conversions(void) {
+    static uint8_t made[512] = "as it was";
+    static char text[4096] = "as it was";
+    struct bpf_converted told = {7, 7, 7};
+    struct bpf_refusal why = {7, 7, 7, 7};
+#define ROOM made, 512, text, 4096
+#define TOLD &told, &why
+    WANTS(bpf_convert(NULL, 1, BPF_BLOCKS, 32, BPF_LITTLE, ROOM, TOLD), BPF_BAD_MEMORY);
+    WANTS(bpf_convert(ip, HUGE_LEN / 8, BPF_BLOCKS, 32, BPF_LITTLE, ROOM, TOLD), BPF_BAD_MEMORY);
+    WANTS(bpf_convert(ip, SIZE_MAX, BPF_BLOCKS, 32, BPF_LITTLE, ROOM, TOLD), BPF_BAD_MEMORY);
+    WANTS(bpf_convert(ip, SIZE_MAX / 8 + 2, BPF_BLOCKS, 32, BPF_LITTLE, ROOM, TOLD), BPF_BAD_MEMORY);
+    WANTS(bpf_convert(IP, BPF_BLOCKS, 32, BPF_LITTLE, NULL, 512, text, 4096, TOLD), BPF_BAD_MEMORY);
+    WANTS(bpf_convert(IP, BPF_BLOCKS, 32, BPF_LITTLE, made, 512, NULL, 4096, TOLD), BPF_BAD_MEMORY);
+    WANTS(bpf_convert(made, 4, BPF_BLOCKS, 32, BPF_LITTLE, ROOM, TOLD), BPF_BAD_MEMORY);
+    WANTS(bpf_convert(text + 4088, 1, BPF_BLOCKS, 32, BPF_LITTLE, ROOM, TOLD), BPF_BAD_MEMORY);
+    WANTS(bpf_convert(IP, BPF_BLOCKS, 32, BPF_LITTLE, text + 128, 128, text, 129, TOLD), BPF_BAD_MEMORY);
+    WANTS(bpf_convert(IP, BPF_BLOCKS, 32, BPF_LITTLE, ROOM, (void *)(made + 504), &why), BPF_BAD_MEMORY);
+    WANTS(bpf_convert(IP, BPF_BLOCKS, 32, BPF_LITTLE, ROOM, (void *)text, &why), BPF_BAD_MEMORY);
+    WANTS(bpf_convert(IP, BPF_BLOCKS, 32, BPF_LITTLE, ROOM, &told, (void *)made), BPF_BAD_MEMORY);
+    WANTS(bpf_convert(IP, BPF_BLOCKS, 32, BPF_LITTLE, ROOM, &told, (void *)(text + 4088)), BPF_BAD_MEMORY);
+    WANTS(bpf_convert(IP, BPF_BLOCKS, 32, 2, ROOM, TOLD), BPF_BAD_CALL);
+    WANTS(bpf_convert(IP, 3, 32, BPF_LITTLE, ROOM, TOLD), BPF_BAD_CALL);
+    WANTS(bpf_convert(IP, UINT32_MAX, 64, BPF_LITTLE, ROOM, TOLD), BPF_BAD_CALL);
+    WANTS(bpf_convert(IP, BPF_BLOCKS, 7, BPF_LITTLE, ROOM, TOLD), BPF_BAD_CALL);
+    WANTS(bpf_convert(IP, BPF_BLOCKS, 4097, BPF_LITTLE, ROOM, TOLD), BPF_BAD_CALL);
+    WANTS(bpf_convert(IP, BPF_PLAIN, 4097, BPF_LITTLE, ROOM, TOLD), BPF_BAD_CALL);
+    WANTS(bpf_convert(IP, BPF_SECCOMP, 63, BPF_LITTLE, ROOM, TOLD), BPF_BAD_CALL);
+    WANTS(bpf_convert(IP, BPF_SECCOMP, 65, BPF_LITTLE, ROOM, TOLD), BPF_BAD_CALL);
+    /* The library's own call, by an order of the instructions that is none, and by bytes that end inside of one. */
+    WANTS(bpf_host_convert((const uint8_t *)ip, 32, 2, BPF_BLOCKS, 32, BPF_LITTLE, made, 512, (uint8_t *)text, 4096, TOLD), BPF_BAD_CALL);
+    WANTS(told.bound == 7 && why.kind == 7, 1);
+    WANTS(bpf_host_convert((const uint8_t *)ip, 31, bpf_order_here(), BPF_BLOCKS, 32, BPF_LITTLE, made, 512, (uint8_t *)text, 4096, TOLD), BPF_NO);
+    WANTS(why.kind == BPF_CLASSIC && why.number == 8 && why.place == 3 && !why.condition, 1);
+    WANTS(bpf_convert(NULL, 0, BPF_BLOCKS, 32, BPF_LITTLE, ROOM, TOLD), BPF_NO);
+    WANTS(why.kind == BPF_CLASSIC && why.number == 1 && why.place == 0, 1);
+    WANTS(bpf_convert(no_end, 2, BPF_BLOCKS, 32, BPF_LITTLE, ROOM, &told, NULL), BPF_NO);
+    WANTS(bpf_convert(no_end, 2, BPF_BLOCKS, 32, BPF_LITTLE, ROOM, TOLD), BPF_NO);
+    WANTS(why.kind == BPF_CLASSIC && why.number == 5 && why.place == 1 && told.bound == 7, 1);
+    WANTS(!strcmp((char *)made, "as it was") && !strcmp(text, "as it was"), 1);
+}
+
+/* A filter by the library alone: both orders, and its answers to an IP packet, to one of another type, and to one that is too short. */
+static void conversions(void) {
+    static uint8_t made[512], block[32] = {14};
+    static char text[4096];
+    struct bpf_converted told = {7, 7, 7};
+    uint64_t words[64], value = 7;
+    for (uint32_t order = BPF_LITTLE; order <= BPF_BIG; order++) {
+        memset(block, 0, sizeof block), block[20] = 8, block[order == BPF_BIG ? 7 : 0] = 14;
+        WANTS(bpf_convert(IP, BPF_BLOCKS, 32, order, NULL, 0, NULL, 0, &told, NULL), BPF_TOO_SMALL);
+        WANTS(told.image_len > 32 && told.certificate_len > 32 && told.certificate_len <= bpf_convert_size(4) && told.bound == 9, 1);
+        WANTS(bpf_convert(IP, BPF_BLOCKS, 32, order, made, 512, text, 4096, NULL, NULL), BPF_YES);
+        WANTS(bpf_load(made, told.image_len, order, text, told.certificate_len, told.bound, words, 64, NULL, NULL), BPF_YES);
+        WANTS(bpf_run_loaded(words, 64, block, 32, &value) == BPF_YES && value == 262144, 1);
+        block[21] = 6;
+        WANTS(bpf_run_loaded(words, 64, block, 32, &value) == BPF_YES && value == 0, 1);
+        block[21] = 0, block[order == BPF_BIG ? 7 : 0] = 13;
+        WANTS(bpf_run_loaded(words, 64, block, 32, &value) == BPF_YES && value == 0, 1);
+    }
+    WANTS(bpf_convert(IP, BPF_BLOCKS, 8, BPF_LITTLE, ROOM, NULL, NULL), BPF_YES);
+    WANTS(bpf_convert(IP, BPF_PLAIN, 0, BPF_LITTLE, ROOM, NULL, NULL), BPF_YES);
+    WANTS(bpf_convert(ip + 2, 1, BPF_SECCOMP, 64, BPF_LITTLE, ROOM, &told, NULL), BPF_YES);
+    WANTS(told.bound, 2);
+}
+
 static void sizes(void) {
+    WANTS(bpf_convert_size(0), 1024);
+    WANTS(bpf_convert_size(4), 1024 + 4 * 576);
+    WANTS(bpf_convert_size(SIZE_MAX), 1024 + 4096 * 576);
     WANTS(bpf_infer_size(0), 64);
     WANTS(bpf_infer_size(16), 64 + 2 * 320 + 2 * 74 * 136);
     WANTS(bpf_infer_size(BPF_IMAGE_MOST), 64 + 65536 * 320 + (1 << 20) * 136);
@@ -710,9 +838,9 @@ static void bad_answers(void) {
 }
 
 static void bad_texts(void) {
-    static const struct { char kind; uint32_t count; } kinds[] = {{'C', 13}, {'E', 10}, {'F', 9}, {'H', 15}, {'I', 5}, {'K', 5}, {'M', 7}, {'N', 2}};
+    static const struct { char kind; uint32_t count; } kinds[] = {{'B', 10}, {'C', 13}, {'E', 10}, {'F', 9}, {'H', 15}, {'I', 5}, {'K', 5}, {'M', 7}, {'N', 2}};
     char text[128] = "as it was";
-    for (int i = 0; i < 8; i++) {
+    for (size_t i = 0; i < sizeof kinds / sizeof *kinds; i++) {
         WANTS(bpf_refusal_text((uint32_t)kinds[i].kind, 0, text, sizeof text), 0);
         for (uint32_t n = 1; n <= kinds[i].count; n++) {
             size_t len = bpf_refusal_text((uint32_t)kinds[i].kind, n, text, sizeof text);
@@ -748,6 +876,8 @@ static int bad(void) {
     bad_explanations();
     bad_following();
     bad_certifying();
+    bad_conversions();
+    conversions();
     sizes();
     bad_proposals();
     bad_answers();

@@ -7,6 +7,7 @@ import struct
 import subprocess
 import sys
 
+import classic
 import filters as made_for
 import rows
 
@@ -90,7 +91,7 @@ CERTIFIED = {
     'c13': ('r0 = 0\nexit\n', 'bpfcert 1 0 2\nfn 0 1 *\nat 0 2\nr3 *\nend\n'),
 }
 
-KINDS = {f'{letter}{number}' for letter, first, last in [('C', 1, 13), ('E', 1, 8), ('F', 1, 9), ('H', 14, 14), ('I', 2, 4), ('K', 1, 3)] for number in range(first, last + 1)}
+KINDS = {f'{letter}{number}' for letter, first, last in [('B', 1, 7), ('C', 1, 13), ('E', 1, 8), ('F', 1, 9), ('H', 14, 14), ('I', 2, 4), ('K', 1, 3)] for number in range(first, last + 1)}
 
 
 def bpf(*words):
@@ -121,7 +122,7 @@ class Table:
     """Lines for hosts, and the command's answers to the same."""
 
     def __init__(self):
-        self.lines, self.wants, self.words, self.made = [], [], {}, []
+        self.lines, self.wants, self.words, self.made, self.sentences = [], [], {}, [], {}
 
     def add(self, want, *words):
         self.lines.append(' '.join(map(str, words)))
@@ -147,6 +148,17 @@ class Table:
         done = subprocess.run([BPF, 'certify', *big(order), image, str(size), f'{there}.img', f'{there}.cert', *map(str, words)], capture_output=True, text=True, timeout=60)
         self.add((done.returncode, done.stdout), 'certify', order, image, size, bound, turns, padded, unproved, f'{here}.img', f'{here}.cert')
         self.made += [(f'{here}.{kind}', f'{there}.{kind}') for kind in ('img', 'cert')]
+
+    def convert(self, order, filter, form, size):
+        """What is converted, and where the image and its certificate stand of both; the command takes the instructions in the image's order."""
+        here, there = FOLDER / f'{len(self.lines)}.here', FOLDER / f'{len(self.lines)}.there'
+        raw = {key: made(f'{here.name}.{key}', b''.join(struct.pack(key + 'HBBI', *it) for it in filter)) for key in '=<>'}
+        words = [raw['>' if order == 'big' else '<'], str(size), f'{there}.img', f'{there}.cert', '--raw', *classic.FORMS[form]]
+        done = subprocess.run([BPF, 'convert', *big(order), *words], capture_output=True, text=True, timeout=60)
+        self.add((done.returncode, done.stdout), 'convert', order, raw['='], [*classic.FORMS].index(form), size, f'{here}.img', f'{here}.cert')
+        self.made += [(f'{here}.{kind}', f'{there}.{kind}') for kind in ('img', 'cert')]
+        if done.returncode:
+            self.sentences.setdefault(done.stdout.split()[1], set()).add(done.stderr)
 
     def alone(self, image, certificate, context):
         self.add(bpf('run-checked', image, certificate, context), 'alone', 'little', image, len(context) // 2, context)
@@ -220,6 +232,23 @@ def fill_certify(table, images):
         table.certify('little', images[name]['little'], 16)
 
 
+def fill_convert(table):
+    """Filters of every instruction, some of them faulty, in each form; none at all, as many as may be, and one more."""
+    rng = random.Random(1)
+    for seed in range(600):
+        form = rng.choice([*classic.FORMS])
+        size = 64 if form == 'seccomp' else rng.choice([8, 9, 40, 200, 1522, 4096]) if form == 'blocks' else rng.choice([0, 1, 34, 64, 4096])
+        table.convert(rng.choice(['little', 'big']), classic.random_filter(rng, form == 'seccomp'), form, size)
+    for count in [0, 1, 4096, 4097]:
+        table.convert('little', [(6, 0, 0, 1)] * count, 'blocks', 128)
+    # An index and a cell in each of as many instructions as may be, all of them labelled: the longest certificates that are known.
+    steps = [(0x61, 0, 0, 15), (0x48, 0, 0, 14), (0x1D, 1, 0, 0), (0x7C, 0, 0, 0), (0x02, 0, 0, 7)]
+    cells = [it for cell in range(16) for it in [(0x60, 0, 0, cell), (0x03, 0, 0, cell)]]
+    table.convert('big', cells + (steps * 900)[:4096 - len(cells) - 2] + [(0x16, 0, 0, 0)] * 2, 'blocks', 4096)
+    for filter, form in [([(0x20, 0, 0, 0xfffff000), (6, 0, 0, 1)], 'blocks'), ([(0x28, 0, 0, 0), (6, 0, 0, 1)], 'seccomp'), ([(0x20, 0, 0, 4), (6, 0, 0, 1)], 'seccomp')]:
+        table.convert('little', filter, form, 64)
+
+
 def fill(table):
     images = {path.stem: {'little': path, 'big': path} for path in sorted(EXAMPLES.glob('*.img'))}
     certificates = sorted(EXAMPLES.glob('*.cert'))
@@ -270,6 +299,7 @@ def fill(table):
             table.explain('little', path, **keys, graph=True)
     fill_follows(table, images)
     fill_certify(table, images)
+    fill_convert(table)
     for filter_of in [made_for.port, made_for.dns, made_for.checksum, made_for.histogram, made_for.rate, made_for.http]:
         path = EXAMPLES / f'c/{filter_of.__name__}.img'
         for context, _ in filter_of(random.Random(1)):
@@ -316,20 +346,22 @@ def fill_with_rows(table):
 
 def texts_by_number(crate, file='error.rt'):
     """The sentences of a crate's refusals, in the order of their numbers, as its sources have them."""
-    found = re.findall(r'^ *([0-9]+) => Some\("([^"]*)"', (EXAMPLES.parent / 'crates' / crate / 'src' / file).read_text(), re.M)
+    found = re.findall(r'^ *([0-9]+) =>\s*Some\("([^"]*)"', (EXAMPLES.parent / 'crates' / crate / 'src' / file).read_text(), re.M)
     assert [int(number) for number, _ in found] == [*range(1, len(found) + 1)], found
     return [text for _, text in found]
 
 
-def texts():
-    """What hosts are told of a refusal is what the crates' errors say, I4 and H7 apart from the condition that they name."""
+def texts(sentences):
+    """What hosts are told of a refusal is what the crates' errors say, I4 and H7 apart from the condition that they name; of a filter it is also what the
+    command says on standard error."""
     done = subprocess.run([HOSTS, 'texts'], capture_output=True, text=True, timeout=60, check=True)
-    told = {'C': [], 'E': [], 'F': [], 'H': [], 'I': [], 'K': [], 'M': [], 'N': []}
+    told = {'B': [], 'C': [], 'E': [], 'F': [], 'H': [], 'I': [], 'K': [], 'M': [], 'N': []}
     for line in done.stdout.splitlines():
         number, _, text = line.partition(' ')
         told[number[0]].append(text)
         assert number[1:] == str(len(told[number[0]])), line
     want = {
+        'B': texts_by_number('bpf_host_convert', 'texts.rt'),
         'C': texts_by_number('bpf_state', 'condition.rt'),
         'E': texts_by_number('bpf_insn', 'refusal.rt'),
         'F': texts_by_number('bpf_semantics', 'reason.rt'),
@@ -341,7 +373,9 @@ def texts():
         'N': told['N'],
     }
     assert told == want, (told, want)
-    assert [len(it) for it in told.values()] == [13, 10, 9, 15, 5, 5, 7, 2], told
+    assert [len(it) for it in told.values()] == [10, 13, 10, 9, 15, 5, 5, 7, 2], told
+    for number, said in sentences.items():
+        assert all(told['B'][int(number[1:]) - 1] in it for it in said), (number, said)
 
 
 def told(words, limit=None, **env):
@@ -361,7 +395,7 @@ def allocators():
     """With a host's own allocator, linked in or preloaded, each call answers as with the C library's, and keeps no block where a growth is refused."""
     port = [EXAMPLES / 'c/port.img', EXAMPLES / 'c/port.cert', '128', '128']
     usual = told([FOLDER / 'memory', *port])
-    assert len(usual) == 10 and all(it.startswith('1 ') for it in usual.values()), usual
+    assert len(usual) == 11 and all(it.startswith('1 ') for it in usual.values()), usual
     assert told([FOLDER / 'memory_own', *port]) == usual
     assert told([FOLDER / 'memory', *port], LD_PRELOAD=str(FOLDER / 'allocator.so')) == usual
     assert told([FOLDER / 'memory_own', 'refuse', *port]).keys() == {f'{name}:' for name in usual}
@@ -457,7 +491,7 @@ for words in [['bad'], ['memory', checksum, FOLDER / 'sum.cert'], ['threads', ch
 allocators()
 limits()
 print("a host's own allocator, and limits of memory: the same answers, or none")
-texts()
+texts(table.sentences)
 print('each refusal says to hosts what the crates say of it')
 print('bad calls, refused memory, eight threads and a million runs: as they should be')
 filters()

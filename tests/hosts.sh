@@ -2,7 +2,7 @@
 # hosts.sh: installs into a folder of its own, builds hosts against what stands there, the C ones with the sanitizers of cc, and holds
 # their answers to the command's: a table with every kind of refusal, calls that no caller should make, memory
 # that is refused, an allocator of the host's own, limits of memory, eight threads, and a million runs. So are the wrappers for C++ and, where cargo is there, for Rust; threads have the stacks that
-# docs/HOSTS.md says are enough; what it hardens is what the command hardens. Then the commands that the documents show are run with what was installed.
+# docs/HOSTS.md says are enough; what it hardens is what the command hardens; and the packets that pass a filter are those that pass tcpdump. Then the commands that the documents show are run with what was installed.
 set -eu
 root=$(cd "$(dirname "${BASH_SOURCE[0]}")/.." && pwd)
 dir=$(mktemp -d)
@@ -22,6 +22,10 @@ fi
 build=("${CC:-cc}" -g -O1 -Wall -Wextra -Wpedantic -Werror -fsanitize=address,undefined -fno-sanitize-recover=all)
 "${build[@]}" -std=gnu11 "$root/tests/hosts.c" -o "$dir/hosts" -Wl,--wrap=malloc,--wrap=realloc $flags -lpthread
 "${build[@]}" -std=c11 "$root/examples/hosts/filter.c" -o "$dir/filter_c" $flags
+"${build[@]}" -std=c11 "$root/examples/hosts/capture.c" -o "$dir/capture" $flags
+if echo 'int main(void) { return !pcap_lib_version(); }' | "${CC:-cc}" -include pcap/pcap.h -x c - -o "$dir/has_pcap" -lpcap 2>/dev/null; then
+    "${build[@]}" -std=c11 -DWITH_PCAP "$root/examples/hosts/capture.c" -o "$dir/capture_pcap" $flags -lpcap
+fi
 "${CXX:-c++}" -x c++ -std=c++11 -Wall -Wextra -Werror -fsyntax-only "$dir/include/bpf.h"
 "${CXX:-c++}" -std=c++11 -g -O1 -Wall -Wextra -Wpedantic -Werror -fsanitize=address,undefined "$root/tests/wrapper.cc" -o "$dir/wrapper" $flags
 "$dir/wrapper" "$root/examples/c/port.img" "$root/examples/c/port.cert"
@@ -88,5 +92,6 @@ said=$("$dir/other/wrapper" "${port[@]}" 2>&1) || true
 [[ "$said" == *"libbpf_host.a is of another version than bpf.h"* ]] || { echo "hosts: bpf.hpp says of a library of another version: $said" >&2; exit 1; }
 "$root/tests/version.py" "$dir"
 python3 "$root/tests/hosts.py" "$dir/bin/bpf" "$root/examples" "$dir"
+python3 "$root/tests/capture.py" "$dir"
 cp "$dir/filter_c" "$dir/filter"
 "$root/tests/documents.py" "$dir"

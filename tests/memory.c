@@ -48,6 +48,20 @@ static int32_t certify(void) {
     return answer;
 }
 
+/* A filter of classic BPF, the longer the larger the image: loads behind an index, tests, shifts and a cell. */
+static int32_t convert(void) {
+    static struct { uint16_t code; uint8_t jt, jf; uint32_t k; } filter[4096];
+    static const struct { uint16_t code; uint8_t jt; uint32_t k; } turn[] = {{0x61, 0, 7}, {0x48, 0, 14}, {0x1d, 1, 0}, {0x7c, 0, 0}, {0x02, 0, 7}};
+    struct bpf_converted told = {7, 7, 7};
+    size_t count = image_len / 24, at;
+    int32_t answer;
+    for (at = 0; at + 2 < count; at++) filter[at].code = turn[at % 5].code, filter[at].jt = turn[at % 5].jt, filter[at].k = turn[at % 5].k;
+    for (; at < count; at++) filter[at].code = 0x16, filter[at].jt = 0, filter[at].k = 0;
+    answer = bpf_convert(filter, count, BPF_BLOCKS, 4096, BPF_LITTLE, made, IMAGE_MOST, (char *)made + IMAGE_MOST, sizeof made - IMAGE_MOST, &told, &why);
+    if (answer == BPF_YES) wanted = told.image_len + told.certificate_len;
+    return answer;
+}
+
 static int32_t explain(void) {
     return bpf_explain(image, image_len, BPF_LITTLE, certificate, certificate_len, NULL, (char *)made, sizeof made, &wanted, &why);
 }
@@ -68,7 +82,7 @@ static const struct {
     const char *name;
     int32_t (*call)(void);
 } CALLS[] = {
-    {"verify", verify}, {"load", load}, {"infer", infer}, {"search", search}, {"harden", harden}, {"certify", certify},
+    {"verify", verify}, {"load", load}, {"infer", infer}, {"search", search}, {"harden", harden}, {"certify", certify}, {"convert", convert},
     {"explain", explain}, {"explain_infer", explain_infer}, {"explain_search", explain_search},
     {"explain_image", explain_image},
 };

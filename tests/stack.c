@@ -1,5 +1,5 @@
 /* stack.c IMAGE CERTIFICATE..: each call in a thread with the stack that docs/HOSTS.md says is enough: 16 KB for preparing and running, 64 KB for
- * judging, 128 KB for inferring, 256 KB for hardening, for certifying, for judging notes and for searching deeply, 512 KB for explaining. Beside the images that are named one of the
+ * judging, 128 KB for inferring and for converting, 256 KB for hardening, for certifying, for judging notes and for searching deeply, 512 KB for explaining. Beside the images that are named one of the
  * greatest length is tried, and one whose run comes to eight frames. */
 #include <bpf.h>
 #include <pthread.h>
@@ -39,6 +39,17 @@ static void *infer(void *at) {
     struct bpf_refusal why;
     size_t wanted;
     job->wrong |= bpf_infer(job->image, job->image_len, BPF_LITTLE, job->verdict.least, job->verdict.most, 0, NULL, 0, &wanted, &why) == BPF_BAD_CALL;
+    return NULL;
+}
+
+/* The longest filter that there is, with an index and a test in turn. */
+static void *convert(void *at) {
+    static struct { uint16_t code; uint8_t jt, jf; uint32_t k; } filter[4096];
+    struct job *job = at;
+    struct bpf_converted told;
+    size_t i;
+    for (i = 0; i < 4096; i++) filter[i].code = i < 4094 ? (i % 2 ? 0x1d : 0x48) : 0x16, filter[i].jt = i < 4094 && i % 2, filter[i].k = i < 4094 ? i % 64 : 0;
+    job->wrong |= bpf_convert(filter, 4096, BPF_BLOCKS, 4096, BPF_LITTLE, NULL, 0, NULL, 0, &told, NULL) != BPF_TOO_SMALL;
     return NULL;
 }
 
@@ -114,6 +125,7 @@ static void try_all(struct job *job, const char *name) {
     in_thread(judge, job, JUDGING_STACK);
     in_thread(load, job, JUDGING_STACK);
     in_thread(infer, job, INFERRING_STACK);
+    in_thread(convert, job, INFERRING_STACK);
     in_thread(harden, job, HARDENING_STACK);
     in_thread(explain, job, EXPLAINING_STACK);
     in_thread(explain_deeply, job, EXPLAINING_STACK);

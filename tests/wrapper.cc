@@ -80,6 +80,20 @@ int main(int, char **argv) {
         thrown = std::string(why.what()).compare(0, 13, "refused by I4") == 0;
     }
     want(thrown, "no certificate for no bytes");
+    const struct {
+        std::uint16_t code;
+        std::uint8_t jt, jf;
+        std::uint32_t k;
+    } ip[] = {{0x28, 0, 0, 12}, {0x15, 0, 1, 0x800}, {6, 0, 0, 262144}, {6, 0, 0, 0}};
+    const bpf::Converted converted = bpf::convert(ip, 4, BPF_BLOCKS, 128, BPF_LITTLE);
+    want(bpf::Filter(converted.image, converted.certificate, BPF_LITTLE, converted.bound).run(block.data(), block.size()) == 262144, "a filter of IP");
+    thrown = false;
+    try {
+        bpf::convert(ip, 3, BPF_BLOCKS, 128, BPF_LITTLE);
+    } catch (const bpf::Refused &why) {
+        thrown = std::string(why.what()).compare(0, 34, "refused by B5 at instruction 1: it") == 0;
+    }
+    want(thrown, "a jump past the last instruction");
     const std::string known = bpf::explain(image, certificate, BPF_LITTLE);
     want(known.find("\naccepted: at most ") != std::string::npos && known.back() == '\n', "what is known");
     return 0;

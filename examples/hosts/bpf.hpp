@@ -15,7 +15,7 @@ namespace bpf {
 
 using Bytes = std::vector<std::uint8_t>;
 
-/* Why nothing is loaded, proposed, hardened or certified: the image is refused, or a bound is above what the host pays for. */
+/* Why nothing is loaded, proposed, hardened, certified or converted: the image or the filter is refused, or a bound is above what the host pays for. */
 class Refused : public std::runtime_error {
 public:
     explicit Refused(const std::string &why) : std::runtime_error(why) {}
@@ -32,7 +32,8 @@ inline std::string refusal_text(const bpf_refusal &why) {
     char text[128];
     bpf_refusal_text(why.kind, why.number, text, sizeof text);
     return std::string("refused by ") + static_cast<char>(why.kind) + std::to_string(why.number) +
-           (why.kind == BPF_CERTIFICATE ? " at line " : " at slot ") + std::to_string(why.place) + ": " + text;
+           (why.kind == BPF_CERTIFICATE ? " at line " : why.kind == BPF_CLASSIC ? " at instruction " : " at slot ") + std::to_string(why.place) +
+           ": " + text;
 }
 
 /* Throws what an answer other than BPF_YES says: Refused, std::bad_alloc, or std::invalid_argument. */
@@ -125,6 +126,23 @@ inline Certified certify(const Bytes &image, bpf_order order, std::uint32_t size
     bpf_refusal why{};
     expect_yes(bpf_certify(image.data(), image.size(), order, size, wish, made.get(), made_room, text.get(), text_room, &told, &why), why);
     return {Bytes(made.get(), made.get() + told.image_len), Bytes(text.get(), text.get() + told.certificate_len), told};
+}
+
+/* An image that was made of a filter of classic BPF, its certificate, and the greatest number of instructions of a run. */
+struct Converted {
+    Bytes image, certificate;
+    std::uint32_t bound;
+};
+
+/* A filter of classic BPF, `count` instructions as pcap_compile makes them, as an image for contexts of `size` bytes; as in bpf_convert. Throws Refused,
+ * std::invalid_argument for a size that no context of the form has, and std::bad_alloc. */
+inline Converted convert(const void *filter, std::size_t count, bpf_form form, std::uint32_t size, bpf_order order) {
+    const std::size_t made_room = BPF_IMAGE_MOST, text_room = bpf_convert_size(count);
+    const std::unique_ptr<char[]> made(new char[made_room]), text(new char[text_room]);
+    bpf_converted told;
+    bpf_refusal why{};
+    expect_yes(bpf_convert(filter, count, form, size, order, made.get(), made_room, text.get(), text_room, &told, &why), why);
+    return {Bytes(made.get(), made.get() + told.image_len), Bytes(text.get(), text.get() + told.certificate_len), told.bound};
 }
 
 /* What is known of an image under a certificate, or why one of the two is refused: the words of `bpf explain`. Throws

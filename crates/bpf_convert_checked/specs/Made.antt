@@ -32,6 +32,7 @@ pub record IsMade (raws : List Raw) (form : Form) (length : ℕ) (order : Order)
   pub form_is : made.converted.layout.form ≡ form
   pub length_is : made.converted.layout.length ≡ length
   pub order_is : made.converted.layout.order ≡ order
+  pub runs_in : made.converted.program.order ≡ order
   pub answers : KeepsAnswers (filter_of raws) made.converted.layout made.converted.program
   pub certified : IsCertifiedBy made.converted.program made.certificate
   pub least : made.certificate.least ≡ length

@@ -63,6 +63,7 @@ fn program_of(
     requires { length ≤ max_context }
     ensures answers { IfOk result (λ c. KeepsAnswers filter.now.list c.layout c.program) }
     ensures layout { IfOk result (λ c. (c.layout.form ≡ form) × (c.layout.length ≡ length) × (c.layout.order ≡ order)) }
+    ensures order { IfOk result (λ c. c.program.order ≡ order) }
     ensures err { IfErr result (λ e. (e ≡ Memory) ⊎ (e ≡ Uncertified)) }
 {
     match convert(alloc, filter, form, length, order) {

@@ -1,5 +1,5 @@
 //! The checker, the machine and the inferrer for hosts in C and in Rust. `include/bpf.h` declares these calls, and hands
-//! over no pointer that is null. Each is one call of `bpf_host_runs` or `bpf_host_advice`, and promises what that one does.
+//! over no pointer that is null. Each is one call of `bpf_host_runs`, `bpf_host_convert` or `bpf_host_advice`, and promises what that one does.
 #![tactic(auto)]
 
 ghost use Rattle.std.specs.Prelude.{◌≡◌, ◌≢◌, ◌==◌, ◌++◌, ◌⊎◌, ◌↔◌, ◌<◌, ◌≤◌, ◌+◌, ◌*◌, ◌%◌, List, length, take, drop};
@@ -21,10 +21,12 @@ ghost use Rattle.bpf_host_advice.specs.Followed.{IsFollowed, IsNotFollowed};
 ghost use Rattle.bpf_host_runs.specs.declared.answers.TheConstants.{YES, NO, NO_MEMORY, BAD_CALL, TOO_SMALL, TOO_LONG, BAD_LENGTH, BAD_WORDS};
 
 mod certifying;
+mod converting;
 mod explaining;
 
 use bpf_host_runs::{BpfOutcome, BpfRefusal, BpfVerdict};
 pub use certifying::bpf_host_certify;
+pub use converting::{bpf_host_convert, bpf_host_convert_size};
 pub use explaining::{bpf_host_explain, bpf_host_explain_image, bpf_host_explain_search};
 use std::alloc::Global;
 

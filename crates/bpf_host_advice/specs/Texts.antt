@@ -8,6 +8,7 @@ use Rattle.bpf_cert.specs.RefusalNumbers.{certificate_texts}
 use Rattle.bpf_infer_error.specs.RefusalNumbers.{infer_texts}
 use Rattle.bpf_harden_notes.specs.RefusalNumbers.{harden_texts}
 use Rattle.bpf_follows_notes.specs.Refused.{mismatch_texts}
+use Rattle.bpf_host_convert.specs.Texts.{conversion_texts}
 
 -- why a program isn't hardened or certified, H1 to H15
 abbrev pub hardening_texts : List (List ℕ)
@@ -26,18 +27,18 @@ notes_texts =
     codes "out of memory" ∷
     []
 
--- the kind is the letter C, E, F, H, I, K, M or N; nothing where there is no such refusal
+-- the kind is the letter B, C, E, F, H, I, K, M or N; nothing where there is no such refusal
 abbrev pub texts_of : ℕ → List (List ℕ)
 texts_of kind =
-    if kind == 67 then condition_texts else if kind == 69 then image_texts else if kind == 70 then reason_texts else if kind == 72 then hardening_texts
+    if kind == 66 then conversion_texts else if kind == 67 then condition_texts else if kind == 69 then image_texts else if kind == 70 then reason_texts else if kind == 72 then hardening_texts
     else if kind == 73 then infer_texts else if kind == 75 then certificate_texts else if kind == 77 then mismatch_texts else if kind == 78 then notes_texts else []
 
 abbrev pub refusal_text : (kind number : ℕ) → List ℕ
 refusal_text kind number = get_or (texts_of kind) number []
 
--- how many refusals or faults of a kind there are: C1 to C13, E1 to E10, F1 to F9, H1 to H15, I1 to I5, K1 to K5, M1 to M7, N1 and N2
+-- how many refusals or faults of a kind there are: B1 to B10, C1 to C13, E1 to E10, F1 to F9, H1 to H15, I1 to I5, K1 to K5, M1 to M7, N1 and N2
 abbrev pub greatest_number : ℕ → ℕ
-greatest_number kind = if kind == 67 then 13 else if kind == 69 then 10 else if kind == 70 then 9 else if kind == 72 then 15 else if kind == 73 then 5 else if kind == 75 then 5 else if kind == 77 then 7 else if kind == 78 then 2 else 0
+greatest_number kind = if kind == 66 then 10 else if kind == 67 then 13 else if kind == 69 then 10 else if kind == 70 then 9 else if kind == 72 then 15 else if kind == 73 then 5 else if kind == 75 then 5 else if kind == 77 then 7 else if kind == 78 then 2 else 0
 
 abbrev pub IsNumbered : ℕ → ℕ → Type 0
 IsNumbered kind number = (1 ≤ number) × (number ≤ greatest_number kind)

@@ -6,6 +6,7 @@ ghost use Rattle.bpf_host_advice.specs.Texts.{refusal_text, answer_text, hardeni
 use bpf_cert::CertError;
 use bpf_follows_notes::mismatch_text;
 use bpf_harden_notes::HardenError;
+use bpf_host_convert::conversion_text;
 use bpf_infer::InferError;
 use bpf_insn::DecodeError;
 use bpf_semantics::Reason;
@@ -45,6 +46,7 @@ fn sentence(kind: u32, number: u32) -> Option<&'static str>
     ensures words { MatchOption result (refusal_text kind number ≡ []) (λ text. text.now ≡ refusal_text kind number) }
 {
     match kind {
+        66 => conversion_text(number),
         67 => Condition::text_numbered(number),
         69 => DecodeError::text_numbered(number),
         70 => Reason::text_numbered(number),

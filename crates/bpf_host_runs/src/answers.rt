@@ -42,11 +42,12 @@ pub struct BpfVerdict {
 #[repr(C)]
 #[derive(Clone, Copy)]
 pub struct BpfRefusal {
-    /// The letter of the refusal: E (an image), K (a certificate), C (a program by its certificate), I (an inference) or H (a hardening).
+    /// The letter of the refusal: E (an image), K (a certificate), C (a program by its certificate), I (an inference), H (a hardening), M and N (notes) or B
+    /// (a filter of classic BPF).
     pub kind: u32,
     /// Its number, from 1.
     pub number: u32,
-    /// The slot that is named, from 0 to 65,535; of K the line, from 1.
+    /// The slot that is named, from 0 to 65,535; of K and N the line, from 1; of B the instruction, from 0.
     pub place: u64,
     /// Of I4 and H7 the number of the checker's condition, from 3 to 12; else 0.
     pub condition: u64,

@@ -20,7 +20,7 @@ pub struct Verdict {
     pub bound: u32,
 }
 
-/// Why an image or a certificate is refused: a letter, a number, and a slot, or of a certificate a line.
+/// Why something is refused: a letter, a number, and a slot; of a certificate a line, and of a filter of classic BPF an instruction.
 #[repr(C)]
 #[derive(Clone, Copy, Debug, Default)]
 pub struct Refusal {
@@ -94,6 +94,21 @@ unsafe extern "C" {
         told: &mut Told,
         refusal: &mut Refusal,
     ) -> i32;
+    fn bpf_host_convert_size(count: usize) -> usize;
+    fn bpf_host_convert(
+        filter: *const u8,
+        filter_len: usize,
+        filter_order: u32,
+        form: u32,
+        size: u32,
+        order: u32,
+        made: *mut u8,
+        made_len: usize,
+        text: *mut u8,
+        text_len: usize,
+        told: &mut ToldConverted,
+        refusal: &mut Refusal,
+    ) -> i32;
     fn bpf_host_explain_size(image_len: usize, certificate_len: usize, lines_len: usize) -> usize;
     fn bpf_host_explain(
         image: *const u8,
@@ -115,7 +130,7 @@ unsafe extern "C" {
 }
 
 /// The version of the library that these functions are of, as BPF_HOST_VERSION of bpf.h.
-pub const VERSION: u32 = 200;
+pub const VERSION: u32 = 300;
 
 /// `struct bpf_wish` of bpf.h.
 #[repr(C)]
@@ -140,6 +155,15 @@ struct Told {
     is_shown: u32,
 }
 
+/// `struct bpf_converted` of bpf.h.
+#[repr(C)]
+#[derive(Default)]
+struct ToldConverted {
+    image_len: usize,
+    certificate_len: usize,
+    bound: u32,
+}
+
 /// The library's answers.
 const YES: i32 = 1;
 const NO: i32 = 0;
@@ -156,7 +180,11 @@ impl fmt::Display for Refusal {
         let len =
             unsafe { bpf_host_refusal_text(self.kind, self.number, text.as_mut_ptr(), text.len()) };
         let kind = char::from_u32(self.kind).unwrap_or('?');
-        let place = if kind == 'K' { "line" } else { "slot" };
+        let place = match kind {
+            'B' => "instruction",
+            'K' => "line",
+            _ => "slot",
+        };
         let words = String::from_utf8_lossy(&text[..len.min(text.len())]);
         write!(
             f,
@@ -166,7 +194,7 @@ impl fmt::Display for Refusal {
     }
 }
 
-/// Why nothing is loaded, proposed, hardened, certified or explained.
+/// Why nothing is loaded, proposed, hardened, certified, converted or explained.
 #[derive(Clone, Copy, Debug)]
 pub enum Error {
     Refused(Refusal),
@@ -505,6 +533,83 @@ pub fn certify(image: &[u8], order: Order, size: u32, wish: &Wish) -> Result<Cer
             untouched: told.untouched,
             is_shown: told.is_shown == 1,
         }),
+    })
+}
+
+/// An instruction of classic BPF, as `struct sock_filter` and pcap_compile have it.
+#[repr(C)]
+#[derive(Clone, Copy, Debug, PartialEq, Eq)]
+pub struct Instruction {
+    pub code: u16,
+    pub jt: u8,
+    pub jf: u8,
+    pub k: u32,
+}
+
+/// The form of the contexts that a filter of classic BPF is converted for.
+#[derive(Clone, Copy, Debug)]
+pub enum Form {
+    /// A packet's length in eight bytes, in the image's order, the packet, as much of it as fits, and anything.
+    Blocks = 0,
+    /// The packet alone.
+    Plain = 1,
+    /// `struct seccomp_data`, 64 bytes.
+    Seccomp = 2,
+}
+
+/// An image that was made of a filter of classic BPF, with a certificate.
+#[derive(Clone, Debug)]
+pub struct Converted {
+    pub image: Vec<u8>,
+    pub certificate: Vec<u8>,
+    /// The greatest number of instructions of a run.
+    pub bound: u32,
+}
+
+/// A filter of classic BPF as an image for contexts of `size` bytes, which ends with what the filter answers.
+pub fn convert(
+    filter: &[Instruction],
+    form: Form,
+    size: u32,
+    order: Order,
+) -> Result<Converted, Error> {
+    same_version()?;
+    let here = u32::from(cfg!(target_endian = "big"));
+    // SAFETY: a number goes in and a number comes back.
+    let text_room = unsafe { bpf_host_convert_size(filter.len()) };
+    let (mut made, mut text) = (room_for(IMAGE_MOST)?, room_for(text_room)?);
+    let (mut told, mut refusal) = (ToldConverted::default(), Refusal::default());
+    // SAFETY: the pointers and lengths are those of a slice, whose items have no padding, and of vectors' room.
+    let answer = unsafe {
+        bpf_host_convert(
+            filter.as_ptr().cast(),
+            size_of_val(filter),
+            here,
+            form as u32,
+            size,
+            order as u32,
+            made.as_mut_ptr(),
+            made.capacity(),
+            text.as_mut_ptr(),
+            text.capacity(),
+            &mut told,
+            &mut refusal,
+        )
+    };
+    if answer != YES {
+        return Err(Error::of(answer, refusal));
+    }
+    // SAFETY: the library wrote so many bytes of each, and no more than there is room for.
+    unsafe {
+        made.set_len(told.image_len);
+        text.set_len(told.certificate_len);
+    }
+    made.shrink_to_fit();
+    text.shrink_to_fit();
+    Ok(Converted {
+        image: made,
+        certificate: text,
+        bound: told.bound,
     })
 }
 

@@ -1,6 +1,9 @@
 //! The filters of examples/c, loaded and run.
 
-use bpf::{Error, Filter, Hardening, Order, Rewriting, Wish, certify, explain, harden, infer};
+use bpf::{
+    Error, Filter, Form, Hardening, Instruction, Order, Rewriting, Wish, certify, convert, explain,
+    harden, infer,
+};
 use std::num::NonZeroU32;
 
 const PORT: (&[u8], &[u8]) = (
@@ -161,4 +164,32 @@ fn certifies_images() {
         why.to_string().starts_with("refused by H14 at slot 0: "),
         "{why}"
     );
+}
+
+#[test]
+fn converts_filters() {
+    // `ip`, as tcpdump compiles it for Ethernet.
+    let ip = [
+        (0x28, 0, 0, 12),
+        (0x15, 0, 1, 0x800),
+        (6, 0, 0, 262_144),
+        (6, 0, 0, 0),
+    ]
+    .map(|(code, jt, jf, k)| Instruction { code, jt, jf, k });
+    let made = convert(&ip, Form::Blocks, 128, Order::Little).unwrap();
+    let filter = Filter::load(&made.image, &made.certificate, Order::Little, made.bound).unwrap();
+    assert_eq!(filter.run(&block_of(&frame_to(443))), Some(262_144));
+    assert_eq!(filter.run(&block_of(&[0; 60])), Some(0));
+    let why = convert(&ip[..3], Form::Blocks, 128, Order::Little).unwrap_err();
+    assert!(
+        why.to_string()
+            .starts_with("refused by B5 at instruction 1: it leads past"),
+        "{why}"
+    );
+    assert!(matches!(
+        convert(&ip, Form::Seccomp, 63, Order::Little),
+        Err(Error::Answer(-2))
+    ));
+    let seccomp = convert(&ip[2..3], Form::Seccomp, 64, Order::Big).unwrap();
+    assert_eq!(seccomp.bound, 2);
 }

@@ -1,0 +1,58 @@
+//! The calls that convert filters of classic BPF.
+
+ghost use Rattle.std.specs.Prelude.{◌≡◌, ◌⊎◌, ◌↔◌, ◌<◌, false};
+ghost use Rattle.bpf_host_runs.specs.Told.{order_named};
+ghost use Rattle.bpf_host_convert.specs.Forms.{form_named, may_have};
+ghost use Rattle.bpf_host_convert.specs.Converted.{GivesConverted, IsNotConverted, WantsConvertedRoom};
+ghost use Rattle.bpf_host_convert.specs.Sizes.{convert_size};
+ghost use Rattle.bpf_host_runs.specs.declared.answers.TheConstants.{YES, NO, NO_MEMORY, BAD_CALL, TOO_SMALL};
+
+use bpf_host_convert::BpfConverted;
+use bpf_host_runs::BpfRefusal;
+use std::alloc::Global;
+
+/// `convert_size` of `bpf_host_convert`, for C.
+#[unsafe(no_mangle)]
+pub extern "C" fn bpf_host_convert_size(count: usize) -> usize
+    ensures { result ≡ convert_size count }
+{
+    bpf_host_convert::convert_size(count)
+}
+
+/// `convert` of `bpf_host_convert`, for C.
+#[unsafe(no_mangle)]
+pub extern "C" fn bpf_host_convert(
+    alloc: Global,
+    filter: &[u8],
+    filter_order: u32,
+    form: u32,
+    size: u32,
+    order: u32,
+    made: &mut [u8],
+    text: &mut [u8],
+    converted: &mut BpfConverted,
+    refusal: &mut BpfRefusal,
+) -> i32
+    ensures given { result ≡ YES → GivesConverted (order_named filter_order) filter.now (form_named form) size (order_named order) converted.new made.old made.new text.old text.new }
+    ensures small { result ≡ TOO_SMALL → WantsConvertedRoom (order_named filter_order) filter.now (form_named form) size (order_named order) converted.new made.old text.old }
+    ensures refused { result ≡ NO → IsNotConverted (order_named filter_order) filter.now (form_named form) refusal.new }
+    ensures call { (result ≡ BAD_CALL) ↔ ((1 < filter_order) ⊎ ((1 < order) ⊎ ((2 < form) ⊎ (may_have (form_named form) size ≡ false)))) }
+    ensures answers { (result ≡ YES) ⊎ (result ≡ NO) ⊎ (result ≡ NO_MEMORY) ⊎ (result ≡ BAD_CALL) ⊎ (result ≡ TOO_SMALL) }
+    ensures made_kept { (result ≡ YES) ⊎ (made.new ≡ made.old) }
+    ensures text_kept { (result ≡ YES) ⊎ (text.new ≡ text.old) }
+    ensures converted_kept { (result ≡ YES) ⊎ (result ≡ TOO_SMALL) ⊎ (converted.new ≡ converted.old) }
+    ensures refusal_kept { (result ≡ NO) ⊎ (refusal.new ≡ refusal.old) }
+{
+    bpf_host_convert::convert(
+        alloc,
+        filter,
+        filter_order,
+        form,
+        size,
+        order,
+        made,
+        text,
+        converted,
+        refusal,
+    )
+}

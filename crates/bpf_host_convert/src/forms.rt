@@ -1,0 +1,39 @@
+//! Which contexts are asked for, by numbers.
+
+ghost use Rattle.std.specs.Prelude.{◌≡◌, ◌<◌, ◌≤◌, true, IfSome, IfNone};
+ghost use Rattle.bpf_insn.specs.Limits.{max_context};
+ghost use Rattle.bpf_host_convert.specs.Forms.{form_named, may_have};
+
+use bpf_convert::Form;
+use bpf_insn::MAX_CONTEXT;
+
+/// The bytes in front of a packet that tell its length.
+const HEAD: u32 = 8;
+
+/// The bytes of `struct seccomp_data`.
+const SECCOMP_DATA: u32 = 64;
+
+/// The form with a number: 0 blocks, 1 packets, 2 seccomp's.
+pub(crate) fn form_of(form: u32) -> Option<Form>
+    ensures named { IfSome result (λ f. (f ≡ form_named form) × (form ≤ 2)) }
+    ensures none { IfNone result (2 < form) }
+{
+    match form {
+        0 => Some(Form::Blocks),
+        1 => Some(Form::Plain),
+        2 => Some(Form::Seccomp),
+        _ => None,
+    }
+}
+
+/// Whether contexts of a form may have so many bytes.
+pub(crate) fn may_have(form: Form, size: u32) -> bool
+    ensures same { result ≡ may_have form size }
+    ensures short { result ≡ true → size ≤ max_context }
+{
+    match form {
+        Form::Blocks => size >= HEAD && size <= MAX_CONTEXT as u32,
+        Form::Plain => size <= MAX_CONTEXT as u32,
+        Form::Seccomp => size == SECCOMP_DATA,
+    }
+}
