@@ -9,7 +9,7 @@ mod infer;
 mod trace;
 
 pub use certify::certified;
-pub use convert::{conversion_conflict, convert, is_conversion_in_the_way};
+pub use convert::{conversion_conflict, converted, is_conversion_in_the_way};
 pub use explain::explained;
 pub use harden::hardened;
 pub use infer::inferred;

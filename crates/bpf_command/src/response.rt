@@ -11,7 +11,7 @@ ghost use Rattle.bpf_answers.specs.Told.{IsTold, Tells};
 use crate::advice::{after_failure, after_refusal};
 use crate::aside::Aside;
 use crate::commands::{
-    Trace, certified, conversion_conflict, convert, explained, hardened, inferred,
+    Trace, certified, conversion_conflict, converted, explained, hardened, inferred,
     is_conversion_in_the_way,
 };
 use crate::shown::tell_mistake;
@@ -367,7 +367,7 @@ fn carry_out<'a, P: Places, W: Write, H: Aside>(
         ),
         Request::Harden(asked) => hardened(alloc, places, out, &*aside, asked),
         Request::Certify(asked) => certified(alloc, places, out, &*aside, asked),
-        Request::Convert(asked) => convert(alloc, places, out, &*aside, asked),
+        Request::Convert(asked) => converted(alloc, places, out, &*aside, asked),
         Request::Follows(asked) => followed(alloc, places, out, asked),
         Request::Explain {
             input,

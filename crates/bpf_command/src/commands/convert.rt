@@ -9,7 +9,7 @@ ghost use Rattle.bpf_command.specs.Conversion.{IsConversionInTheWay, conversion_
 use crate::aside::Aside;
 use crate::sentences::tell_sentence;
 use bpf_answers::Failure;
-use bpf_command_convert::{Teller, Unconvertible, converted};
+use bpf_command_convert::{Teller, Unconvertible};
 use bpf_places::Places;
 use bpf_request::Converting;
 use std::alloc::{AllocError, Global};
@@ -72,7 +72,7 @@ impl<'a, H: Aside> Teller for Sentences<'a, H> {
 }
 
 /// Writes the image of a filter and its certificate. Of a refusal the sentence stands on standard error.
-pub fn convert<'a, P: Places, W: Write, H: Aside>(
+pub fn converted<'a, P: Places, W: Write, H: Aside>(
     alloc: Global,
     places: &mut P,
     out: &mut W,
@@ -86,5 +86,5 @@ pub fn convert<'a, P: Places, W: Write, H: Aside>(
         (W.contents out.old) (W.contents out.new)) }
     ensures names { IfErr result (λ _. NotConverted P.opens (pairing P.creates P.ends P.Writer.contents) places.old asked.entry places.new) }
 {
-    converted(alloc, places, out, &Sentences(aside), asked)
+    bpf_command_convert::converted(alloc, places, out, &Sentences(aside), asked)
 }

@@ -34,13 +34,13 @@ pub returns-in-Certify-clause-names : goal.returns-in-Certify-clause-names
 returns-in-Certify-clause-names g c = rw c.in-Certify.is c.certified.ensures.names
 
 pub returns-in-Convert-clause-ok : goal.returns-in-Convert-clause-ok
-returns-in-Convert-clause-ok g c = rw c.in-Convert.is c.convert.ensures.ok
+returns-in-Convert-clause-ok g c = rw c.in-Convert.is c.converted.ensures.ok
 
 pub returns-in-Convert-clause-err : goal.returns-in-Convert-clause-err
-returns-in-Convert-clause-err g c = rw c.in-Convert.is c.convert.ensures.err
+returns-in-Convert-clause-err g c = rw c.in-Convert.is c.converted.ensures.err
 
 pub returns-in-Convert-clause-begun : goal.returns-in-Convert-clause-begun
-returns-in-Convert-clause-begun g c = rw c.in-Convert.is c.convert.ensures.begun
+returns-in-Convert-clause-begun g c = rw c.in-Convert.is c.converted.ensures.begun
 
 pub returns-in-Convert-clause-names : goal.returns-in-Convert-clause-names
-returns-in-Convert-clause-names g c = rw c.in-Convert.is c.convert.ensures.names
+returns-in-Convert-clause-names g c = rw c.in-Convert.is c.converted.ensures.names
