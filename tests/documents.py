@@ -88,7 +88,7 @@ def main():
     clang = subprocess.run(['clang', '--version'], capture_output=True, text=True).stdout if shutil.which('clang') else ''
     has_clang = clang.startswith(kept.rstrip('\n'))
     known += 'clang' * has_clang
-    for name in ('README.md', 'docs/GUIDE.md', 'docs/HOSTS.md', 'docs/COMMAND.md', 'docs/EXPLAIN.md', 'docs/CHECKER.md'):
+    for name in ('README.md', 'docs/GUIDE.md', 'docs/HOSTS.md', 'docs/COMMAND.md', 'docs/EXPLAIN.md', 'docs/CHECKER.md', 'docs/CLASSIC.md', 'docs/SECCOMP.md'):
         if name == 'docs/GUIDE.md' and not has_clang:
             print(f'documents: {name} is left out: its images are by {kept}', end='')
             continue

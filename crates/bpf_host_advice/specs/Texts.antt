@@ -47,7 +47,7 @@ IsNumbered kind number = (1 ≤ number) × (number ≤ greatest_number kind)
 abbrev pub answer_texts : List (List ℕ)
 answer_texts =
     codes "out of memory" ∷
-    codes "a number is none that the call takes: the order, a length, a switch of 0 or 1, or the aspect; or the source lines are no table" ∷
+    codes "a number is none that the call takes: the order, a length, the form, a switch of 0 or 1, or the aspect; or the source lines are no table" ∷
     codes "the memory for the answer is too small" ∷
     codes "a run may take more instructions than are paid for" ∷
     codes "the context has a length for which the image isn't run" ∷

@@ -78,7 +78,7 @@ pub(crate) fn answer_words(answer: i32) -> &'static [u8]
     let text = match answer {
         -1 => "out of memory",
         -2 =>
-            "a number is none that the call takes: the order, a length, a switch of 0 or 1, or the aspect; or the source lines are no table",
+            "a number is none that the call takes: the order, a length, the form, a switch of 0 or 1, or the aspect; or the source lines are no table",
         -3 => "the memory for the answer is too small",
         -4 => "a run may take more instructions than are paid for",
         -5 => "the context has a length for which the image isn't run",
