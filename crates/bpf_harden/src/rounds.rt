@@ -126,14 +126,13 @@ impl<'a> Rounds<'a> {
     }
 
     /// Takes the tests away that never hold, and folds offsets that are always the same; where there is nothing of these, loosens
-    /// guards. Whether there was something. Tests against a packet's own end stay as they are.
+    /// guards. Whether there was something.
     fn trim(&mut self, trial: &Trial) -> bool {
         let old = self.old;
         let mender = Mender { old, trial };
-        let may_change = !self.plan.options.padded;
-        let is_slimmer = may_change && slim(&mut self.plan, trial);
+        let is_slimmer = slim(&mut self.plan, trial);
         let is_folded = mender.fold(&mut self.plan);
-        is_slimmer || is_folded || may_change && mender.loosen(&mut self.plan)
+        is_slimmer || is_folded || mender.loosen(&mut self.plan)
     }
 
     /// The last of the trimmed texts that has a certificate.
