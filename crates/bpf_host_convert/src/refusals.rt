@@ -3,9 +3,11 @@
 ghost use Rattle.std.specs.Prelude.{◌≡◌};
 ghost use Rattle.bpf_host_convert.specs.Told.{TellsFilter, TellsConversion};
 
-use bpf_classic::Refusal;
 use bpf_convert_checked::ConvertError;
 use bpf_host_runs::{BpfRefusal, letter};
+
+/// The number of the refusal where memory ran out.
+const NO_MEMORY: u8 = 9;
 
 /// Why no image is made of a filter.
 #[derive(Clone, Copy)]
@@ -32,8 +34,9 @@ pub(crate) fn of_filter(number: u32, place: u64) -> BpfRefusal
 pub(crate) fn of_conversion(error: ConvertError) -> Unmade
     ensures { TellsConversion error result }
 {
-    match error {
-        ConvertError::Memory | ConvertError::Filter(Refusal::Memory) => Unmade::Memory,
-        _ => Unmade::Refused(of_filter(u32::from(error.number()), u64::from(error.place()))),
+    let number = error.number();
+    if number == NO_MEMORY {
+        return Unmade::Memory;
     }
+    Unmade::Refused(of_filter(u32::from(number), u64::from(error.place())))
 }
