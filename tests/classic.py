@@ -3,8 +3,8 @@
 
 COUNT random filters (1,000 if not said) of every instruction, some of them faulty: what `bpf convert` makes of each answers what the
 definition says, which is written once more below, and a faulty one is refused at its lowest instruction with a fault. They are of each form
-of contexts, in both orders of bytes, and spelled in each way. With --program they go through one process of the program of
-crates/bpf_convert_tests.
+of contexts, in both orders of bytes, and spelled in each way. With --program they go through the built program of
+crates/bpf_convert_tests, BATCH in each process.
 """
 import os
 import pathlib
@@ -13,8 +13,9 @@ import struct
 import subprocess
 import sys
 import tempfile
-from concurrent.futures import ThreadPoolExecutor
+from concurrent.futures import ProcessPoolExecutor, ThreadPoolExecutor
 
+BATCH = 500
 WORD = 0xffffffff
 FORMS = {'blocks': [], 'plain': ['--plain'], 'seccomp': ['--seccomp']}
 ADD, SUB, MUL, DIV, OR, AND, LSH, RSH, NEG, MOD, XOR = range(11)
@@ -216,10 +217,10 @@ def converted(bpf, form, filter, length, packets, big=False, spelling='ddd'):
         data, options = spelled(spelling, filter, big)
         pathlib.Path(given).write_bytes(data)
         pathlib.Path(lines).write_text(''.join((block_of(form, it, length, big) or 'none') + '\n' for it in packets))
-        made = subprocess.run([bpf, 'convert', *order, given, str(length), f'{room}/i', f'{room}/c', *FORMS[form], *options], capture_output=True, text=True, timeout=60)
+        made = subprocess.run([bpf, 'convert', *order, given, str(length), f'{room}/i', f'{room}/c', *FORMS[form], *options], capture_output=True, text=True, timeout=300)
         if made.returncode:
             return made.stdout.strip() or made.stderr.strip()
-        ran = subprocess.run([bpf, 'run-checked', *order, f'{room}/i', f'{room}/c', '--contexts', lines], capture_output=True, text=True, timeout=60)
+        ran = subprocess.run([bpf, 'run-checked', *order, f'{room}/i', f'{room}/c', '--contexts', lines], capture_output=True, text=True, timeout=300)
         return [int(it.split()[1]) if it.startswith('done ') else it for it in ran.stdout.splitlines()] or ran.stderr
 
 
@@ -250,7 +251,7 @@ def by_command(bpf, seeds):
         return [it for it in pool.map(lambda seed: differs(bpf, seed), seeds) if it]
 
 
-def by_program(program, seeds):
+def batch(program, seeds):
     """The same by one process, which takes texts alone and makes little-endian images."""
     cases = [random_case(seed) for seed in seeds]
     given = ''
@@ -265,6 +266,12 @@ def by_program(program, seeds):
         if line != wanted:
             failed.append(f'seed {seed} ({form}, {length}):\n{text_of(filter)}want {wanted}\ngot  {line}')
     return failed
+
+
+def by_program(program, seeds):
+    batches = [seeds[at:at + BATCH] for at in range(0, len(seeds), BATCH)]
+    with ProcessPoolExecutor(os.cpu_count()) as pool:
+        return [it for failed in pool.map(batch, [program] * len(batches), batches) for it in failed]
 
 
 def main():

@@ -16,7 +16,7 @@ from classic import converted
 
 HERE = pathlib.Path(__file__).resolve().parent
 
-# ---- the examples of pcap-filter(7), with numbers in the place of names
+# ---- the examples of pcap-filter(7), with numbers in the place of names, and `gateway` as that page says it in other words
 
 EXAMPLES = """
 host 192.0.2.1
@@ -30,6 +30,9 @@ tcp port 80 and (((ip[2:2] - ((ip[0]&0xf)<<2)) - ((tcp[12]&0xf0)>>2)) != 0)
 ip[2:2] > 576
 ether[0] & 1 = 0 and ip[16] >= 224
 icmp[icmptype] != icmp-echo and icmp[icmptype] != icmp-echoreply
+icmp6[icmp6type] != icmp6-echo and icmp6[icmp6type] != icmp6-echoreply
+ether host 02:00:00:00:00:01 and not host 192.0.2.1 and (port 21 or 20)
+ether host 02:00:00:00:00:01 and not host 192.0.2.1 and ip[2:2] > 576
 src host 192.0.2.1
 dst port 53
 port 20
@@ -117,8 +120,8 @@ def packets_for(rng):
 
 def examples(bpf, room):
     """Whether the examples answer what libpcap says, where it is there."""
-    side = f'{room}/classic'
-    built = subprocess.run([os.environ.get('CC', 'cc'), '-O1', '-o', side, str(HERE / 'classic.c'), '-lpcap'], capture_output=True, text=True)
+    side = f'{room}/expressions'
+    built = subprocess.run([os.environ.get('CC', 'cc'), '-O1', '-o', side, str(HERE / 'expressions.c'), '-lpcap'], capture_output=True, text=True)
     if built.returncode:
         print("classic: libpcap isn't there, so the examples of pcap-filter(7) weren't tried")
         return True
