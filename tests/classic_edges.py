@@ -160,7 +160,7 @@ def misread(bpf, case):
     data, options, wanted = case
     with tempfile.TemporaryDirectory(prefix='bpf-classic-') as room:
         pathlib.Path(f'{room}/f').write_bytes(data)
-        made = subprocess.run([bpf, 'convert', f'{room}/f', '72', f'{room}/i', f'{room}/c', *options], capture_output=True, text=True, timeout=60)
+        made = subprocess.run([bpf, 'convert', f'{room}/f', '72', f'{room}/i', f'{room}/c', *options], capture_output=True, text=True, timeout=300)
         stands = [os.path.exists(f'{room}/{it}') for it in 'ic']
     said = made.stdout.strip()
     good = said.startswith(wanted) if wanted.startswith('yes') else said == wanted

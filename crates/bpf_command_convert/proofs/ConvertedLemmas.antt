@@ -10,13 +10,13 @@ use Rattle.bpf_request.specs.declared.converting.Converting.{Converting}
 use Rattle.bpf_places.specs.Opened.{Opening}
 use Rattle.bpf_answers.specs.Answer.{Answer, Answered, Says}
 use Rattle.bpf_answers.specs.Both.{Pairing, Put}
-use Rattle.bpf_answers.specs.Both.Put.{Both, Neither, FirstAlone}
+use Rattle.bpf_answers.specs.Both.Put.{Neither, FirstAlone}
 use Rattle.bpf_answers.specs.Loaded.{BytesAt}
 use Rattle.bpf_answers.specs.Told.{OutputFails}
 use Rattle.bpf_answers.specs.declared.certified.Certification.{Certification}
 use Rattle.bpf_answers.specs.declared.failure.Failure.{Failure}
 use Rattle.bpf_answers.specs.declared.failure.Failure.TheVariants.{CannotRead, CannotWrite, NoMemory}
-use Rattle.bpf_command_convert.specs.Converted.{Behind, ConvertFails, ConvertSays, Converts, FilterUnread, IsMadeOf, NotBoth, NotConverted, Stand, max_filter_text, told_of}
+use Rattle.bpf_command_convert.specs.Converted.{ConvertFails, Converts, FilterUnread, IsMadeOf, NotBoth, NotConverted, Stand, max_filter_text, told_of}
 
 -- an answer that was printed, of which this holds
 pub answered : {E : Type 0} (result : Result ℕ E) (before after : Option (List ℕ)) (answer : Answer) (says : Answer → Type 0)

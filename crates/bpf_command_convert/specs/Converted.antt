@@ -13,7 +13,6 @@ use Rattle.bpf_answers.specs.Both.Put.{Both, Neither, FirstAlone}
 use Rattle.bpf_answers.specs.Loaded.{BytesAt, TextAt, Tried}
 use Rattle.bpf_answers.specs.Told.{OutputFails}
 use Rattle.bpf_answers.specs.declared.certified.Certification.{Certification}
-use Rattle.bpf_answers.specs.declared.converted.Unconverted.{Unconverted}
 use Rattle.bpf_answers.specs.declared.failure.Failure.{Failure}
 use Rattle.bpf_answers.specs.declared.failure.Failure.TheVariants.{CannotRead, CannotWrite, NoMemory}
 use Rattle.bpf_command_convert.specs.declared.unconvertible.Unconvertible.{Unconvertible}

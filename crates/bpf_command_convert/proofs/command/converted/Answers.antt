@@ -1,11 +1,11 @@
-use Rattle.std.proofs.Common.{rules, ◌≡◌, IfErr, inr}
+use Rattle.std.proofs.Common.{rules, IfErr, inr}
 use Rattle.std.proofs.lemmas.Result.{err_from_is_err_and}
 use Rattle.bpf_answers.specs.Answer.Answer.{NotConverted as IsNotConverted, Certified as IsCertified}
 use Rattle.bpf_answers.specs.Both.{pairing}
 use Rattle.bpf_answers.specs.Both.Put.{Both}
 use Rattle.bpf_answers.specs.Loaded.{BytesAt}
 use Rattle.bpf_answers.proofs.MadeLemmas.{not_all_printed, on_failure}
-use Rattle.bpf_command_convert.specs.Converted.{IsMadeOf, IsUnconvertible, max_filter_text, told_of}
+use Rattle.bpf_command_convert.specs.Converted.{IsMadeOf, IsUnconvertible, max_filter_text}
 use Rattle.bpf_command_convert.proofs.ConvertedLemmas.{NotBothOf, answered, both_as, converts_of, puts_fail, puts_left, stands_as}
 use Rattle.bpf_command_convert.proofs.command.converted.Goals as goal
 
