@@ -1,20 +1,21 @@
 #!/usr/bin/env python3
-"""Filters of classic BPF, converted: classic.py BPF [COUNT]
+"""Random filters of classic BPF, converted: classic.py BPF [COUNT [SEED]], classic.py --program PROGRAM [COUNT [SEED]]
 
-First COUNT random filters (1,000 if not said) of every instruction, some of them faulty: what `bpf convert` makes of each is what the definition answers, which
-is written once more below, and a faulty one is refused at its lowest instruction with a fault. Then the examples of pcap-filter(7), where
-libpcap is there: what tcpdump, or libpcap itself, compiles them to answers what libpcap's own bpf_filter() does.
+COUNT random filters (1,000 if not said) of every instruction, some of them faulty: what `bpf convert` makes of each answers what the
+definition says, which is written once more below, and a faulty one is refused at its lowest instruction with a fault. They are of each form
+of contexts, in both orders of bytes, and spelled in each way. With --program they go through the built program of
+crates/bpf_convert_tests, BATCH in each process.
 """
 import os
 import pathlib
 import random
-import shutil
+import struct
 import subprocess
 import sys
 import tempfile
-from concurrent.futures import ThreadPoolExecutor
+from concurrent.futures import ProcessPoolExecutor, ThreadPoolExecutor
 
-HERE = pathlib.Path(__file__).resolve().parent
+BATCH = 500
 WORD = 0xffffffff
 FORMS = {'blocks': [], 'plain': ['--plain'], 'seccomp': ['--seccomp']}
 ADD, SUB, MUL, DIV, OR, AND, LSH, RSH, NEG, MOD, XOR = range(11)
@@ -156,214 +157,133 @@ def random_filter(rng, seccomp):
     return filter
 
 
+# ---- filters, spelled
+
 def text_of(filter):
     return f'{len(filter)}\n' + ''.join('%d %d %d %d\n' % it for it in filter)
 
 
-def block_of(form, packet, length):
-    """The context that holds a packet, in hexadecimal."""
+def rows_of(filter):
+    """Rows of C, as `tcpdump -dd` prints them."""
+    return ''.join('{ 0x%x, %d, %d, 0x%08x },\n' % it for it in filter)
+
+
+def structs_of(filter, big):
+    return b''.join(struct.pack('>HBBI' if big else '<HBBI', *it) for it in filter)
+
+
+def spelled(spelling, filter, big):
+    """The bytes of a filter, and the options that say what they are."""
+    if spelling == 'raw':
+        return structs_of(filter, big), ['--raw']
+    return (text_of if spelling == 'ddd' else rows_of)(filter).encode(), []
+
+
+# ---- what is made of a filter
+
+def block_of(form, packet, length, big=False):
+    """The context that holds a packet, in hexadecimal; of a pair the first number is the length that a block says."""
+    wire, packet = packet if isinstance(packet, tuple) else (len(packet), packet)
     if form == 'blocks':
-        return (len(packet).to_bytes(8, 'little') + packet)[:length].ljust(length, b'\xa5').hex()
+        return (wire.to_bytes(8, 'big' if big else 'little') + packet)[:length].ljust(length, b'\xa5').hex()
     return packet.ljust(length, b'\0')[:length].hex()
 
 
-def converted(bpf, form, filter, length, packets):
-    """What `bpf` says of a filter: the line of its refusal, or what its program answers on packets."""
+def wanted_of(form, filter, length, packets, big=False):
+    """What is to be said of a filter: the line of its refusal, or what it answers to the packets."""
+    seccomp = form == 'seccomp'
+    wrong = fault(filter, seccomp)
+    if wrong:
+        return 'no B%d at instruction %d' % wrong
+    if not filter:
+        return 'no B1 at instruction 0'
+    found, order = [], ('big' if big else 'little') if seccomp else 'big'
+    for it in packets:
+        context = bytes.fromhex(block_of(form, it, length, big))
+        if form == 'blocks':
+            wire = int.from_bytes(context[:8], 'big' if big else 'little')
+            context = context[8:][:wire]
+        else:
+            wire = length
+        found.append(answer(filter, context, wire, order, seccomp))
+    return found
+
+
+def converted(bpf, form, filter, length, packets, big=False, spelling='ddd'):
+    """What `bpf` says of a filter: the line of its refusal, or what its program answers to the packets."""
+    order = ['--big'] if big else []
     with tempfile.TemporaryDirectory(prefix='bpf-classic-') as room:
         given, lines = f'{room}/f', f'{room}/lines'
-        pathlib.Path(given).write_text(text_of(filter))
-        pathlib.Path(lines).write_text(''.join(block_of(form, it, length) + '\n' for it in packets))
-        made = subprocess.run([bpf, 'convert', given, str(length), f'{room}/i', f'{room}/c', *FORMS[form]], capture_output=True, text=True, timeout=60)
+        data, options = spelled(spelling, filter, big)
+        pathlib.Path(given).write_bytes(data)
+        pathlib.Path(lines).write_text(''.join((block_of(form, it, length, big) or 'none') + '\n' for it in packets))
+        made = subprocess.run([bpf, 'convert', *order, given, str(length), f'{room}/i', f'{room}/c', *FORMS[form], *options], capture_output=True, text=True, timeout=300)
         if made.returncode:
             return made.stdout.strip() or made.stderr.strip()
-        ran = subprocess.run([bpf, 'run-checked', f'{room}/i', f'{room}/c', '--contexts', lines], capture_output=True, text=True, timeout=60)
+        ran = subprocess.run([bpf, 'run-checked', *order, f'{room}/i', f'{room}/c', '--contexts', lines], capture_output=True, text=True, timeout=300)
         return [int(it.split()[1]) if it.startswith('done ') else it for it in ran.stdout.splitlines()] or ran.stderr
 
 
-def random_case(bpf, seed):
-    """How a random filter is answered otherwise than by the definition, if it is."""
+# ---- random filters on random packets
+
+def random_case(seed):
+    """A form of contexts, their length, a filter, and packets."""
     rng = random.Random(seed)
     form = rng.choice(list(FORMS))
     length = 64 if form == 'seccomp' else rng.choice([8, 9, 40, 72, 200]) if form == 'blocks' else rng.choice([0, 1, 34, 64, 100])
-    seccomp, filter = form == 'seccomp', random_filter(rng, form == 'seccomp')
+    filter = random_filter(rng, form == 'seccomp')
     most = 120 if form == 'blocks' else length
     packets = [bytes(rng.choice([0, 1, 6, 8, 64, 69, 255, rng.randrange(256)]) for _ in range(rng.randrange(most + 1) if form == 'blocks' else most)) for _ in range(12)]
-    wrong = fault(filter, seccomp)
-    if wrong:
-        wanted = 'no B%d at instruction %d' % wrong
-    else:
-        room = length - 8 if form == 'blocks' else length
-        wanted = [answer(filter, it[:room], len(it), 'little' if seccomp else 'big', seccomp) for it in packets]
-    said = converted(bpf, form, filter, length, packets)
-    return None if said == wanted else f'seed {seed} ({form}, {length}):\n{text_of(filter)}want {wanted}\ngot  {said}'
+    return form, length, filter, packets
 
 
-def random_filters(bpf, count):
+def differs(bpf, seed):
+    """How a random filter is answered otherwise than by the definition, if it is."""
+    form, length, filter, packets = random_case(seed)
+    big, spelling = seed % 3 == 1, ('ddd', 'dd', 'raw')[seed // 3 % 3]
+    wanted = wanted_of(form, filter, length, packets, big)
+    said = converted(bpf, form, filter, length, packets, big, spelling)
+    return None if said == wanted else f'seed {seed} ({form}, {length}{", big" * big}, {spelling}):\n{text_of(filter)}want {wanted}\ngot  {said}'
+
+
+def by_command(bpf, seeds):
     with ThreadPoolExecutor(os.cpu_count()) as pool:
-        failed = [it for it in pool.map(lambda seed: random_case(bpf, seed), range(count)) if it]
-    for it in failed[:3]:
-        print(it)
-    print(f'classic: {count - len(failed)} of {count} random filters answer as they are defined')
-    return not failed
+        return [it for it in pool.map(lambda seed: differs(bpf, seed), seeds) if it]
 
 
-# ---- the examples of pcap-filter(7), with numbers in the place of names
-
-EXAMPLES = """
-host 192.0.2.1
-host 192.0.2.1 and (192.0.2.5 or 198.51.100.7)
-ip host 192.0.2.1 and not 192.0.2.5
-net 192.0.2.0/24
-ip and not net 192.0.2.0/24
-tcp[tcpflags] & (tcp-syn|tcp-fin) != 0 and not src and dst net 192.0.2.0/24
-tcp[tcpflags] & (tcp-rst|tcp-ack) == (tcp-rst|tcp-ack)
-tcp port 80 and (((ip[2:2] - ((ip[0]&0xf)<<2)) - ((tcp[12]&0xf0)>>2)) != 0)
-ip[2:2] > 576
-ether[0] & 1 = 0 and ip[16] >= 224
-icmp[icmptype] != icmp-echo and icmp[icmptype] != icmp-echoreply
-src host 192.0.2.1
-dst port 53
-port 20
-portrange 6000-6008
-src or dst port 80
-tcp src port 80
-ip6 and udp
-arp
-rarp or arp host 192.0.2.1
-ether src 02:00:00:00:00:01
-ether broadcast
-ether multicast
-ip broadcast or ip multicast
-ip6 multicast
-vlan 300 and vlan 400 and tcp port 80
-vlan and ip
-mpls 100000 && mpls 1024 && host 192.0.2.1
-pppoes 0x27 && host 192.0.2.1
-geneve 0xb && ip proto 6
-less 64
-greater 128
-len > 100 and len % 4 = 0
-proto \\tcp and not port 22
-icmp6
-sctp portrange 1-99
-ip[0] & 0xf != 5
-ip[6:2] & 0x1fff = 0
-ip[8] < 5
-udp[4:2] - 8 > 100 and udp[8] * 3 = 9
-""".strip().splitlines()
-MACS = [bytes.fromhex(it) for it in ('020000000001', '020000000002', 'ffffffffffff', '01005e000001', '333300000001')]
-HOSTS = [bytes(it) for it in ((192, 0, 2, 1), (192, 0, 2, 5), (198, 51, 100, 7), (224, 0, 0, 5), (255, 255, 255, 255))]
-PORTS = [80, 53, 22, 20, 6005, 6081, 40000]
+def batch(program, seeds):
+    """The same by one process, which takes texts alone and makes little-endian images."""
+    cases = [random_case(seed) for seed in seeds]
+    given = ''
+    for form, length, filter, packets in cases:
+        words = ' '.join(it.hex() or 'none' for it in packets)
+        given += f'{form} {length} {text_of(filter).strip().replace(chr(10), "/").replace(" ", ",")} {words}\n'
+    said = subprocess.run([program], input=given, capture_output=True, text=True, timeout=600).stdout.splitlines()
+    failed = [f'{len(said)} answers to {len(cases)} filters'] if len(said) != len(cases) else []
+    for seed, (form, length, filter, packets), line in zip(seeds, cases, said):
+        wanted = wanted_of(form, filter, length, packets)
+        wanted = wanted.replace('no ', '').replace('instruction ', '') if isinstance(wanted, str) else ' '.join(map(str, ['yes', *wanted]))
+        if line != wanted:
+            failed.append(f'seed {seed} ({form}, {length}):\n{text_of(filter)}want {wanted}\ngot  {line}')
+    return failed
 
 
-def short(*numbers):
-    return b''.join(it.to_bytes(2, 'big') for it in numbers)
-
-
-def transport(rng):
-    """A protocol's number, and what stands behind an IP header."""
-    rest = bytes(rng.randrange(256) for _ in range(rng.choice([0, 1, 9, 60])))
-    ports = short(rng.choice(PORTS), rng.choice(PORTS))
-    return rng.choice([
-        (6, ports + bytes(8) + bytes([rng.choice([0x50, 0x80]), rng.choice([2, 0x10, 0x12, 0x14, 1])]) + bytes(6) + rest), (17, ports + short(8 + len(rest), 0) + rest),
-        (1, bytes([rng.choice([0, 3, 8]), 0]) + bytes(6) + rest), (58, bytes([rng.choice([128, 135]), 0]) + bytes(6) + rest), (132, ports + bytes(8) + rest), (47, rest)])
-
-
-def network(rng):
-    """A type, and what stands behind it."""
-    protocol, rest = transport(rng)
-    if rng.random() < .3:
-        return 0x86dd, b'\x60\0\0\0' + short(len(rest)) + bytes([protocol, 64]) + b'\xff\x02' + bytes(13) + b'\1' + b'\x20\x01' + bytes(13) + b'\2' + rest
-    if rng.random() < .15:
-        return rng.choice([0x806, 0x8035]), short(1, 0x800) + b'\6\4\0\1' + MACS[0] + rng.choice(HOSTS) + MACS[1] + rng.choice(HOSTS)
-    words = rng.choice([5, 5, 6, 15])
-    head = bytes([0x40 | words, 0]) + short(4 * words + len(rest), 7, rng.choice([0, 0, 0x4000, 100])) + bytes([rng.choice([1, 64]), protocol]) + short(0)
-    return 0x800, head + rng.choice(HOSTS) + rng.choice(HOSTS) + bytes(4 * (words - 5)) + rest
-
-
-def frame(rng):
-    kind, rest = network(rng)
-    if rng.random() < .2:
-        for tag in rng.sample([300, 400], rng.choice([1, 2])):
-            kind, rest = 0x8100, short(tag, kind) + rest
-    elif rng.random() < .1:
-        kind, rest = 0x8847, (100000 << 12).to_bytes(4, 'big') + (1024 << 12 | 0x100).to_bytes(4, 'big') + rest
-    elif rng.random() < .1:
-        kind, rest = 0x8864, b'\x11\0' + short(0x27, len(rest) + 2, 0x21) + rest
-    return rng.choice(MACS) + rng.choice(MACS) + short(kind) + rest
-
-
-def packets_for(rng):
-    """Frames, some with other bytes, some cut, and anything."""
-    for at in range(160):
-        packet = bytearray(frame(rng))
-        if at % 4 == 1:
-            packet[rng.randrange(len(packet))] = rng.randrange(256)
-        if at % 4 == 2:
-            del packet[rng.randrange(len(packet)):]
-        yield bytes(packet)
-    for size in (0, 1, 13, 14, 100, 300):
-        yield bytes(rng.randrange(256) for _ in range(size))
-
-
-def examples(bpf, room):
-    """Whether the examples answer what libpcap says, where it is there."""
-    side = f'{room}/classic'
-    built = subprocess.run([os.environ.get('CC', 'cc'), '-O1', '-o', side, str(HERE / 'classic.c'), '-lpcap'], capture_output=True, text=True)
-    if built.returncode:
-        print("classic: libpcap isn't there, so the examples of pcap-filter(7) weren't tried")
-        return True
-    tcpdump = shutil.which('tcpdump')
-    pcap = subprocess.Popen([side], stdin=subprocess.PIPE, stdout=subprocess.PIPE, text=True)
-
-    def asked(line):
-        pcap.stdin.write(line + '\n')
-        pcap.stdin.flush()
-        return pcap.stdout.readline().strip()
-
-    tried = runs = 0
-    failed = []
-    for expression in EXAMPLES:
-        rng = random.Random(expression)
-        if tcpdump:
-            made = subprocess.run([tcpdump, '-ddd', '-y', 'EN10MB', expression], capture_output=True, text=True)
-            text = made.stdout if made.returncode == 0 else ''
-        else:
-            said = asked(f'compile EN10MB {expression}')
-            text = '' if said == 'no' else said.replace('/', '\n')
-        if not text:
-            continue
-        tried += 1
-        filter = [tuple(map(int, line.split())) for line in text.splitlines()[1:]]
-        packets = list(packets_for(rng))
-        for length in (64, 256, 1522):
-            spelled = text.strip().replace('\n', '/')
-            wanted = [int(it) for it in asked_filter(asked, spelled, length - 8, packets)]
-            said = converted(bpf, 'blocks', filter, length, packets)
-            runs += len(packets)
-            if said != wanted:
-                failed.append(f'{expression} at {length}: want {str(wanted)[:200]}, got {str(said)[:200]}')
-    pcap.stdin.close()
-    pcap.wait()
-    for it in failed[:3]:
-        print(it)
-    by = 'tcpdump' if tcpdump else "libpcap (tcpdump isn't there)"
-    print(f'classic: {tried} examples of pcap-filter(7), compiled by {by}: {len(failed)} answer otherwise than libpcap, on {runs} runs')
-    return not failed and tried > 0
-
-
-def asked_filter(asked, spelled, room, packets):
-    words = ' '.join(it.hex() or 'none' for it in packets)
-    # The words of an instruction are apart by commas, for the line is cut at blanks.
-    return asked(f'filter {spelled.replace(" ", ",")} {room} {words}').split()
+def by_program(program, seeds):
+    batches = [seeds[at:at + BATCH] for at in range(0, len(seeds), BATCH)]
+    with ProcessPoolExecutor(os.cpu_count()) as pool:
+        return [it for failed in pool.map(batch, [program] * len(batches), batches) for it in failed]
 
 
 def main():
-    bpf = os.path.abspath(sys.argv[1])
-    count = int(sys.argv[2]) if len(sys.argv) > 2 else 1_000
-    with tempfile.TemporaryDirectory(prefix='bpf-classic-') as room:
-        good = random_filters(bpf, count) & examples(bpf, room)
-    return 0 if good else 1
+    words = sys.argv[1:]
+    way = by_program if words[0] == '--program' else by_command
+    tool, *rest = words[1:] if way is by_program else words
+    count, first = [int(it) for it in rest] + [1_000, 0][len(rest):]
+    failed = way(os.path.abspath(tool), range(first * count, (first + 1) * count))
+    for it in failed[:3]:
+        print(it)
+    print(f'classic: {count - len(failed)} of {count} random filters answer as they are defined')
+    return 1 if failed else 0
 
 
 if __name__ == '__main__':

@@ -54,6 +54,28 @@ KNOWN = {
     "comparisons are made round the counter": ["bpf_check/check-visits-with-a-second-work"],
 }
 
+# The mistakes of converters of classic BPF.
+CONVERTERS = {
+    "a load is refused a byte too early": ["bpf_convert/put_length_test-asks-for-one-byte-more"],
+    "a load reads a byte behind the packet": ["bpf_convert/put_length_test-lets-the-last-byte-be-missing"],
+    "a load by X reads behind the packet": ["bpf_convert/put_index-tests-where-the-load-begins"],
+    "halfwords aren't swapped": ["bpf_convert/put_swap-leaves-halfwords-as-they-lie"],
+    "a header's length has more than four bits": ["bpf_convert/put_header-takes-five-bits"],
+    "a header's length is counted in other words": ["bpf_convert/put_header-counts-in-eight-bytes"],
+    "an index is A in the place of X": ["bpf_convert/put_index-takes-a-for-x"],
+    "the opposite of greater lacks what is equal": ["bpf_convert/inverse-keeps-what-is-equal"],
+    "a test of bits leads where its opposite should": ["bpf_convert/inverse-takes-a-test-of-bits-for-its-opposite"],
+    "the ways of a test are exchanged": ["bpf_convert/put_if-exchanges-its-ways"],
+    "a test compares 64 bits": ["bpf_convert/put_if-compares-64-bits"],
+    "`tax` is forgotten": ["bpf_convert/put_plain-forgets-tax"],
+    "the length is that of what is there": ["bpf_convert/put_plain-counts-what-is-there"],
+    "a shift by 32 or more takes the low five bits": ["bpf_convert/put_alu-shifts-by-the-low-five-bits"],
+    "a division by 0 goes on": ["bpf_convert/put_alu-goes-on-after-a-division-by-0"],
+    "a length is known on one way, and believed on both": ["bpf_convert/leads_to-keeps-a-length-where-ways-meet"],
+    "an answer is a signed number": ["bpf_convert/put_plain-answers-a-signed-number"],
+    "two cells share a slot": ["bpf_convert/cell_offset-lays-two-cells-into-one-slot"],
+}
+
 # Each command, as bpf_words names it, and each call of the library for hosts, as bpf.h does.
 COMMANDS = {
     "asm": ["bpf_command_core/asm-empties-OUT-and-says-no-memory"],
@@ -214,7 +236,7 @@ def edits():
 
 def faults_of_lists(names):
     """What is wrong with the lists above, where these edits are there."""
-    listed = {name: why for table in (KNOWN, COMMANDS, CALLS) for why, them in table.items() for name in them}
+    listed = {name: why for table in (KNOWN, CONVERTERS, COMMANDS, CALLS) for why, them in table.items() for name in them}
     faults = [f"{name} is gone, and was tried for: {why}" for name, why in listed.items() if name not in names]
     header = set(re.findall(r"\b(bpf_host_\w+)\(", (ROOT / "include" / "bpf.h").read_text(encoding="utf-8")))
     for what, there, told in [("call of bpf.h", header, {*CALLS, *WITHOUT}), ("command", commands(), {*COMMANDS})]:

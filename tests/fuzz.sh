@@ -1,6 +1,6 @@
 #!/usr/bin/env bash
-# fuzz.sh SECONDS [SEED]: forces guards and counters on 10,000 programs and compares them with the old ones; then alters images, texts and
-# certificates of examples/ and holds the command's answers to its word.
+# fuzz.sh SECONDS [SEED]: forces guards and counters on 10,000 programs and compares them with the old ones; converts 10,000 filters of classic
+# BPF and compares them with the definition; then alters images, texts and certificates of examples/ and holds the command's answers to its word.
 set -eu
 root=$(cd "$(dirname "${BASH_SOURCE[0]}")/.." && pwd)
 bpf=${BPF:-$root/bpf}
@@ -11,5 +11,12 @@ if [ ! -x "$forced" ] && [ -n "${UNPROVED-}" ]; then
 else
     [ -x "$forced" ] || (cd "$root/crates/bpf_harden_tests" && rt run </dev/null) >/dev/null
     python3 "$root/tests/forced.py" "$bpf" "$forced" 10000 "$seed"
+fi
+converts=$root/crates/bpf_convert_tests/out/bpf_convert_tests
+if [ ! -x "$converts" ] && [ -n "${UNPROVED-}" ]; then
+    echo "fuzz: converted filters are left out: crates/bpf_convert_tests isn't built"
+else
+    [ -x "$converts" ] || (cd "$root/crates/bpf_convert_tests" && rt run </dev/null) >/dev/null
+    python3 "$root/tests/classic.py" --program "$converts" 10000 "$seed"
 fi
 exec python3 "$root/tests/fuzz.py" "$bpf" "$root/examples" "${1:?seconds}" "$seed"

@@ -4,6 +4,7 @@ use Rattle.bpf_insn.specs.Instruction.{Instructions}
 use Rattle.bpf_insn.specs.Image.{image}
 use Rattle.bpf_insn.specs.Limits.{max_context}
 use Rattle.bpf_cert.specs.Spelling.{certificate_text}
+use Rattle.bpf_cert.specs.View.{CertificateView}
 use Rattle.bpf_convert_checked.specs.declared.made.Made.{Made}
 use Rattle.bpf_request.specs.declared.converting.Converting.{Converting}
 use Rattle.bpf_places.specs.Opened.{Opening}
@@ -38,6 +39,17 @@ converts_of o old c new bytes made length told short read is_made same =
 pub stands_as : {S : Type 0} (b : Pairing S) (old : S) (c : Converting) (made : Made) (p : Instructions) (which : Put) (new : S) → p ≡ made.converted.program
     → b old c.output.now (image p.order p.list) c.certificate.now (certificate_text made.certificate) which new → Stand b old c made which new
 stands_as b old c made p which new same put = subst (λ q. b old c.output.now (image q.order q.list) c.certificate.now (certificate_text made.certificate) which new) same put
+
+-- neither stands of a program and a certificate, or CERT couldn't be finished
+abbrev pub NotBothOf : {S : Type 0} → Pairing S → S → Converting → Instructions → CertificateView → S → Failure → Type 0
+NotBothOf b old c p certificate new failure =
+    (((failure ≡ CannotWrite c.output) ⊎ ((failure ≡ CannotWrite c.certificate) ⊎ (failure ≡ NoMemory)))
+    × b old c.output.now (image p.order p.list) c.certificate.now (certificate_text certificate) Neither new)
+    ⊎ ((failure ≡ CannotWrite c.certificate) × b old c.output.now (image p.order p.list) c.certificate.now (certificate_text certificate) FirstAlone new)
+
+pub both_as : {S A : Type 0} (result : Result A Failure) (b : Pairing S) (old : S) (c : Converting) (made : Made) (p : Instructions) (new : S) → p ≡ made.converted.program
+    → IfErr result (NotBothOf b old c p made.certificate new) → IfErr result (NotBoth b old c made new)
+both_as result b old c made p new same fails = subst (λ q. IfErr result (NotBothOf b old c q made.certificate new)) same fails
 
 fails_by : {S : Type 0} (o : Opening S) (b : Pairing S) (old : S) (c : Converting) (between new : S) (made : Made) (told : Certification) (f : Failure)
     → Converts o old c between made told → NotBoth b between c made new f → ConvertFails o b old c new f

@@ -1,4 +1,4 @@
-/* classic: libpcap's side of tests/classic.py. A line of standard input is `compile LINK EXPRESSION`, which is answered by the text of
+/* expressions: libpcap's side of tests/expressions.py. A line of standard input is `compile LINK EXPRESSION`, which is answered by the text of
  * `tcpdump -ddd` with `/` for the ends of lines, or `no`; or `filter TEXT ROOM HEX..`, which is answered by what bpf_filter() says of each packet
  * of which ROOM bytes are there (`none` is an empty one). */
 #include <pcap/pcap.h>
