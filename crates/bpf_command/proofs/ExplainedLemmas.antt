@@ -5,7 +5,7 @@ use Rattle.bpf_insn.specs.Limits.{max_context}
 use Rattle.bpf_insn.specs.declared.order.Order.{Order}
 use Rattle.bpf_cert.specs.View.{CertificateView}
 use Rattle.bpf_safety.specs.Certified.{IsLeastFlaw}
-use Rattle.bpf_check.specs.CheckedProgram.{CheckedProgram, IsCertifiedBy}
+use Rattle.bpf_check.specs.CheckedProgram.{IsCertifiedBy}
 use Rattle.bpf_check.specs.RefusalNumbers.{refusal_number, refusal_slot}
 use Rattle.bpf_check.specs.declared.refusal.Refusal.{Refusal}
 use Rattle.bpf_follows_law.specs.Meaning.{KeepsMeaning}
