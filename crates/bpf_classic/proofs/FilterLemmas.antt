@@ -4,7 +4,7 @@ use Rattle.std.specs.Prelude.{filter_map, option_and_then, slice_get}
 use Rattle.std.specs.List.{cons_option}
 use Rattle.std.proofs.lemmas.Option.{none-some}
 use Rattle.std.proofs.lemmas.Bool.{cases_lt}
-use Rattle.bpf_classic.specs.Codes.{instruction_of}
+use Rattle.bpf_classic.specs.Auxiliary.{instruction_in}
 use Rattle.bpf_classic.specs.Valid.{max_filter, fault_of, fault_of_raw, fault_at, AreFaultless, IsFilter}
 use Rattle.bpf_classic.specs.declared.instruction.Classic.{Classic}
 use Rattle.bpf_classic.specs.declared.raw.Raw.{Raw}
@@ -19,21 +19,21 @@ NoFault kind raws = (at : ℕ) → at < length raws → fault_at kind raws at �
 abbrev Faultless : Kind → ℕ → List Classic → Type 0
 Faultless kind n filter = (length filter ≡ n) × AreFaultless kind filter
 
-first : (kind : Kind) (r : Raw) (rs : List Raw) → NoFault kind (r ∷ rs) → fault_of_raw kind (length rs) (instruction_of r) ≡ None
-first kind r rs h = let e : length rs ≡ length (r ∷ rs) - (0 + 1) = omega arith in ap (λ n. fault_of_raw kind n (instruction_of r)) e ∙ h 0 (omega arith)
+first : (kind : Kind) (r : Raw) (rs : List Raw) → NoFault kind (r ∷ rs) → fault_of_raw kind (length rs) (instruction_in kind r) ≡ None
+first kind r rs h = let e : length rs ≡ length (r ∷ rs) - (0 + 1) = omega arith in ap (λ n. fault_of_raw kind n (instruction_in kind r)) e ∙ h 0 (omega arith)
 
 others : (kind : Kind) (r : Raw) (rs : List Raw) → NoFault kind (r ∷ rs) → NoFault kind rs
-others kind r rs h at lt = let e : length rs - (at + 1) ≡ length (r ∷ rs) - (suc at + 1) = omega arith in ap (λ n. fault_of_raw kind n (option_and_then instruction_of (slice_get rs at))) e ∙ h (suc at) (omega arith)
+others kind r rs h at lt = let e : length rs - (at + 1) ≡ length (r ∷ rs) - (suc at + 1) = omega arith in ap (λ n. fault_of_raw kind n (option_and_then (instruction_in kind) (slice_get rs at))) e ∙ h (suc at) (omega arith)
 
 with_front : (kind : Kind) (n : ℕ) (o : Option Classic) (rest : List Classic) → fault_of_raw kind n o ≡ None → Faultless kind n rest → Faultless kind (suc n) (cons_option o rest)
 with_front kind n None rest e f = absurd (none-some _ (sym e))
 with_front kind n (Some i) rest e f = (ap suc f.0, (ap (λ n. fault_of kind n i) f.0 ∙ e, f.1))
 
-each : (kind : Kind) (raws : List Raw) → NoFault kind raws → Faultless kind (length raws) (filter_map instruction_of raws)
+each : (kind : Kind) (raws : List Raw) → NoFault kind raws → Faultless kind (length raws) (filter_map (instruction_in kind) raws)
 each kind [] h = (refl, tt)
-each kind (r ∷ rs) h = with_front kind (length rs) (instruction_of r) (filter_map instruction_of rs) (first kind r rs h) (each kind rs (others kind r rs h))
+each kind (r ∷ rs) h = with_front kind (length rs) (instruction_in kind r) (filter_map (instruction_in kind) rs) (first kind r rs h) (each kind rs (others kind r rs h))
 
-pub are_faultless : (kind : Kind) (raws : List Raw) → 0 < length raws → length raws ≤ max_filter → NoFault kind raws → IsFilter kind (filter_map instruction_of raws)
+pub are_faultless : (kind : Kind) (raws : List Raw) → 0 < length raws → length raws ≤ max_filter → NoFault kind raws → IsFilter kind (filter_map (instruction_in kind) raws)
 are_faultless kind raws some few h =
     let e = each kind raws h in
     record { some = omega (arith, e.0); few = omega (arith, e.0); each = e.1 }

@@ -9,6 +9,7 @@ use Rattle.bpf_insn.specs.declared.instruction.AluOp.{AluOp}
 use Rattle.bpf_insn.specs.declared.instruction.AluOp.TheVariants.{Add as Add', Sub as Sub', Mul as Mul', Div as Div', Or as Or', And as And', Lsh as Lsh', Rsh as Rsh', Mod as Mod', Xor as Xor'}
 use Rattle.bpf_insn.specs.declared.instruction.Cond.{Cond}
 use Rattle.bpf_insn.specs.declared.instruction.Cond.TheVariants.{Eq as Eq', Gt as Gt', Ge as Ge', Set as Set'}
+use Rattle.bpf_classic.specs.Auxiliary.{offset_of}
 use Rattle.bpf_classic.specs.declared.instruction.Register.{Register}
 use Rattle.bpf_classic.specs.declared.instruction.Register.TheVariants.{A, X}
 use Rattle.bpf_classic.specs.declared.instruction.Source.{Source}
@@ -20,15 +21,18 @@ use Rattle.bpf_classic.specs.declared.instruction.Op.TheVariants.{Add, Sub, Mul,
 use Rattle.bpf_classic.specs.declared.instruction.Test.{Test}
 use Rattle.bpf_classic.specs.declared.instruction.Test.TheVariants.{Eq, Gt, Ge, Set}
 use Rattle.bpf_classic.specs.declared.instruction.Classic.{Classic}
-use Rattle.bpf_classic.specs.declared.instruction.Classic.TheVariants.{Constant, Length, Cell, Store, At, Index, Header, Alu, Neg, Jump, JumpIf, Return, ReturnA, Tax, Txa}
+use Rattle.bpf_classic.specs.declared.instruction.Classic.TheVariants.{Constant, Length, Cell, Store, At, Index, Header, Extension, Alu, Neg, Jump, JumpIf, Return, ReturnA, Tax, Txa}
 
--- what a filter is given: what there is of a packet, how long the packet was, the order of the bytes of its numbers (big for packets), and
--- whether a shift takes the low five bits of its distance (as in seccomp; else a shift by 32 or more leaves 0)
+-- what a filter is given: what there is of a packet, how long the packet was, the order of the bytes of its numbers (big for packets),
+-- whether a shift takes the low five bits of its distance (as in seccomp; else a shift by 32 or more leaves 0), and the words of Linux's
+-- auxiliary data, which are in the machine's own order
 pub record Given : Type 0 where
   pub packet : List ℕ
   pub wire : ℕ
   pub order : Order
   pub masks : Bool
+  pub words : List ℕ
+  pub own : Order
 
 pub record Machine : Type 0 where
   pub a : ℕ
@@ -68,6 +72,10 @@ bytes Word = 4
 
 abbrev pub read : Given → ℕ → ℕ → Option ℕ
 read g at n = if nat_le (at + n) (length g.packet) then Some (number_of g.order n (take n (drop at g.packet))) else None
+
+-- a word of the auxiliary data, of four bytes
+abbrev pub word_at : Given → ℕ → ℕ
+word_at g at = number_of g.own 4 (take 4 (drop at g.words))
 
 -- ---- arithmetic and tests, as those of eBPF at 32 bits
 
@@ -120,6 +128,7 @@ next g (Store from i) m = Goes 0 (with_cell i (held from m) m)
 next g (At size k) m = loaded (read g k (bytes size)) (λ n. put A n m)
 next g (Index size k) m = loaded (read g (m.x + k) (bytes size)) (λ n. put A n m)
 next g (Header k) m = loaded (read g k 1) (λ n. put X (4 * (n % 16)) m)
+next g (Extension word) m = Goes 0 (put A (word_at g (offset_of word)) m)
 next g (Alu op source) m = if divides op && (operand source m == 0) then Ends 0 else Goes 0 (put A (result g.masks op m.a (operand source m)) m)
 next g Neg m = Goes 0 (put A (alu W32 Sub' 0 m.a) m)
 next g (Jump k) m = Goes k m

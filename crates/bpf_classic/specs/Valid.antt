@@ -1,7 +1,7 @@
 -- Which instructions are a filter, and why others aren't.
 use Rattle.std.specs.Prelude.{◌≡◌, ℕ, ◌+◌, ◌-◌, ◌%◌, ◌<◌, ◌≤◌, ◌==◌, ◌⊎◌, nat_lt, nat_le, Bool, true, false, not, ◌&&◌, ◌||◌, List, [], ◌∷◌, length, slice_get, Option, Some, None, option_and_then, if◌then◌else◌, ⊤}
 pub use Rattle.bpf_classic.specs.Limits.{max_filter, cell_count}
-use Rattle.bpf_classic.specs.Codes.{instruction_of}
+use Rattle.bpf_classic.specs.Auxiliary.{instruction_in}
 use Rattle.bpf_classic.specs.Machine.{divides, shifts}
 use Rattle.bpf_classic.specs.declared.instruction.Source.TheVariants.{K, X as FromX}
 use Rattle.bpf_classic.specs.declared.instruction.LoadSize.{LoadSize}
@@ -9,12 +9,12 @@ use Rattle.bpf_classic.specs.declared.instruction.LoadSize.TheVariants.{Byte, Ha
 use Rattle.bpf_classic.specs.declared.instruction.Op.{Op}
 use Rattle.bpf_classic.specs.declared.instruction.Op.TheVariants.{Add, Sub, Mul, Div, Or, And, Lsh, Rsh, Mod, Xor}
 use Rattle.bpf_classic.specs.declared.instruction.Classic.{Classic}
-use Rattle.bpf_classic.specs.declared.instruction.Classic.TheVariants.{Constant, Length, Cell, Store, At, Index, Header, Alu, Neg, Jump, JumpIf, Return, ReturnA, Tax, Txa}
+use Rattle.bpf_classic.specs.declared.instruction.Classic.TheVariants.{Constant, Length, Cell, Store, At, Index, Header, Extension, Alu, Neg, Jump, JumpIf, Return, ReturnA, Tax, Txa}
 use Rattle.bpf_classic.specs.declared.raw.Raw.{Raw}
 use Rattle.bpf_classic.specs.declared.refusal.Kind.{Kind}
-use Rattle.bpf_classic.specs.declared.refusal.Kind.TheVariants.{Packets, Seccomp}
+use Rattle.bpf_classic.specs.declared.refusal.Kind.TheVariants.{Packets, Seccomp, Extended}
 use Rattle.bpf_classic.specs.declared.refusal.Fault.{Fault}
-use Rattle.bpf_classic.specs.declared.refusal.Fault.TheVariants.{Code, Cell as CellFault, Constant as ConstantFault, Target, Seccomp as SeccompFault, Extension}
+use Rattle.bpf_classic.specs.declared.refusal.Fault.TheVariants.{Code, Cell as CellFault, Constant as ConstantFault, Target, Seccomp as SeccompFault, Extension as ExtensionFault, NoWord}
 use Rattle.bpf_classic.specs.declared.refusal.Refusal.{Refusal}
 use Rattle.bpf_classic.specs.declared.refusal.Refusal.TheVariants.{Length as LengthRefused, Instruction as InstructionRefused, Memory}
 
@@ -57,17 +57,30 @@ abbrev pub is_not_in_seccomp : Classic → Bool
 is_not_in_seccomp (At size k) = is_no_word size k
 is_not_in_seccomp (Index size k) = true
 is_not_in_seccomp (Header k) = true
+is_not_in_seccomp (Extension word) = true
 is_not_in_seccomp (Alu op source) = is_mod op
 is_not_in_seccomp _ = false
 
 -- B7: one of Linux's extensions
 abbrev pub is_extension : Classic → Bool
 is_extension (At size k) = nat_le extensions k && nat_le k last_extension
+is_extension (Extension word) = true
 is_extension _ = false
 
+-- B7, in filters with extensions: what no word holds. From there on (SKF_LL_OFF, -0x200000) no offset is of the packet's first byte
+abbrev pub offsets : ℕ
+offsets = 0xffe00000
+
+abbrev pub has_no_word : Classic → Bool
+has_no_word (At size k) = nat_le offsets k
+has_no_word (Index size k) = nat_le offsets k
+has_no_word (Header k) = nat_le offsets k
+has_no_word _ = false
+
 abbrev pub not_for : Kind → Classic → Option Fault
-not_for Packets i = if is_extension i then Some Extension else None
+not_for Packets i = if is_extension i then Some ExtensionFault else None
 not_for Seccomp i = if is_not_in_seccomp i then Some SeccompFault else None
+not_for Extended i = if has_no_word i then Some NoWord else None
 
 -- the first of these that an instruction has, where so many are left behind it
 abbrev pub fault_of : Kind → ℕ → Classic → Option Fault
@@ -103,7 +116,7 @@ pub record IsFilter (kind : Kind) (filter : List Classic) : Type 0 where
 
 -- the fault of the instruction with this number
 abbrev pub fault_at : Kind → List Raw → ℕ → Option Fault
-fault_at kind raws at = fault_of_raw kind (length raws - (at + 1)) (option_and_then instruction_of (slice_get raws at))
+fault_at kind raws at = fault_of_raw kind (length raws - (at + 1)) (option_and_then (instruction_in kind) (slice_get raws at))
 
 abbrev pub IsBadLength : List Raw → Type 0
 IsBadLength raws = (length raws ≡ 0) ⊎ (max_filter < length raws)
@@ -127,5 +140,6 @@ refusal_number (InstructionRefused at CellFault) = 3
 refusal_number (InstructionRefused at ConstantFault) = 4
 refusal_number (InstructionRefused at Target) = 5
 refusal_number (InstructionRefused at SeccompFault) = 6
-refusal_number (InstructionRefused at Extension) = 7
+refusal_number (InstructionRefused at ExtensionFault) = 7
+refusal_number (InstructionRefused at NoWord) = 7
 refusal_number Memory = 9

@@ -22,6 +22,23 @@ pub enum LoadSize {
     Word,
 }
 
+/// A word of Linux's auxiliary data (the header <linux/filter.h>, SKF_AD_PROTOCOL to SKF_AD_VLAN_TPID).
+#[derive(Clone, Copy, Debug, PartialEq, Eq)]
+pub enum Auxiliary {
+    Protocol,
+    PacketType,
+    Interface,
+    Mark,
+    Queue,
+    HardwareType,
+    Hash,
+    Processor,
+    VlanTag,
+    HasVlanTag,
+    Random,
+    VlanProtocol,
+}
+
 /// An operation on A and a second operand.
 #[derive(Clone, Copy, Debug, PartialEq, Eq)]
 pub enum Op {
@@ -106,6 +123,10 @@ pub enum Classic {
     /// `ldx 4*([k]&0xf)`: the length of an IP header.
     Header {
         k: u32,
+    },
+    /// `ld [0xfffff000 + ..]`: a word of Linux's auxiliary data.
+    Extension {
+        word: Auxiliary,
     },
     /// `add`, `sub`, .. `xor`.
     Alu {
