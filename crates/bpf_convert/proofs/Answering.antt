@@ -13,7 +13,7 @@ use Rattle.bpf_classic.specs.declared.refusal.Kind.{Kind}
 use Rattle.bpf_classic.specs.declared.refusal.Fault.{Fault}
 use Rattle.bpf_classic.specs.declared.refusal.Fault.TheVariants.{Cell as CellFault, Constant as ConstantFault, Target}
 use Rattle.bpf_classic.specs.declared.instruction.Classic.{Classic}
-use Rattle.bpf_classic.specs.declared.instruction.Classic.TheVariants.{Constant, Length, Cell, Store, At, Index, Header, Alu, Neg, Jump, JumpIf, Return, ReturnA, Tax, Txa}
+use Rattle.bpf_classic.specs.declared.instruction.Classic.TheVariants.{Constant, Length, Cell, Store, At, Index, Header, Extension, Alu, Neg, Jump, JumpIf, Return, ReturnA, Tax, Txa}
 
 -- ---- what an instruction without fault hasn't
 
@@ -55,6 +55,7 @@ leads_on g left (Store from i) m e = goes_next left e
 leads_on g left (At size k) m e = loaded_on left (read g k (bytes size)) _ (goes_next left e)
 leads_on g left (Index size k) m e = loaded_on left (read g (m.x + k) (bytes size)) _ (goes_next left e)
 leads_on g left (Header k) m e = loaded_on left (read g k 1) _ (goes_next left e)
+leads_on g left (Extension word) m e = goes_next left e
 leads_on g left (Alu op source) m e = cond_both (divides op && (operand source m == 0)) (EndsWith 0) _ (LeadsOn left) (λ _. tt) (λ _. goes_next left e)
 leads_on g left Neg m e = goes_next left e
 leads_on g left (Jump k) m e = leb-false left k e

@@ -25,7 +25,7 @@ use Rattle.bpf_convert.specs.Template.{head, room, length_offset, is_beyond, is_
 use Rattle.bpf_convert.specs.Flow.{is_word, has_word, is_a, is_x, reads_a, reads_x, sets_a, sets_x, uses_trap, known_behind, leads_to, leads_on, implies, agrees, all_agree}
 use Rattle.bpf_convert.specs.Meaning.{insns}
 use Rattle.bpf_convert.specs.declared.layout.Form.{Form}
-use Rattle.bpf_convert.specs.declared.layout.Form.TheVariants.{Blocks, Plain, Seccomp}
+use Rattle.bpf_convert.specs.declared.layout.Form.TheVariants.{Blocks, Plain, Seccomp, Extended}
 use Rattle.bpf_convert.specs.declared.layout.Layout.{Layout}
 use Rattle.bpf_convert.specs.declared.layout.Annotated.{Annotated}
 use Rattle.bpf_convert.proofs.Steps.{HasAt, Ends, Moves, after, ending}
@@ -40,6 +40,14 @@ abbrev pub LengthIs : Form → ℤ → Order → Fixed → ℕ → Type 0
 LengthIs Blocks offset order f wire = (i : ℕ) × (offset ≡ pos i) × (i + 4 ≤ length f.context) × (number_of order 4 (take 4 (drop i f.context)) ≡ wire % 2 ^ 32)
 LengthIs Plain offset order f wire = low W32 f.room ≡ wire % 2 ^ 32
 LengthIs Seccomp offset order f wire = 64 ≡ wire % 2 ^ 32
+LengthIs Extended offset order f wire = (i : ℕ) × (offset ≡ pos i) × (i + 4 ≤ length f.context) × (number_of order 4 (take 4 (drop i f.context)) ≡ wire % 2 ^ 32)
+
+-- where the program reads a word of Linux's auxiliary data
+abbrev pub WordsAre : Form → Fixed → List ℕ → Type 0
+WordsAre Blocks f words = words ≡ []
+WordsAre Plain f words = words ≡ []
+WordsAre Seccomp f words = words ≡ []
+WordsAre Extended f words = (at : ℕ) → at ≤ 60 → (8 + at + 4 ≤ length f.context) × (take 4 (drop (8 + at) f.context) ≡ take 4 (drop at words))
 
 pub record Fits (l : Layout) (p : Instructions) (g : Given) (f : Fixed) : Type 0 where
   pub short : room l ≤ 4096
@@ -51,6 +59,8 @@ pub record Fits (l : Layout) (p : Instructions) (g : Given) (f : Fixed) : Type 0
   pub order : g.order ≡ cond (is_swapped l) Big p.order
   pub masks : g.masks ≡ is_masked l
   pub wire : LengthIs l.form (length_offset l) p.order f g.wire
+  pub own : g.own ≡ p.order
+  pub words : WordsAre l.form f g.words
 
 -- ---- what is known
 

@@ -8,6 +8,7 @@ pub mod Plain
 pub mod Operations
 pub mod Jumps
 pub mod Loading
+pub mod Words
 pub mod Simulation
 pub mod Narrow
 pub mod Answering

@@ -42,7 +42,7 @@ use Rattle.bpf_convert.proofs.Machine.{Fixed, Now, at, set_to, with_scratch, alu
 use Rattle.bpf_convert.proofs.Known.{Fits, Knows, Good, Covers, Agreed, or_right, implied, marked, Holds, Behind, Onward, Follows, straight, put_knows, trapped, read_inside, read_outside, outside_is, inside_is}
 
 -- a part of bytes is bytes
-part_bytes : (xs : List ℕ) → ((j : ℕ) → slice_index xs j < 256) → (i n j : ℕ) → slice_index (take n (drop i xs)) j < 256
+pub part_bytes : (xs : List ℕ) → ((j : ℕ) → slice_index xs j < 256) → (i n j : ℕ) → slice_index (take n (drop i xs)) j < 256
 part_bytes xs h i n j = ⊎_elim
     (λ lt. let e = get_or-take n (drop i xs) j 0 lt ∙ get_or-drop i xs j 0 in let s = h (i + j) in omega (arith, e))
     (λ le. let long = length-take n (drop i xs) in let e = get_or_past (take n (drop i xs)) j 0 (omega (arith, clamps, long)) in omega (arith, e))
@@ -57,7 +57,7 @@ few_bytes Half = omega arith
 few_bytes Word = omega arith
 
 -- the number of so many bytes fits in 32 bits
-number_small : (order : Order) (size : LoadSize) (xs : List ℕ) → ((j : ℕ) → slice_index xs j < 256) → number_of order (bytes size) xs < 2 ^ 32
+pub number_small : (order : Order) (size : LoadSize) (xs : List ℕ) → ((j : ℕ) → slice_index xs j < 256) → number_of order (bytes size) xs < 2 ^ 32
 number_small order Byte xs h = let b = number_below order 1 xs h in omega arith
 number_small order Half xs h = let b = number_below order 2 xs h in omega arith
 number_small order Word xs h = let b = number_below order 4 xs h in omega arith

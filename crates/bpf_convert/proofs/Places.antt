@@ -20,7 +20,7 @@ use Rattle.bpf_classic.specs.declared.instruction.Op.{Op}
 use Rattle.bpf_classic.specs.declared.instruction.Test.{Test}
 use Rattle.bpf_classic.specs.declared.instruction.Test.TheVariants.{Eq, Gt, Ge, Set}
 use Rattle.bpf_classic.specs.declared.instruction.Classic.{Classic}
-use Rattle.bpf_classic.specs.declared.instruction.Classic.TheVariants.{Constant, Length, Cell, Store, At, Index, Header, Alu, Neg, Jump, JumpIf, Return, ReturnA, Tax, Txa}
+use Rattle.bpf_classic.specs.declared.instruction.Classic.TheVariants.{Constant, Length, Cell, Store, At, Index, Header, Extension, Alu, Neg, Jump, JumpIf, Return, ReturnA, Tax, Txa}
 use Rattle.bpf_convert.specs.Template.{head, insn_size, constant, operand_of, is_beyond, is_register, is_masked, is_swapped, end_bits, need, swap_of, swap_if, length_test, at_code, index_code, header_code, load_code, any_load_code, alu_code, inverse, jump_code, unless_code, if_code, plain_code, code_of, template, nowhere, size, total, ahead_in, trap_code, code}
 use Rattle.bpf_convert.specs.declared.layout.Layout.{Layout}
 use Rattle.bpf_convert.specs.declared.layout.Annotated.{Annotated}
@@ -61,6 +61,7 @@ alike_load l a (Constant to k) out = refl
 alike_load l a (Length to) out = refl
 alike_load l a (Cell to cell) out = refl
 alike_load l a (Store from cell) out = refl
+alike_load l a (Extension word) out = refl
 alike_load l a (Alu op source) out = refl
 alike_load l a Neg out = refl
 alike_load l a (Jump k) out = refl
@@ -97,6 +98,7 @@ alike_code l a (Constant to k) f out = refl
 alike_code l a (Length to) f out = refl
 alike_code l a (Cell to cell) f out = refl
 alike_code l a (Store from cell) f out = refl
+alike_code l a (Extension word) f out = refl
 alike_code l a (Alu op source) f out = alike_alu l op source out
 alike_code l a Neg f out = refl
 alike_code l a (Jump k) f out = alike_jump k (f k) 0

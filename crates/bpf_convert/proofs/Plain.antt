@@ -25,7 +25,7 @@ use Rattle.bpf_classic.specs.declared.instruction.Classic.TheVariants.{Constant,
 use Rattle.bpf_convert.specs.Template.{room, length_offset, length_insn, reg_of, code}
 use Rattle.bpf_convert.specs.Meaning.{insns}
 use Rattle.bpf_convert.specs.declared.layout.Form.{Form}
-use Rattle.bpf_convert.specs.declared.layout.Form.TheVariants.{Blocks, Plain, Seccomp}
+use Rattle.bpf_convert.specs.declared.layout.Form.TheVariants.{Blocks, Plain, Seccomp, Extended}
 use Rattle.bpf_convert.specs.declared.layout.Layout.{Layout}
 use Rattle.bpf_convert.specs.declared.layout.Annotated.{Annotated}
 use Rattle.bpf_convert.proofs.Steps.{HasAt, Stands, Ends, Moves, after, ending}
@@ -57,6 +57,9 @@ module _ (l : Layout) (p : Instructions) (g : Given) (f : Fixed) (wanted : ℕ �
       moves_to slot to w (low W32 f.room) (g.wire % 2 ^ 32) is (alu_moves p f slot w to W32 Mov (FromReg R2) (Number f.room) (Number (low W32 f.room)) here refl refl)
   length_moves Seccomp offset slot w to is here =
       moves_to slot to w 64 (g.wire % 2 ^ 32) is (alu_moves p f slot w to W32 Mov (Imm (pos 64)) (Number 64) (Number 64) here refl refl)
+  length_moves Extended offset slot w to is here =
+      let e : pos 0 +ℤ offset ≡ pos is.0 = ap (λ z. pos 0 +ℤ z) is.1 ∙ (let n : 0 + is.0 ≡ is.0 = omega arith in ap pos n) in
+      moves_to slot to w (number_of p.order 4 (take 4 (drop is.0 f.context))) (g.wire % 2 ^ 32) is.3 (context_moves p f slot w to Word R1 offset 0 is.0 here refl e is.2)
 
   pub length_of : Fits l p g f → (to : Register) → Follows l p g f wanted (Length to)
   unfolding next

@@ -9,7 +9,7 @@ use Rattle.bpf_insn.specs.Instruction.{Instructions}
 use Rattle.bpf_classic.specs.Machine.{Given, Machine, next, go_on, run_from}
 use Rattle.bpf_classic.specs.declared.instruction.Source.TheVariants.{K, X as FromX}
 use Rattle.bpf_classic.specs.declared.instruction.Classic.{Classic}
-use Rattle.bpf_classic.specs.declared.instruction.Classic.TheVariants.{Constant, Length, Cell, Store, At, Index, Header, Alu, Neg, Jump, JumpIf, Return, ReturnA, Tax, Txa}
+use Rattle.bpf_classic.specs.declared.instruction.Classic.TheVariants.{Constant, Length, Cell, Store, At, Index, Header, Extension, Alu, Neg, Jump, JumpIf, Return, ReturnA, Tax, Txa}
 use Rattle.bpf_convert.specs.Template.{ahead_in, loads, is_loaded, code}
 use Rattle.bpf_convert.specs.Flow.{sets_a, sets_x, known_behind, leads_to, implies, agrees, all_agree}
 use Rattle.bpf_convert.specs.Meaning.{insns}
@@ -23,6 +23,7 @@ use Rattle.bpf_convert.proofs.Plain as plain
 use Rattle.bpf_convert.proofs.Operations as operations
 use Rattle.bpf_convert.proofs.Jumps as jumps
 use Rattle.bpf_convert.proofs.Loading as loading
+use Rattle.bpf_convert.proofs.Words as words
 
 abbrev insn_of : Annotated → Classic
 insn_of a = a.insn
@@ -54,6 +55,7 @@ module _ (l : Layout) (p : Instructions) (g : Given) (f : Fixed) (wanted : ℕ �
   follows (At size k) = loading.at_offset l p g f wanted fits size k
   follows (Index size k) = loading.index l p g f wanted fits size k
   follows (Header k) = loading.header l p g f wanted fits k
+  follows (Extension word) = words.extension l p g f wanted fits word
   follows (Alu op (K k)) = operations.with_constant l p g f wanted op k
   follows (Alu op FromX) = operations.with_x l p g f wanted fits op
   follows Neg = plain.neg l p g f wanted

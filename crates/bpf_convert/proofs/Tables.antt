@@ -23,7 +23,7 @@ use Rattle.bpf_classic.specs.Valid.{max_filter}
 use Rattle.bpf_classic.specs.declared.instruction.Source.{Source}
 use Rattle.bpf_classic.specs.declared.instruction.LoadSize.{LoadSize}
 use Rattle.bpf_classic.specs.declared.instruction.Classic.{Classic}
-use Rattle.bpf_classic.specs.declared.instruction.Classic.TheVariants.{Constant, Length, Cell, Store, At, Index, Header, Alu, Neg, Jump, JumpIf, Return, ReturnA, Tax, Txa}
+use Rattle.bpf_classic.specs.declared.instruction.Classic.TheVariants.{Constant, Length, Cell, Store, At, Index, Header, Extension, Alu, Neg, Jump, JumpIf, Return, ReturnA, Tax, Txa}
 use Rattle.bpf_convert.specs.Template.{head, is_block, is_swapped, is_masked, is_loaded, is_beyond, is_register, insn_size, need, constant, operand_of, cell_offset, room_insns, room_code, zero_if, swap_if, swap_of, end_bits, length_test, load_code, jump_code, unless_code, inverse, code_of, template, nowhere, size, total, ahead_in, most_slots, from_on, way, IsTable, zero_cell, code, entry}
 use Rattle.bpf_convert.specs.Meaning.{insns, HasStarts}
 use Rattle.bpf_convert.specs.declared.layout.Layout.{Layout}
@@ -90,6 +90,7 @@ few_code l a (Constant to k) = omega arith
 few_code l a (Length to) = omega arith
 few_code l a (Cell to cell) = omega arith
 few_code l a (Store from cell) = omega arith
+few_code l a (Extension word) = omega arith
 few_code l a Neg = omega arith
 few_code l a (Return k) = omega arith
 few_code l a ReturnA = omega arith

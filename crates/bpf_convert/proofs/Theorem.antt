@@ -27,15 +27,15 @@ use Rattle.bpf_classic.specs.declared.refusal.Kind.{Kind}
 use Rattle.bpf_convert.specs.Template.{head, room, is_block, is_swapped, low_half, length_offset, known_first, is_loaded, room_insns, room_code, zero_if, zero_cell, entry, code, whole}
 use Rattle.bpf_convert.specs.Longest.{longest}
 use Rattle.bpf_convert.specs.Flow.{all_agree, starts_well, is_sound, implies}
-use Rattle.bpf_convert.specs.Meaning.{wire_of, there, given, HasForm, IsContext, insns, program_of, IsConverted, EndsAlike, ConversionKeepsAnswers}
+use Rattle.bpf_convert.specs.Meaning.{wire_of, there, words_of, given, HasForm, IsContext, insns, program_of, IsConverted, EndsAlike, ConversionKeepsAnswers}
 use Rattle.bpf_convert.specs.declared.layout.Form.{Form}
-use Rattle.bpf_convert.specs.declared.layout.Form.TheVariants.{Blocks, Plain, Seccomp}
+use Rattle.bpf_convert.specs.declared.layout.Form.TheVariants.{Blocks, Plain, Seccomp, Extended}
 use Rattle.bpf_convert.specs.declared.layout.Layout.{Layout}
 use Rattle.bpf_convert.specs.declared.layout.Annotated.{Annotated}
 use Rattle.bpf_convert.proofs.Steps.{HasAt, Ends, has_all, narrow_layout}
 use Rattle.bpf_convert.proofs.Machine.{Fixed, Now, at, set_to, with_cells}
 use Rattle.bpf_convert.proofs.Frame.{Cells, HoldsNumber, CellsHold}
-use Rattle.bpf_convert.proofs.Known.{LengthIs, Fits, Knows, Good, implied}
+use Rattle.bpf_convert.proofs.Known.{LengthIs, WordsAre, Fits, Knows, Good, implied}
 use Rattle.bpf_convert.proofs.Simulation.{AreGood, Wants, simulates}
 use Rattle.bpf_convert.proofs.Narrow.{narrow_whole}
 use Rattle.bpf_convert.proofs.Answering.{faultless, answers}
@@ -68,16 +68,19 @@ has_head : (form : Form) (context : List ℕ) → HasForm form context → head 
 has_head Blocks context h = h
 has_head Plain context h = omega arith
 has_head Seccomp context h = omega arith
+has_head Extended context h = h
 
 no_head : (form : Form) → is_block form ≡ false → head form ≡ 0
 no_head Blocks e = absurd (false≢true (sym e))
 no_head Plain e = refl
 no_head Seccomp e = refl
+no_head Extended e = absurd (false≢true (sym e))
 
 block_head : (form : Form) (context : List ℕ) → is_block form ≡ true → HasForm form context → 8 ≤ length context
 block_head Blocks context e h = h
 block_head Plain context e h = absurd (false≢true e)
 block_head Seccomp context e h = absurd (false≢true e)
+block_head Extended context e h = omega (arith, h)
 
 abbrev wire_by : Form → Order → List ℕ → ℕ
 wire_by form order context = cond (is_block form) (number_of order 8 (take 8 context)) (length context)
@@ -88,6 +91,22 @@ length_is Blocks Little size context bytes long few h = (0, refl, omega arith, l
 length_is Blocks Big size context bytes long few h = (4, refl, omega arith, low_big context bytes)
 length_is Plain order size context bytes long few h = omega (arith, clamps)
 length_is Seccomp order size context bytes long few h = omega arith
+length_is Extended Little size context bytes long few h = (0, refl, omega arith, low_little context bytes)
+length_is Extended Big size context bytes long few h = (4, refl, omega arith, low_big context bytes)
+
+-- a word behind the length is the one so far from there
+word_is : (context : List ℕ) (at : ℕ) → at ≤ 60 → take 4 (drop (8 + at) context) ≡ take 4 (drop at (take 64 (drop 8 context)))
+word_is context at low =
+    let m : ℕ = 64 - at in
+    let all : ◌≡◌ {A = ℕ} 64 (at + m) = omega arith in
+    let some : 4 ≤ m = omega arith in
+    sym (ap (λ t. take 4 (drop at (take t (drop 8 context)))) all ∙ ap (take 4) (drop-take at m (drop 8 context)) ∙ take-take 4 m (drop at (drop 8 context)) some ∙ ap (take 4) (drop-drop at 8 context))
+
+words_are : (form : Form) (context : List ℕ) (room : ℕ) → HasForm form context → WordsAre form (record { room = room; context = context }) (words_of form context)
+words_are Blocks context room h = refl
+words_are Plain context room h = refl
+words_are Seccomp context room h = refl
+words_are Extended context room h = λ at low. (omega (arith, h, low), word_is context at low)
 
 module _ (l : Layout) (context : List ℕ) (is : IsContext l context) (short : l.length ≤ 4096) where
   long_is : length context ≡ l.length
@@ -122,6 +141,8 @@ module _ (l : Layout) (context : List ℕ) (is : IsContext l context) (short : l
         order = ap (λ o. cond (is_swapped l) Big o) (sym same);
         masks = refl;
         wire = subst (λ o. LengthIs l.form (length_offset l) o (fixed_of l context) (wire_of l context)) (sym same) (length_is l.form l.order l.length context is.bytes is.length_is short is.form);
+        own = sym same;
+        words = words_are l.form context (there l context) is.form;
       }
 
   -- what is surely there at the entry

@@ -7,7 +7,7 @@ use Rattle.bpf_classic.specs.declared.instruction.Register.TheVariants.{A, X}
 use Rattle.bpf_classic.specs.declared.instruction.Source.{Source}
 use Rattle.bpf_classic.specs.declared.instruction.Source.TheVariants.{K, X as FromX}
 use Rattle.bpf_classic.specs.declared.instruction.Classic.{Classic}
-use Rattle.bpf_classic.specs.declared.instruction.Classic.TheVariants.{Constant, Length, Cell, Store, At, Index, Header, Alu, Neg, Jump, JumpIf, Return, ReturnA, Tax, Txa}
+use Rattle.bpf_classic.specs.declared.instruction.Classic.TheVariants.{Constant, Length, Cell, Store, At, Index, Header, Extension, Alu, Neg, Jump, JumpIf, Return, ReturnA, Tax, Txa}
 use Rattle.bpf_convert.specs.Template.{need, is_beyond, is_register, known_first}
 use Rattle.bpf_convert.specs.declared.layout.Layout.{Layout}
 use Rattle.bpf_convert.specs.declared.layout.Annotated.{Annotated}
@@ -60,6 +60,7 @@ sets_a (Length to) = is_a to
 sets_a (Cell to cell) = is_a to
 sets_a (At size k) = true
 sets_a (Index size k) = true
+sets_a (Extension word) = true
 sets_a (Alu op source) = true
 sets_a Neg = true
 sets_a Txa = true

@@ -1,5 +1,5 @@
 -- What a filter is given by a context, and what it is that a program answers what the filter does.
-use Rattle.std.specs.Prelude.{◌≡◌, ℕ, ◌+◌, ◌<◌, ◌≤◌, slice_index, min, List, length, take, drop, map, true, Option, Some, if◌then◌else◌, ⊤}
+use Rattle.std.specs.Prelude.{◌≡◌, ℕ, ◌+◌, ◌<◌, ◌≤◌, slice_index, min, List, [], length, take, drop, map, true, Option, Some, if◌then◌else◌, ⊤}
 use Rattle.bpf_insn.specs.Limits.{max_context}
 use Rattle.bpf_insn.specs.Laws.{AreBytes}
 use Rattle.bpf_insn.specs.Order.{number_of}
@@ -14,7 +14,7 @@ use Rattle.bpf_convert.specs.Longest.{longest}
 use Rattle.bpf_convert.specs.Flow.{is_sound}
 use Rattle.bpf_convert.specs.Template.{head, room, is_block, is_swapped, is_masked, ahead_in, entry, whole}
 use Rattle.bpf_convert.specs.declared.layout.Form.{Form}
-use Rattle.bpf_convert.specs.declared.layout.Form.TheVariants.{Blocks, Plain, Seccomp}
+use Rattle.bpf_convert.specs.declared.layout.Form.TheVariants.{Blocks, Plain, Seccomp, Extended}
 use Rattle.bpf_convert.specs.declared.layout.Layout.{Layout}
 use Rattle.bpf_convert.specs.declared.layout.Annotated.{Annotated}
 
@@ -26,6 +26,13 @@ wire_of l context = if is_block l.form then number_of l.order 8 (take 8 context)
 abbrev pub there : Layout → List ℕ → ℕ
 there l context = min (wire_of l context) (room l)
 
+-- the words of Linux's auxiliary data stand behind the length
+abbrev pub words_of : Form → List ℕ → List ℕ
+words_of Blocks context = []
+words_of Plain context = []
+words_of Seccomp context = []
+words_of Extended context = take 64 (drop 8 context)
+
 abbrev pub given : Layout → List ℕ → Given
 given l context =
     record {
@@ -33,13 +40,16 @@ given l context =
       wire = wire_of l context;
       order = if is_swapped l then Big else l.order;
       masks = is_masked l;
+      words = words_of l.form context;
+      own = l.order;
     }
 
--- a block has eight bytes in front of the packet, `struct seccomp_data` has 64 bytes
+-- a block has eight bytes in front of the packet, or 72 with Linux's auxiliary data; `struct seccomp_data` has 64 bytes
 abbrev pub HasForm : Form → List ℕ → Type 0
 HasForm Blocks context = 8 ≤ length context
 HasForm Plain context = ⊤
 HasForm Seccomp context = length context ≡ 64
+HasForm Extended context = 72 ≤ length context
 
 -- any bytes of the layout's length are a context
 pub record IsContext (l : Layout) (context : List ℕ) : Type 0 where

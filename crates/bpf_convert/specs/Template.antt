@@ -20,6 +20,7 @@ use Rattle.bpf_insn.specs.declared.instruction.EndBits.TheVariants.{B16, B32}
 use Rattle.bpf_insn.specs.declared.instruction.EndKind.TheVariants.{Be}
 use Rattle.bpf_insn.specs.declared.instruction.Insn.{Insn}
 use Rattle.bpf_insn.specs.declared.instruction.Insn.TheVariants.{Alu as AluInsn, Neg as NegInsn, End, Load, Store as StoreInsn, StoreImm, Ja, JumpIf as JumpIfInsn, Exit}
+use Rattle.bpf_classic.specs.Auxiliary.{offset_of}
 use Rattle.bpf_classic.specs.Machine.{bytes, same_op, same_test, divides, shifts}
 use Rattle.bpf_classic.specs.declared.instruction.Register.{Register}
 use Rattle.bpf_classic.specs.declared.instruction.Register.TheVariants.{A, X}
@@ -31,19 +32,20 @@ use Rattle.bpf_classic.specs.declared.instruction.Op.{Op}
 use Rattle.bpf_classic.specs.declared.instruction.Test.{Test}
 use Rattle.bpf_classic.specs.declared.instruction.Test.TheVariants.{Eq, Gt, Ge, Set}
 use Rattle.bpf_classic.specs.declared.instruction.Classic.{Classic}
-use Rattle.bpf_classic.specs.declared.instruction.Classic.TheVariants.{Constant, Length, Cell, Store, At, Index, Header, Alu, Neg, Jump, JumpIf, Return, ReturnA, Tax, Txa}
+use Rattle.bpf_classic.specs.declared.instruction.Classic.TheVariants.{Constant, Length, Cell, Store, At, Index, Header, Extension, Alu, Neg, Jump, JumpIf, Return, ReturnA, Tax, Txa}
 use Rattle.bpf_convert.specs.declared.layout.Form.{Form}
-use Rattle.bpf_convert.specs.declared.layout.Form.TheVariants.{Blocks, Plain, Seccomp}
+use Rattle.bpf_convert.specs.declared.layout.Form.TheVariants.{Blocks, Plain, Seccomp, Extended}
 use Rattle.bpf_convert.specs.declared.layout.Layout.{Layout}
 use Rattle.bpf_convert.specs.declared.layout.Annotated.{Annotated}
 
 -- ---- the context
 
--- the bytes in front of a packet, and the most of a packet that can be there
+-- the bytes in front of a packet, and the most of a packet that can be there; Linux's auxiliary data is sixteen words behind the length
 abbrev pub head : Form → ℕ
 head Blocks = 8
 head Plain = 0
 head Seccomp = 0
+head Extended = 72
 
 abbrev pub room : Layout → ℕ
 room l = l.length - head l.form
@@ -53,6 +55,7 @@ abbrev pub is_block : Form → Bool
 is_block Blocks = true
 is_block Plain = false
 is_block Seccomp = false
+is_block Extended = true
 
 abbrev pub known_first : Layout → ℕ
 known_first l = if is_block l.form then 0 else room l
@@ -70,6 +73,7 @@ abbrev pub is_network : Form → Bool
 is_network Blocks = true
 is_network Plain = true
 is_network Seccomp = false
+is_network Extended = true
 
 abbrev pub is_swapped : Layout → Bool
 is_swapped l = is_network l.form
@@ -166,9 +170,17 @@ abbrev pub length_insn : Form → ℤ → Reg → Insn
 length_insn Blocks offset r = Load W r R1 offset
 length_insn Plain offset r = AluInsn Mov W32 r (FromReg R2)
 length_insn Seccomp offset r = AluInsn Mov W32 r (Imm (pos 64))
+length_insn Extended offset r = Load W r R1 offset
 
 abbrev pub length_code : Layout → Register → List Insn
 length_code l to = length_insn l.form (length_offset l) (reg_of to) ∷ []
+
+-- a word of Linux's auxiliary data, in the machine's own order; 0 where contexts hold none
+abbrev pub word_insn : Form → ℕ → Insn
+word_insn Blocks offset = AluInsn Mov W32 R0 (Imm (pos 0))
+word_insn Plain offset = AluInsn Mov W32 R0 (Imm (pos 0))
+word_insn Seccomp offset = AluInsn Mov W32 R0 (Imm (pos 0))
+word_insn Extended offset = Load W R0 R1 (pos (8 + offset))
 
 abbrev pub is_register : Source → Bool
 is_register (K k) = false
@@ -208,6 +220,7 @@ plain_code l (Constant to k) out = AluInsn Mov W32 (reg_of to) (constant k) ∷ 
 plain_code l (Length to) out = length_code l to
 plain_code l (Cell to cell) out = Load DW (reg_of to) R10 (cell_offset cell) ∷ []
 plain_code l (Store from cell) out = StoreInsn DW R10 (cell_offset cell) (reg_of from) ∷ []
+plain_code l (Extension word) out = word_insn l.form (offset_of word) ∷ []
 plain_code l (Alu op source) out = alu_code l op source out
 plain_code l Neg out = NegInsn W32 R0 ∷ []
 plain_code l (Return k) out = AluInsn Mov W32 R0 (constant k) ∷ Exit ∷ []

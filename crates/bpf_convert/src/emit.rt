@@ -4,7 +4,7 @@ ghost use Rattle.std.specs.Prelude.{◌≡◌, ◌++◌, ◌≤◌, OnOk};
 ghost use Rattle.bpf_insn.specs.Limits.{max_context};
 ghost use Rattle.bpf_classic.specs.Valid.{max_filter};
 ghost use Rattle.bpf_classic.specs.Machine.{same_op, same_test};
-ghost use Rattle.bpf_convert.specs.Template.{reg_of, operand_of, cell_offset, length_insn, is_register, alu_code, inverse, jump_code, unless_code, if_code, plain_code, template, from_on, way};
+ghost use Rattle.bpf_convert.specs.Template.{reg_of, operand_of, cell_offset, length_insn, word_insn, is_register, alu_code, inverse, jump_code, unless_code, if_code, plain_code, template, from_on, way};
 
 use crate::insns::{alu, constant, ja, put, test_low};
 use crate::layout::{Annotated, Form, Layout};
@@ -81,7 +81,7 @@ fn length_insn(form: Form, offset: i16, dst: Reg) -> Insn
     ensures { result ≡ length_insn form offset dst }
 {
     match form {
-        Form::Blocks => Insn::Load {
+        Form::Blocks | Form::Extended => Insn::Load {
             size: Size::W,
             dst,
             src: Reg::R1,
@@ -89,6 +89,22 @@ fn length_insn(form: Form, offset: i16, dst: Reg) -> Insn
         },
         Form::Plain => alu(AluOp::Mov, dst, Operand::Reg(Reg::R2)),
         Form::Seccomp => alu(AluOp::Mov, dst, Operand::Imm(64)),
+    }
+}
+
+/// A load of a word of Linux's auxiliary data, so many bytes behind the first one; 0 where contexts hold none.
+fn word_insn(form: Form, offset: u32) -> Insn
+    requires { offset ≤ 60 }
+    ensures { result ≡ word_insn form offset }
+{
+    match form {
+        Form::Extended => Insn::Load {
+            size: Size::W,
+            dst: Reg::R0,
+            src: Reg::R1,
+            off: (8 + offset) as i16,
+        },
+        Form::Blocks | Form::Plain | Form::Seccomp => alu(AluOp::Mov, Reg::R0, Operand::Imm(0)),
     }
 }
 
@@ -211,6 +227,7 @@ fn put_plain(out: &mut Vec<Insn>, layout: &Layout, insn: Classic, to: u16) -> Re
                 src: reg_of(from),
             }],
         ),
+        Classic::Extension { word } => put(out, &[word_insn(layout.form, word.offset())]),
         Classic::Alu { op, source } => put_alu(out, layout, op, source, to),
         Classic::Neg => put(
             out,
@@ -265,6 +282,7 @@ pub fn emit(
         Classic::Length { .. } => put_plain(out, layout, a.insn, to),
         Classic::Cell { .. } => put_plain(out, layout, a.insn, to),
         Classic::Store { .. } => put_plain(out, layout, a.insn, to),
+        Classic::Extension { .. } => put_plain(out, layout, a.insn, to),
         Classic::Alu { .. } => put_plain(out, layout, a.insn, to),
         Classic::Neg => put_plain(out, layout, a.insn, to),
         Classic::Return { .. } => put_plain(out, layout, a.insn, to),

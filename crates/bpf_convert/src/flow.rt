@@ -35,7 +35,7 @@ fn has_word(insn: &Classic) -> bool
         Classic::Length { .. } | Classic::Cell { .. } | Classic::Store { .. } => true,
         Classic::At { .. } | Classic::Index { .. } | Classic::Header { .. } => true,
         Classic::Neg | Classic::Jump { .. } | Classic::ReturnA => true,
-        Classic::Tax | Classic::Txa => true,
+        Classic::Extension { .. } | Classic::Tax | Classic::Txa => true,
     }
 }
 
@@ -68,6 +68,7 @@ pub fn reads_a(insn: &Classic) -> bool
         Classic::Constant { .. } | Classic::Length { .. } | Classic::Cell { .. } => false,
         Classic::At { .. } | Classic::Index { .. } | Classic::Header { .. } => false,
         Classic::Jump { .. } | Classic::Return { .. } | Classic::Txa => false,
+        Classic::Extension { .. } => false,
     }
 }
 
@@ -83,7 +84,7 @@ pub fn reads_x(insn: &Classic) -> bool
         Classic::Constant { .. } | Classic::Length { .. } | Classic::Cell { .. } => false,
         Classic::At { .. } | Classic::Header { .. } | Classic::Neg => false,
         Classic::Jump { .. } | Classic::Return { .. } | Classic::ReturnA => false,
-        Classic::Tax => false,
+        Classic::Extension { .. } | Classic::Tax => false,
     }
 }
 
@@ -96,7 +97,7 @@ pub fn sets_a(insn: &Classic) -> bool
         Classic::Length { to } => is_a(to),
         Classic::Cell { to, .. } => is_a(to),
         Classic::At { .. } | Classic::Index { .. } | Classic::Alu { .. } => true,
-        Classic::Neg | Classic::Txa => true,
+        Classic::Extension { .. } | Classic::Neg | Classic::Txa => true,
         Classic::Store { .. } | Classic::Header { .. } | Classic::Jump { .. } => false,
         Classic::JumpIf { .. } | Classic::Return { .. } | Classic::ReturnA => false,
         Classic::Tax => false,
@@ -115,6 +116,7 @@ pub fn sets_x(insn: &Classic) -> bool
         Classic::At { .. } | Classic::Index { .. } | Classic::Alu { .. } => false,
         Classic::Neg | Classic::Txa | Classic::Store { .. } | Classic::Jump { .. } => false,
         Classic::JumpIf { .. } | Classic::Return { .. } | Classic::ReturnA => false,
+        Classic::Extension { .. } => false,
     }
 }
 
@@ -134,7 +136,7 @@ fn leads_to_trap(layout: &Layout, a: &Annotated) -> bool
         Classic::Constant { .. } | Classic::Length { .. } | Classic::Cell { .. } => false,
         Classic::Store { .. } | Classic::Neg | Classic::Jump { .. } => false,
         Classic::JumpIf { .. } | Classic::Return { .. } | Classic::ReturnA => false,
-        Classic::Tax | Classic::Txa => false,
+        Classic::Extension { .. } | Classic::Tax | Classic::Txa => false,
     }
 }
 
@@ -179,7 +181,8 @@ fn leads_on(a: &Annotated, rest: &[Annotated]) -> bool
         Classic::Cell { .. } | Classic::Store { .. } => leads_to(a, rest.get(0)),
         Classic::At { .. } | Classic::Index { .. } => leads_to(a, rest.get(0)),
         Classic::Header { .. } | Classic::Alu { .. } => leads_to(a, rest.get(0)),
-        Classic::Neg | Classic::Tax | Classic::Txa => leads_to(a, rest.get(0)),
+        Classic::Extension { .. } | Classic::Neg => leads_to(a, rest.get(0)),
+        Classic::Tax | Classic::Txa => leads_to(a, rest.get(0)),
     }
 }
 

@@ -7,12 +7,14 @@ ghost use Rattle.bpf_classic.specs.Machine.{bytes as bytes_in};
 use bpf_classic::{Classic, LoadSize};
 use bpf_insn::{EndBits, Order, Size};
 
-/// The form of a context: a block with the packet's length in front, the packet itself, or seccomp's `struct seccomp_data`.
+/// The form of a context: a block with the packet's length in front, the packet itself, seccomp's `struct seccomp_data`, or a block with the
+/// words of Linux's auxiliary data between the length and the packet.
 #[derive(Clone, Copy)]
 pub enum Form {
     Blocks,
     Plain,
     Seccomp,
+    Extended,
 }
 
 /// The form, the bytes of a context, the byte order, and what the program needs besides its instructions' templates: the exit that
@@ -41,10 +43,11 @@ pub struct Annotated {
 /// The bytes of a context in front of a packet.
 pub fn head(form: Form) -> u32
     ensures same { result ≡ head form }
-    ensures few { result ≤ 8 }
+    ensures few { result ≤ 72 }
 {
     match form {
         Form::Blocks => 8,
+        Form::Extended => 72,
         Form::Plain | Form::Seccomp => 0,
     }
 }
@@ -63,7 +66,7 @@ impl Layout {
         ensures { result ≡ known_first self.now }
     {
         match self.form {
-            Form::Blocks => 0,
+            Form::Blocks | Form::Extended => 0,
             Form::Plain | Form::Seccomp => self.room(),
         }
     }
@@ -83,7 +86,7 @@ impl Layout {
         ensures { result ≡ is_swapped self.now }
     {
         match self.form {
-            Form::Blocks | Form::Plain => true,
+            Form::Blocks | Form::Plain | Form::Extended => true,
             Form::Seccomp => false,
         }
     }
@@ -93,7 +96,7 @@ impl Layout {
         ensures { result ≡ is_masked self.now }
     {
         match self.form {
-            Form::Blocks | Form::Plain => false,
+            Form::Blocks | Form::Plain | Form::Extended => false,
             Form::Seccomp => true,
         }
     }
@@ -145,7 +148,7 @@ pub fn need(insn: &Classic) -> u64
         Classic::Constant { .. } | Classic::Length { .. } | Classic::Cell { .. } => 0,
         Classic::Store { .. } | Classic::Alu { .. } | Classic::Neg | Classic::Jump { .. } => 0,
         Classic::JumpIf { .. } | Classic::Return { .. } | Classic::ReturnA => 0,
-        Classic::Tax | Classic::Txa => 0,
+        Classic::Extension { .. } | Classic::Tax | Classic::Txa => 0,
     }
 }
 

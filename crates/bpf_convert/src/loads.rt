@@ -176,6 +176,6 @@ pub fn put_load(
         Classic::Constant { .. } | Classic::Length { .. } | Classic::Cell { .. } => Ok(()),
         Classic::Store { .. } | Classic::Alu { .. } | Classic::Neg => Ok(()),
         Classic::Jump { .. } | Classic::JumpIf { .. } | Classic::Return { .. } => Ok(()),
-        Classic::ReturnA | Classic::Tax | Classic::Txa => Ok(()),
+        Classic::Extension { .. } | Classic::ReturnA | Classic::Tax | Classic::Txa => Ok(()),
     }
 }

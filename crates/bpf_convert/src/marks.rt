@@ -63,7 +63,7 @@ fn passes(insn: &Classic) -> (Option<u32>, Option<u32>) {
         Classic::Constant { .. } | Classic::Length { .. } | Classic::Cell { .. } => (Some(0), None),
         Classic::At { .. } | Classic::Index { .. } | Classic::Header { .. } => (Some(0), None),
         Classic::Store { .. } | Classic::Alu { .. } | Classic::Neg => (Some(0), None),
-        Classic::Tax | Classic::Txa => (Some(0), None),
+        Classic::Extension { .. } | Classic::Tax | Classic::Txa => (Some(0), None),
     }
 }
 

@@ -55,7 +55,7 @@ fn loads(cell: u32, insn: &Classic) -> bool
         Classic::At { .. } | Classic::Index { .. } | Classic::Header { .. } => false,
         Classic::Alu { .. } | Classic::Neg | Classic::Jump { .. } => false,
         Classic::JumpIf { .. } | Classic::Return { .. } | Classic::ReturnA => false,
-        Classic::Tax | Classic::Txa => false,
+        Classic::Extension { .. } | Classic::Tax | Classic::Txa => false,
     }
 }
 
@@ -128,7 +128,7 @@ fn put_cells(out: &mut Vec<Insn>, list: &[Annotated]) -> Result<(), AllocError>
 pub fn put_entry(out: &mut Vec<Insn>, layout: &Layout, list: &[Annotated]) -> Result<(), AllocError>
     ensures { OnOk result (out.new.items ≡ out.old.items ++ entry layout.now list.now) }
 {
-    if matches!(layout.form, Form::Blocks) {
+    if matches!(layout.form, Form::Blocks | Form::Extended) {
         put_room(out, layout)?;
     }
     if layout.zero_a {
