@@ -17,7 +17,10 @@ from concurrent.futures import ProcessPoolExecutor, ThreadPoolExecutor
 
 BATCH = 500
 WORD = 0xffffffff
-FORMS = {'blocks': [], 'plain': ['--plain'], 'seccomp': ['--seccomp']}
+FORMS = {'blocks': [], 'plain': ['--plain'], 'seccomp': ['--seccomp'], 'extended': ['--extensions']}
+# Linux's auxiliary data (<linux/filter.h>, SKF_AD_OFF and SKF_LL_OFF): the offsets of the words that blocks with extensions have, and
+# from where on no offset is of the packet's first byte.
+DATA, WORDS, OFFSETS = 0xfffff000, (0, 4, 8, 20, 24, 28, 32, 36, 44, 48, 56, 60), 0xffe00000
 ADD, SUB, MUL, DIV, OR, AND, LSH, RSH, NEG, MOD, XOR = range(11)
 SIZES = {0: 4, 1: 2, 2: 1}
 # The codes of instructions, but for those of arithmetic and of tests, which are computed.
@@ -27,8 +30,8 @@ OTHERS = [0x02, 0x03, 0x07, 0x87, 0x84]
 
 # ---- the definition
 
-def answer(filter, packet, wire, order='big', masks=False):
-    """What a filter answers of a packet, of which `wire` bytes were sent."""
+def answer(filter, packet, wire, order='big', masks=False, words=None, own='little'):
+    """What a filter answers of a packet, of which `wire` bytes were sent; with extensions also of the 64 bytes of Linux's words."""
     a = x = at = 0
     cells = [0] * 16
     while True:
@@ -37,7 +40,9 @@ def answer(filter, packet, wire, order='big', masks=False):
         kind, second = code & 7, x if code & 8 else k
         if kind == 6:
             return a if code == 0x16 else k
-        if code in (0x20, 0x28, 0x30, 0x40, 0x48, 0x50, 0xb1):
+        if words is not None and is_word(code, k):
+            a = int.from_bytes(words[k - DATA:k - DATA + 4], own)
+        elif code in (0x20, 0x28, 0x30, 0x40, 0x48, 0x50, 0xb1):
             size = 1 if code == 0xb1 else SIZES[code >> 3 & 3]
             place = k + (x if code >> 5 == 2 else 0)
             if place + size > len(packet):
@@ -67,6 +72,10 @@ def answer(filter, packet, wire, order='big', masks=False):
             a = x
 
 
+def is_word(code, k):
+    return code in (0x20, 0x28, 0x30) and k - DATA in WORDS
+
+
 def computed(op, a, b, masks):
     if op in (LSH, RSH):
         if masks:
@@ -85,7 +94,7 @@ def is_instruction(code):
     return code < 0x100 and (code & 7 == 4 and op <= XOR and op != NEG or code & 7 == 5 and 1 <= op <= 4)
 
 
-def fault(filter, seccomp):
+def fault(filter, form):
     """The number of the lowest fault and its instruction, or None."""
     for at, (code, jt, jf, k) in enumerate(filter):
         left, op, by_k = len(filter) - at - 1, code >> 4, not code & 8
@@ -97,9 +106,11 @@ def fault(filter, seccomp):
             return 4, at
         if left <= (k if code == 0x05 else max(jt, jf) if code & 7 == 5 else -1 if code & 7 == 6 else 0):
             return 5, at
-        if seccomp and (code in (0x28, 0x30, 0x40, 0x48, 0x50, 0xb1) or code == 0x20 and (k % 4 or k > 60) or code & 7 == 4 and op == MOD):
+        if form == 'seccomp' and (code in (0x28, 0x30, 0x40, 0x48, 0x50, 0xb1) or code == 0x20 and (k % 4 or k > 60) or code & 7 == 4 and op == MOD):
             return 6, at
-        if not seccomp and code in (0x20, 0x28, 0x30) and 0xfffff000 <= k <= 0xfffff03c:
+        if form in ('blocks', 'plain') and code in (0x20, 0x28, 0x30) and DATA <= k <= DATA + 60:
+            return 7, at
+        if form == 'extended' and code in (0x20, 0x28, 0x30, 0x40, 0x48, 0x50, 0xb1) and k >= OFFSETS and not is_word(code, k):
             return 7, at
     return None
 
@@ -110,9 +121,11 @@ def constant(rng):
     return rng.choice([0, 1, 2, 4, 8, 12, 14, 15, 20, 31, 40, 60, 64, 100, 255, 0x800, 0xffff, 0x7fffffff, 0x80000000, WORD, rng.randrange(1 << 32)])
 
 
-def loaded(rng, code, seccomp):
-    if seccomp:
+def loaded(rng, code, form):
+    if form == 'seccomp':
         return 0x20, rng.randrange(16) * 4
+    if form == 'extended' and code in (0x20, 0x28, 0x30) and rng.random() < .5:
+        return code, DATA + rng.choice(WORDS)
     if code in (0x60, 0x61):
         return code, rng.randrange(16)
     return code, rng.randrange(80) if code not in (0x00, 0x01) or rng.random() < .3 else constant(rng)
@@ -129,7 +142,7 @@ def computing(rng, seccomp):
     return 4 | 8 * by_x | op << 4, k
 
 
-def random_filter(rng, seccomp):
+def random_filter(rng, form):
     size = rng.choice([1, 2, 3, 5, 8, 13, 21, 34])
     filter = []
     for at in range(size):
@@ -138,9 +151,9 @@ def random_filter(rng, seccomp):
         if left == 0 or kind < .05:
             code = rng.choice([0x06, 0x06, 0x16])
         elif kind < .45:
-            code, k = loaded(rng, rng.choice(LOADS), seccomp)
+            code, k = loaded(rng, rng.choice(LOADS), form)
         elif kind < .65:
-            code, k = computing(rng, seccomp)
+            code, k = computing(rng, form == 'seccomp')
         elif kind < .75:
             code, k = rng.choice(OTHERS), rng.randrange(16)
         elif kind < .8:
@@ -152,7 +165,7 @@ def random_filter(rng, seccomp):
     if rng.random() < .1:
         at = rng.randrange(size)
         code, jt, jf, k = filter[at]
-        filter[at] = rng.choice([(rng.randrange(1 << 16), jt, jf, k), (code, 255, jf, k), (code, jt, jf, WORD), (0x20, 0, 0, 0xfffff000 + rng.randrange(64)),
+        filter[at] = rng.choice([(rng.randrange(1 << 16), jt, jf, k), (code, 255, jf, k), (code, jt, jf, WORD), (0x20, 0, 0, DATA + rng.randrange(64)),
                                  (0x34, 0, 0, 0), (0x64, 0, 0, 32 + k % 9), (0x02, 0, 0, 16), (0x94, 0, 0, 3)])
     return filter
 
@@ -182,30 +195,31 @@ def spelled(spelling, filter, big):
 # ---- what is made of a filter
 
 def block_of(form, packet, length, big=False):
-    """The context that holds a packet, in hexadecimal; of a pair the first number is the length that a block says."""
-    wire, packet = packet if isinstance(packet, tuple) else (len(packet), packet)
-    if form == 'blocks':
+    """The context that holds a packet, in hexadecimal; of a pair the first number is the length that a block says. With extensions the
+    packet stands behind the 64 bytes of the words."""
+    wire, packet = packet if isinstance(packet, tuple) else (len(packet) - 64 * (form == 'extended'), packet)
+    if form in ('blocks', 'extended'):
         return (wire.to_bytes(8, 'big' if big else 'little') + packet)[:length].ljust(length, b'\xa5').hex()
     return packet.ljust(length, b'\0')[:length].hex()
 
 
 def wanted_of(form, filter, length, packets, big=False):
     """What is to be said of a filter: the line of its refusal, or what it answers to the packets."""
-    seccomp = form == 'seccomp'
-    wrong = fault(filter, seccomp)
+    seccomp, own = form == 'seccomp', 'big' if big else 'little'
+    wrong = fault(filter, form)
     if wrong:
         return 'no B%d at instruction %d' % wrong
     if not filter:
         return 'no B1 at instruction 0'
-    found, order = [], ('big' if big else 'little') if seccomp else 'big'
+    found, order, words = [], own if seccomp else 'big', None
     for it in packets:
         context = bytes.fromhex(block_of(form, it, length, big))
-        if form == 'blocks':
-            wire = int.from_bytes(context[:8], 'big' if big else 'little')
-            context = context[8:][:wire]
+        if form in ('blocks', 'extended'):
+            wire = int.from_bytes(context[:8], own)
+            words, context = (context[8:72], context[72:][:wire]) if form == 'extended' else (None, context[8:][:wire])
         else:
             wire = length
-        found.append(answer(filter, context, wire, order, seccomp))
+        found.append(answer(filter, context, wire, order, seccomp, words, own))
     return found
 
 
@@ -230,10 +244,10 @@ def random_case(seed):
     """A form of contexts, their length, a filter, and packets."""
     rng = random.Random(seed)
     form = rng.choice(list(FORMS))
-    length = 64 if form == 'seccomp' else rng.choice([8, 9, 40, 72, 200]) if form == 'blocks' else rng.choice([0, 1, 34, 64, 100])
-    filter = random_filter(rng, form == 'seccomp')
-    most = 120 if form == 'blocks' else length
-    packets = [bytes(rng.choice([0, 1, 6, 8, 64, 69, 255, rng.randrange(256)]) for _ in range(rng.randrange(most + 1) if form == 'blocks' else most)) for _ in range(12)]
+    length = rng.choice({'blocks': [8, 9, 40, 72, 200], 'plain': [0, 1, 34, 64, 100], 'seccomp': [64], 'extended': [72, 73, 104, 136, 264]}[form])
+    filter = random_filter(rng, form)
+    least, most = {'blocks': (0, 120), 'extended': (64, 184)}.get(form, (length, length))
+    packets = [bytes(rng.choice([0, 1, 6, 8, 64, 69, 255, rng.randrange(256)]) for _ in range(rng.randint(least, most))) for _ in range(12)]
     return form, length, filter, packets
 
 

@@ -717,13 +717,15 @@ static void bad_conversions(void) {
     WANTS(bpf_convert(IP, BPF_BLOCKS, 32, BPF_LITTLE, ROOM, &told, (void *)made), BPF_BAD_MEMORY);
     WANTS(bpf_convert(IP, BPF_BLOCKS, 32, BPF_LITTLE, ROOM, &told, (void *)(text + 4088)), BPF_BAD_MEMORY);
     WANTS(bpf_convert(IP, BPF_BLOCKS, 32, 2, ROOM, TOLD), BPF_BAD_CALL);
-    WANTS(bpf_convert(IP, 3, 32, BPF_LITTLE, ROOM, TOLD), BPF_BAD_CALL);
+    WANTS(bpf_convert(IP, 4, 96, BPF_LITTLE, ROOM, TOLD), BPF_BAD_CALL);
     WANTS(bpf_convert(IP, UINT32_MAX, 64, BPF_LITTLE, ROOM, TOLD), BPF_BAD_CALL);
     WANTS(bpf_convert(IP, BPF_BLOCKS, 7, BPF_LITTLE, ROOM, TOLD), BPF_BAD_CALL);
     WANTS(bpf_convert(IP, BPF_BLOCKS, 4097, BPF_LITTLE, ROOM, TOLD), BPF_BAD_CALL);
     WANTS(bpf_convert(IP, BPF_PLAIN, 4097, BPF_LITTLE, ROOM, TOLD), BPF_BAD_CALL);
     WANTS(bpf_convert(IP, BPF_SECCOMP, 63, BPF_LITTLE, ROOM, TOLD), BPF_BAD_CALL);
     WANTS(bpf_convert(IP, BPF_SECCOMP, 65, BPF_LITTLE, ROOM, TOLD), BPF_BAD_CALL);
+    WANTS(bpf_convert(IP, BPF_EXTENDED, 71, BPF_LITTLE, ROOM, TOLD), BPF_BAD_CALL);
+    WANTS(bpf_convert(IP, BPF_EXTENDED, 4097, BPF_LITTLE, ROOM, TOLD), BPF_BAD_CALL);
     /* The library's own call, by an order of the instructions that is none, and by bytes that end inside of one. */
     WANTS(bpf_host_convert((const uint8_t *)ip, 32, 2, BPF_BLOCKS, 32, BPF_LITTLE, made, 512, (uint8_t *)text, 4096, TOLD), BPF_BAD_CALL);
     WANTS(told.bound == 7 && why.kind == 7, 1);

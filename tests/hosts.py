@@ -237,16 +237,17 @@ def fill_convert(table):
     rng = random.Random(1)
     for seed in range(600):
         form = rng.choice([*classic.FORMS])
-        size = 64 if form == 'seccomp' else rng.choice([8, 9, 40, 200, 1522, 4096]) if form == 'blocks' else rng.choice([0, 1, 34, 64, 4096])
-        table.convert(rng.choice(['little', 'big']), classic.random_filter(rng, form == 'seccomp'), form, size)
+        size = rng.choice({'blocks': [8, 9, 40, 200, 1522, 4096], 'plain': [0, 1, 34, 64, 4096], 'seccomp': [64], 'extended': [72, 73, 200, 1586, 4096]}[form])
+        table.convert(rng.choice(['little', 'big']), classic.random_filter(rng, form), form, size)
     for count in [0, 1, 4096, 4097]:
         table.convert('little', [(6, 0, 0, 1)] * count, 'blocks', 128)
     # An index and a cell in each of as many instructions as may be, all of them labelled: the longest certificates that are known.
     steps = [(0x61, 0, 0, 15), (0x48, 0, 0, 14), (0x1D, 1, 0, 0), (0x7C, 0, 0, 0), (0x02, 0, 0, 7)]
     cells = [it for cell in range(16) for it in [(0x60, 0, 0, cell), (0x03, 0, 0, cell)]]
     table.convert('big', cells + (steps * 900)[:4096 - len(cells) - 2] + [(0x16, 0, 0, 0)] * 2, 'blocks', 4096)
-    for filter, form in [([(0x20, 0, 0, 0xfffff000), (6, 0, 0, 1)], 'blocks'), ([(0x28, 0, 0, 0), (6, 0, 0, 1)], 'seccomp'), ([(0x20, 0, 0, 4), (6, 0, 0, 1)], 'seccomp')]:
-        table.convert('little', filter, form, 64)
+    for filter, form in [([(0x20, 0, 0, 0xfffff000), (6, 0, 0, 1)], 'blocks'), ([(0x28, 0, 0, 0), (6, 0, 0, 1)], 'seccomp'), ([(0x20, 0, 0, 4), (6, 0, 0, 1)], 'seccomp'),
+                         ([(0x20, 0, 0, 0xfffff00c), (6, 0, 0, 1)], 'extended'), ([(0x20, 0, 0, 0xfffff02c), (6, 0, 0, 1)], 'extended')]:
+        table.convert('little', filter, form, 72 if form == 'extended' else 64)
 
 
 def fill(table):

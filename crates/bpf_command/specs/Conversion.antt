@@ -5,9 +5,13 @@ use Rattle.bpf_request.specs.declared.converting.Converting.{Converting}
 use Rattle.bpf_answers.specs.declared.failure.Failure.{Failure}
 use Rattle.bpf_answers.specs.declared.failure.Failure.TheVariants.{NotTogether}
 
--- two forms of contexts, or a length that the form doesn't have: seccomp's is 64, and a block has at least its first eight bytes
+-- two forms of contexts, or a length that the form doesn't have: seccomp's is 64, and a block has at least its first eight bytes, or 72
+-- with Linux's words
 abbrev pub is_misfit : Converting → Bool
-is_misfit c = if c.seccomp then c.plain || not (c.length == 64) else not c.plain && nat_lt c.length 8
+is_misfit c =
+    if c.seccomp then c.plain || c.extensions || not (c.length == 64)
+    else if c.extensions then c.plain || nat_lt c.length 72
+    else not c.plain && nat_lt c.length 8
 
 -- standard output for a file, where it takes the line; one name for both files; or that
 abbrev pub conversion_conflict : Converting → Option Failure

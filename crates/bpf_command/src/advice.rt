@@ -280,7 +280,7 @@ fn misfit_text(request: Request<'_>) -> Option<&'static str> {
             "OUT, CERT, --notes and --changes lead to files of their own; CERT, --notes and --changes not to IN, and none of them to --lines",
         ),
         Request::Convert(_) => Some(
-            "OUT and CERT lead to files of their own, not to IN; LEN is at least 8 for blocks, and 64 with --seccomp, which doesn't go with --plain",
+            "OUT and CERT lead to files of their own, not to IN; LEN is at least 8 for blocks, 72 with --extensions, and 64 with --seccomp; at most one of --plain, --seccomp and --extensions is given",
         ),
         Request::Harden(_) => Some(
             "OUT, --notes and --changes lead to files of their own, and neither --notes nor --changes to IN",

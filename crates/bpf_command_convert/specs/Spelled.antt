@@ -6,7 +6,7 @@ use Rattle.bpf_classic_text.specs.Text.{raws_of}
 use Rattle.bpf_classic_text.specs.declared.fault.TextFault.{TextFault}
 use Rattle.bpf_classic_text.specs.declared.fault.TextFault.TheVariants as faults
 use Rattle.bpf_convert.specs.declared.layout.Form.{Form}
-use Rattle.bpf_convert.specs.declared.layout.Form.TheVariants.{Blocks, Plain, Seccomp}
+use Rattle.bpf_convert.specs.declared.layout.Form.TheVariants.{Blocks, Plain, Seccomp, Extended}
 use Rattle.bpf_convert_checked.specs.Made.{IsMade, IsRefusedFor, error_number, error_place}
 use Rattle.bpf_convert_checked.specs.declared.made.Made.{Made}
 use Rattle.bpf_request.specs.declared.converting.Converting.{Converting}
@@ -20,7 +20,7 @@ abbrev pub spelled : Converting → List ℕ → Result (List Raw) TextFault
 spelled c bytes = if c.raw then raws_in c.order bytes else raws_of bytes
 
 abbrev pub form_of : Converting → Form
-form_of c = if c.seccomp then Seccomp else if c.plain then Plain else Blocks
+form_of c = if c.seccomp then Seccomp else if c.extensions then Extended else if c.plain then Plain else Blocks
 
 -- The bytes spell a filter, and this was made of it for contexts of this length.
 abbrev pub IsMadeOf : Converting → ℕ → List ℕ → Made → Type 0

@@ -57,6 +57,8 @@ fn form_of(asked: Converting<'_>) -> Form
 {
     if asked.seccomp {
         Form::Seccomp
+    } else if asked.extensions {
+        Form::Extended
     } else if asked.plain {
         Form::Plain
     } else {

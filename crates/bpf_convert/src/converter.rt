@@ -103,8 +103,8 @@ fn annotated(
     Ok((with(&zeros, zeros.zero_a, zeros.zero_x, trap), again))
 }
 
-/// The program of a filter, for contexts of `length` bytes in a form: from 0 to 4,096, of blocks at least 8, of seccomp 64. On each
-/// such context it ends with what the filter answers, within the longest way through it. `Memory` if memory runs out.
+/// The program of a filter, for contexts of `length` bytes in a form: from 0 to 4,096, of blocks at least 8 (with extensions 72), of
+/// seccomp 64. On each such context it ends with what the filter answers, within the longest way through it. `Memory` if memory runs out.
 pub fn convert(
     alloc: Global,
     filter: &Filter,

@@ -23,7 +23,7 @@ fn between(least: u32, most: u32) -> RegState
 
 fn set_room(state: &mut State, layout: &Layout) {
     match layout.form {
-        Form::Blocks => state.set_reg(Reg::R2, between(0, layout.room())),
+        Form::Blocks | Form::Extended => state.set_reg(Reg::R2, between(0, layout.room())),
         Form::Plain => state.set_reg(Reg::R2, between(layout.room(), layout.room())),
         Form::Seccomp => {}
     }
@@ -43,7 +43,7 @@ pub fn at_start(layout: &Layout) -> State {
 pub fn in_entry(layout: &Layout, slot: u32) -> State {
     let mut state = State::blank();
     state.set_reg(Reg::R1, RegState::Ptr(Pointer::start_of(Area::Context)));
-    if slot != 2 || !matches!(layout.form, Form::Blocks) {
+    if slot != 2 || !matches!(layout.form, Form::Blocks | Form::Extended) {
         set_room(&mut state, layout);
     }
     state

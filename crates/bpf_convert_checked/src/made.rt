@@ -30,6 +30,7 @@ pub fn kind_of(form: Form) -> Kind
     match form {
         Form::Blocks | Form::Plain => Kind::Packets,
         Form::Seccomp => Kind::Seccomp,
+        Form::Extended => Kind::Extended,
     }
 }
 
@@ -73,8 +74,8 @@ fn program_of(
     }
 }
 
-/// The program of instructions as they are written, for contexts of `length` bytes in a form: from 0 to 4,096, of blocks at least 8, of seccomp
-/// 64; and a certificate that the checker takes, for contexts of this length alone. B1 to B7 where they are no filter, B9 where memory runs
+/// The program of instructions as they are written, for contexts of `length` bytes in a form: from 0 to 4,096, of blocks at least 8, with
+/// extensions 72, of seccomp 64; and a certificate that the checker takes, for contexts of this length alone. B1 to B7 where they are no filter, B9 where memory runs
 /// out, B10 where the checker doesn't take the certificate.
 pub fn converted(
     alloc: Global,

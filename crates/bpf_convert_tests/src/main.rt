@@ -1,7 +1,8 @@
 //! Filters converted and run on packets, beside what libpcap's `bpf_filter` and the kernel's seccomp answer: the wanted output is theirs.
 //!
-//! Each line of standard input is a case: `blocks`, `plain` or `seccomp`, the length of contexts, the text of a filter with `/` for the end
-//! of a line and `,` for a space, and packets in hex, `none` for an empty one. The line that answers it has `yes` where the checker takes the
+//! Each line of standard input is a case: `blocks`, `plain`, `seccomp` or `extended`, the length of contexts, the text of a filter with `/`
+//! for the end of a line and `,` for a space, and packets in hex, `none` for an empty one; with `extended` each packet stands behind the 64
+//! bytes of the words. The line that answers it has `yes` where the checker takes the
 //! certificate, and then what the program ends with on each packet; else the number of the refusal, as `B5 at 3`.
 #![tactic(auto)]
 
@@ -21,6 +22,9 @@ use std::str::SplitWhitespace;
 
 /// How many steps a program may make.
 const STEPS: u64 = 100_000;
+
+/// The bytes of the words of Linux's auxiliary data.
+const WORDS: usize = 64;
 
 /// What a line asks for.
 #[derive(Clone, Copy)]
@@ -46,6 +50,7 @@ impl<'a> Case<'a> {
             form: match words.next() {
                 Some("plain") => Form::Plain,
                 Some("seccomp") => Form::Seccomp,
+                Some("extended") => Form::Extended,
                 _ => Form::Blocks,
             },
             length: number_of(words.next()).min(MAX_CONTEXT as u32),
@@ -85,6 +90,7 @@ fn converted(alloc: Global, case: Case<'_>) -> Result<Converted, Stop> {
     let raws = raws_of_word(alloc, case.filter)?;
     let kind = match case.form {
         Form::Seccomp => Kind::Seccomp,
+        Form::Extended => Kind::Extended,
         Form::Blocks | Form::Plain => Kind::Packets,
     };
     let filter = match Filter::new(alloc, kind, &raws) {
@@ -160,8 +166,13 @@ fn context_of(alloc: Global, case: Case<'_>, word: &str) -> Option<Vec<u8>>
 /// A context of the case's length: the packet's length in front of a block, as much of the packet as there is room for, zeros.
 fn filled(alloc: Global, case: Case<'_>, packet: &[u8]) -> Result<Vec<u8>, AllocError> {
     let mut context = Vec::new(alloc);
-    if matches!(case.form, Form::Blocks) {
-        for byte in (packet.len() as u64).to_le_bytes() {
+    let words = if matches!(case.form, Form::Extended) {
+        WORDS
+    } else {
+        0
+    };
+    if matches!(case.form, Form::Blocks | Form::Extended) {
+        for byte in (packet.len().saturating_sub(words) as u64).to_le_bytes() {
             context.push(byte)?;
         }
     }

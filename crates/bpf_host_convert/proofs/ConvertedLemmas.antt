@@ -53,7 +53,7 @@ kept raws form size order made bytes is_made is_image =
       form_is = is_made.form_is;
       length_is = is_made.length_is;
       order_is = is_made.order_is;
-      answers = subst (KeepsAnswers (filter_of raws) made.converted.layout) (in_order order made.converted.program is_made.runs_in) is_made.answers;
+      answers = subst (KeepsAnswers (filter_of form raws) made.converted.layout) (in_order order made.converted.program is_made.runs_in) is_made.answers;
     }
 
 pub converted_as : (filter_order : Order) (filter : List ℕ) (form : Form) (size : ℕ) (order : Order) (told : BpfConverted) (raws : List Raw) (made : Made) (bytes text : List ℕ) → raws_in filter_order filter ≡ Ok raws → IsMade raws form size order made → IsProgram made.converted.program.list → bytes ≡ image made.converted.program.order made.converted.program.list → text ≡ certificate_text made.certificate → told.image_len ≡ length bytes → told.certificate_len ≡ length text → told.bound ≡ made.certificate.steps → IsConvertedAs filter_order filter form size order told bytes text

@@ -21,14 +21,14 @@ use Rattle.bpf_host_convert.specs.declared.conversion.BpfConverted.{BpfConverted
 
 -- Instructions are a filter, and bytes the image of a program that ends with what the filter answers, on each context of the form and the length.
 pub record IsImageOfFilter (raws : List Raw) (form : Form) (size : ℕ) (order : Order) (bytes : List ℕ) : Type 0 where
-  pub filter : IsFilter (kind_of form) (filter_of raws)
+  pub filter : IsFilter (kind_of form) (filter_of form raws)
   pub program : List Insn
   pub is_image : IsImageOfProgram order bytes program
   pub layout : Layout
   pub form_is : layout.form ≡ form
   pub length_is : layout.length ≡ size
   pub order_is : layout.order ≡ order
-  pub answers : KeepsAnswers (filter_of raws) layout (program_in order program)
+  pub answers : KeepsAnswers (filter_of form raws) layout (program_in order program)
 
 -- The bytes of a filter are those of such instructions. The text spells a certificate which certifies the image's program, for contexts of exactly so
 -- many bytes, with the bound that is told.

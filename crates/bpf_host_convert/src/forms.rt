@@ -10,18 +10,22 @@ use bpf_insn::MAX_CONTEXT;
 /// The bytes in front of a packet that tell its length.
 const HEAD: u32 = 8;
 
+/// The bytes in front of a packet with the words of Linux's auxiliary data.
+const LONG_HEAD: u32 = 72;
+
 /// The bytes of `struct seccomp_data`.
 const SECCOMP_DATA: u32 = 64;
 
-/// The form with a number: 0 blocks, 1 packets, 2 seccomp's.
+/// The form with a number: 0 blocks, 1 packets, 2 seccomp's, 3 blocks with the words of Linux's auxiliary data.
 pub(crate) fn form_of(form: u32) -> Option<Form>
-    ensures named { IfSome result (λ f. (f ≡ form_named form) × (form ≤ 2)) }
-    ensures none { IfNone result (2 < form) }
+    ensures named { IfSome result (λ f. (f ≡ form_named form) × (form ≤ 3)) }
+    ensures none { IfNone result (3 < form) }
 {
     match form {
         0 => Some(Form::Blocks),
         1 => Some(Form::Plain),
         2 => Some(Form::Seccomp),
+        3 => Some(Form::Extended),
         _ => None,
     }
 }
@@ -35,5 +39,6 @@ pub(crate) fn may_have(form: Form, size: u32) -> bool
         Form::Blocks => size >= HEAD && size <= MAX_CONTEXT as u32,
         Form::Plain => size <= MAX_CONTEXT as u32,
         Form::Seccomp => size == SECCOMP_DATA,
+        Form::Extended => size >= LONG_HEAD && size <= MAX_CONTEXT as u32,
     }
 }

@@ -23,10 +23,11 @@ use std::alloc::Global;
 pub use texts::conversion_text;
 
 /// Makes an image of a filter of classic BPF, whose instructions are eight bytes each with numbers in the order `filter_order`, for contexts of
-/// exactly `size` bytes in a form: 0 blocks of a packet's length, the packet and padding, 1 packets, 2 `struct seccomp_data`; and a certificate.
+/// exactly `size` bytes in a form: 0 blocks of a packet's length, the packet and padding, 1 packets, 2 `struct seccomp_data`, 3 blocks with
+/// sixteen words of Linux's auxiliary data between the length and the packet; and a certificate.
 /// 1: `converted` says how many of the first bytes of `made` are the image and how many of `text` the certificate, which certifies it with the
 /// bound that is told. On each such context the image's program ends with what the filter answers. 0: the bytes are no filter, and `refusal` says why, by
-/// B with the instruction. -1: memory ran out. -2: an order is neither 0 nor 1, the form is above 2, or no context of the form has `size` bytes. -3:
+/// B with the instruction. -1: memory ran out. -2: an order is neither 0 nor 1, the form is above 3, or no context of the form has `size` bytes. -3:
 /// `made` or `text` has less room than `converted` says. What isn't answered stays as it was. What comes out was checked: `verify` of
 /// `bpf_host_runs` says yes of it.
 pub fn convert(
@@ -44,7 +45,7 @@ pub fn convert(
     ensures given { result ≡ YES → GivesConverted (order_named filter_order) filter.now (form_named form) size (order_named order) converted.new made.old made.new text.old text.new }
     ensures small { result ≡ TOO_SMALL → WantsConvertedRoom (order_named filter_order) filter.now (form_named form) size (order_named order) converted.new made.old text.old }
     ensures refused { result ≡ NO → IsNotConverted (order_named filter_order) filter.now (form_named form) refusal.new }
-    ensures call { (result ≡ BAD_CALL) ↔ ((1 < filter_order) ⊎ ((1 < order) ⊎ ((2 < form) ⊎ (may_have (form_named form) size ≡ false)))) }
+    ensures call { (result ≡ BAD_CALL) ↔ ((1 < filter_order) ⊎ ((1 < order) ⊎ ((3 < form) ⊎ (may_have (form_named form) size ≡ false)))) }
     ensures answers { (result ≡ YES) ⊎ (result ≡ NO) ⊎ (result ≡ NO_MEMORY) ⊎ (result ≡ BAD_CALL) ⊎ (result ≡ TOO_SMALL) }
     ensures made_kept { (result ≡ YES) ⊎ (made.new ≡ made.old) }
     ensures text_kept { (result ≡ YES) ⊎ (text.new ≡ text.old) }

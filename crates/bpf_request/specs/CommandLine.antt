@@ -125,7 +125,8 @@ abbrev pub IsConverting : List Row → Converting → Type 0
 IsConverting rows c =
     IsInput rows c.input.now c.order × IsCount 32 0 (one_of (codes "LEN") rows) c.length
     × (c.output.now ≡ word_of (codes "OUT") rows) × (c.certificate.now ≡ word_of (codes "CERT") rows)
-    × IsFlag (one_of (codes "plain") rows) c.plain × IsFlag (one_of (codes "seccomp") rows) c.seccomp × IsFlag (one_of (codes "raw") rows) c.raw
+    × IsFlag (one_of (codes "plain") rows) c.plain × IsFlag (one_of (codes "seccomp") rows) c.seccomp
+    × IsFlag (one_of (codes "extensions") rows) c.extensions × IsFlag (one_of (codes "raw") rows) c.raw
 
 -- which programs are to be compared, by which notes, for which contexts and runs
 abbrev pub IsFollowing : List Row → Following → Type 0

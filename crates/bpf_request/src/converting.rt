@@ -17,6 +17,8 @@ pub struct Converting<'a> {
     pub plain: bool,
     /// The filter is seccomp's, and contexts are `struct seccomp_data`.
     pub seccomp: bool,
+    /// Contexts are blocks with sixteen words of Linux's auxiliary data between the length and the packet, which the filter may load.
+    pub extensions: bool,
     /// The filter is the bytes of `struct sock_filter`, in the order of the image; else the text of `tcpdump`.
     pub raw: bool,
     pub order: Order,

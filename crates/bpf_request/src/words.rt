@@ -241,6 +241,7 @@ fn converting_in<'a>(matches: &ArgMatches<'a>) -> Converting<'a>
         certificate: word(matches, "CERT"),
         plain: has_flag(matches, "plain"),
         seccomp: has_flag(matches, "seccomp"),
+        extensions: has_flag(matches, "extensions"),
         raw: has_flag(matches, "raw"),
         order: order_of(matches),
     }

@@ -131,7 +131,8 @@ convert_places =
     with_rule (with_rule (with_rule (with_rule (new_app (codes "convert")) (place (codes "IN"))) context_length) (place (codes "OUT"))) (place (codes "CERT"))
 
 abbrev pub convert : App
-convert = with_rule (with_rule (with_rule (with_rule convert_places (flag (codes "plain"))) (flag (codes "seccomp"))) (flag (codes "raw"))) big
+convert =
+    with_rule (with_rule (with_rule (with_rule (with_rule convert_places (flag (codes "plain"))) (flag (codes "seccomp"))) (flag (codes "extensions"))) (flag (codes "raw"))) big
 
 abbrev pub follows_places : App
 follows_places = with_rule (with_rule (with_rule (with_rule (new_app (codes "follows")) (place (codes "OLD"))) (place (codes "NEW"))) (place (codes "NOTES"))) context_length

@@ -220,6 +220,10 @@ pub const LAST: [Entry; 5] = [
                 "IN is a filter of seccomp, and contexts are struct seccomp_data",
             ),
             Flag(
+                "extensions",
+                "IN may load Linux's auxiliary data, and blocks have its 16 words of 4 bytes between the length and the packet",
+            ),
+            Flag(
                 "raw",
                 "IN is struct sock_filter, 8 bytes for each instruction",
             ),

@@ -18,6 +18,9 @@ use std::io::Write;
 /// The bytes in front of the packet of a block.
 const HEAD: u32 = 8;
 
+/// The bytes in front of the packet of a block with the words of Linux's auxiliary data.
+const LONG_HEAD: u32 = 72;
+
 /// The bytes of `struct seccomp_data`.
 const SECCOMP: u32 = 64;
 
@@ -26,7 +29,9 @@ fn is_misfit(asked: Converting<'_>) -> bool
     ensures { result ≡ is_misfit asked.entry }
 {
     if asked.seccomp {
-        asked.plain || asked.length != SECCOMP
+        asked.plain || asked.extensions || asked.length != SECCOMP
+    } else if asked.extensions {
+        asked.plain || asked.length < LONG_HEAD
     } else {
         !asked.plain && asked.length < HEAD
     }
