@@ -1,6 +1,6 @@
 -- The machine of classic BPF (McCanne and Jacobson 1993, section 3.3): an accumulator A, an index register X, sixteen cells of scratch
 -- memory, of 32 bits each, and a packet that is only read. A load outside of the packet and a division by zero answer 0; jumps lead forward.
-use Rattle.std.specs.Prelude.{ℕ, zero, suc, ◌+◌, ◌*◌, ◌%◌, ◌^◌, ◌==◌, nat_lt, nat_le, Bool, true, false, ◌&&◌, ◌||◌, List, [], ◌∷◌, length, take, drop, replicate, get_or, slice_set, Option, Some, None, if◌then◌else◌}
+use Rattle.std.specs.Prelude.{ℕ, zero, suc, ◌+◌, ◌*◌, ◌%◌, ◌^◌, ◌==◌, nat_le, Bool, true, false, ◌&&◌, List, [], ◌∷◌, length, take, drop, replicate, get_or, slice_set, Option, Some, None, if◌then◌else◌}
 use Rattle.bpf_insn.specs.Order.{number_of}
 use Rattle.bpf_insn.specs.Arithmetic.{alu, jumps}
 use Rattle.bpf_insn.specs.declared.order.Order.{Order}

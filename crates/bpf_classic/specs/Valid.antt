@@ -3,13 +3,13 @@ use Rattle.std.specs.Prelude.{◌≡◌, ℕ, ◌+◌, ◌-◌, ◌%◌, ◌<◌
 pub use Rattle.bpf_classic.specs.Limits.{max_filter, cell_count}
 use Rattle.bpf_classic.specs.Auxiliary.{instruction_in}
 use Rattle.bpf_classic.specs.Machine.{divides, shifts}
-use Rattle.bpf_classic.specs.declared.instruction.Source.TheVariants.{K, X as FromX}
+use Rattle.bpf_classic.specs.declared.instruction.Source.TheVariants.{K}
 use Rattle.bpf_classic.specs.declared.instruction.LoadSize.{LoadSize}
-use Rattle.bpf_classic.specs.declared.instruction.LoadSize.TheVariants.{Byte, Half, Word}
+use Rattle.bpf_classic.specs.declared.instruction.LoadSize.TheVariants.{Word}
 use Rattle.bpf_classic.specs.declared.instruction.Op.{Op}
-use Rattle.bpf_classic.specs.declared.instruction.Op.TheVariants.{Add, Sub, Mul, Div, Or, And, Lsh, Rsh, Mod, Xor}
+use Rattle.bpf_classic.specs.declared.instruction.Op.TheVariants.{Mod}
 use Rattle.bpf_classic.specs.declared.instruction.Classic.{Classic}
-use Rattle.bpf_classic.specs.declared.instruction.Classic.TheVariants.{Constant, Length, Cell, Store, At, Index, Header, Extension, Alu, Neg, Jump, JumpIf, Return, ReturnA, Tax, Txa}
+use Rattle.bpf_classic.specs.declared.instruction.Classic.TheVariants.{Cell, Store, At, Index, Header, Extension, Alu, Jump, JumpIf, Return, ReturnA}
 use Rattle.bpf_classic.specs.declared.raw.Raw.{Raw}
 use Rattle.bpf_classic.specs.declared.refusal.Kind.{Kind}
 use Rattle.bpf_classic.specs.declared.refusal.Kind.TheVariants.{Packets, Seccomp, Extended}

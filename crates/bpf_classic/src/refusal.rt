@@ -32,7 +32,7 @@ pub enum Fault {
     #[error("it loads one of Linux's extensions, which a packet doesn't hold")]
     Extension,
     /// B7: it loads what no word behind the length holds: one of Linux's other extensions, or from a header's offset.
-    #[error("no word holds nlattr, nlattr_nest, alu_xor_x, pay_offset, or what lies from 0xffe00000 (ll_off, net_off) on")]
+    #[error("it loads one of Linux's extensions, which a packet doesn't hold, and no word: nlattr, nlattr_nest, alu_xor_x, pay_offset, or from 0xffe00000 (ll_off, net_off) on")]
     NoWord,
 }
 

@@ -1,7 +1,6 @@
 -- What the entry does: how many bytes of the packet are there, and zeros where something may be read before anything has set it.
-use Rattle.std.proofs.Common.{◌≡◌, ℕ, zero, suc, ◌+◌, ◌-◌, ◌*◌, ◌%◌, ◌<◌, ◌≤◌, ◌^◌, List, [], ◌∷◌, ◌++◌, length, take, drop, get_or, Bool, true, false, cond, Option, Some, None, refl, sym, ap, ap₂, ◌∙◌, subst, ◌⊎◌, inl, inr, ⊎_elim, arith}
-use Rattle.std.specs.Prelude.{ℤ, pos, ◌+ℤ◌, min, nat_le, replicate, flat_map, option_map, option_and_then, ◌&&◌}
-use Rattle.std.specs.Option.{option_or}
+use Rattle.std.proofs.Common.{◌≡◌, ℕ, zero, suc, ◌+◌, ◌<◌, ◌≤◌, List, [], ◌∷◌, ◌++◌, length, take, Bool, true, false, cond, Some, None, refl, sym, ap, ◌∙◌, subst, ◌⊎◌, inl, inr, ⊎_elim, arith}
+use Rattle.std.specs.Prelude.{ℤ, pos, min, flat_map, option_map}
 use Rattle.std.specs.List.{range_with_len}
 use Rattle.std.specs.Int.{cast_signed, w32}
 use Rattle.std.proofs.lemmas.Bool.{false≢true, le-leb, leb-true, leb-false, cases_lt}
@@ -10,23 +9,21 @@ use Rattle.bpf_insn.specs.Options.{◌>>=◌}
 use Rattle.bpf_insn.specs.Order.{number_of, bytes_of}
 use Rattle.bpf_insn.specs.Arithmetic.{extended, jumps}
 use Rattle.bpf_insn.specs.Instruction.{Instructions}
-use Rattle.bpf_insn.specs.declared.instruction.Reg.TheVariants.{R0, R1, R2, R3, R10}
+use Rattle.bpf_insn.specs.declared.instruction.Reg.TheVariants.{R1, R2, R10}
 use Rattle.bpf_insn.specs.declared.instruction.Operand.TheVariants.{Imm}
 use Rattle.bpf_insn.specs.declared.instruction.Width.TheVariants.{W64}
 use Rattle.bpf_insn.specs.declared.instruction.Size.TheVariants.{DW}
 use Rattle.bpf_insn.specs.declared.instruction.AluOp.TheVariants.{Mov}
 use Rattle.bpf_insn.specs.declared.instruction.Cond.TheVariants.{Le as IsLe}
 use Rattle.bpf_insn.specs.declared.instruction.Insn.{Insn}
-use Rattle.bpf_insn.specs.declared.instruction.Insn.TheVariants.{Alu, Load, StoreImm, JumpIf}
-use Rattle.bpf_semantics.specs.State.{Cell, put}
+use Rattle.bpf_insn.specs.declared.instruction.Insn.TheVariants.{Alu, Load, StoreImm}
+use Rattle.bpf_semantics.specs.State.{put}
 use Rattle.bpf_semantics.specs.Memory.{with_bytes}
 use Rattle.bpf_semantics.specs.Memory.Location.{InContext}
 use Rattle.bpf_semantics.specs.Step.{does, load}
-use Rattle.bpf_semantics.specs.declared.value.Value.{Value}
 use Rattle.bpf_semantics.specs.declared.value.Value.TheVariants.{Number}
 use Rattle.bpf_classic.specs.declared.instruction.Register.{Register}
-use Rattle.bpf_classic.specs.declared.instruction.Register.TheVariants.{A, X}
-use Rattle.bpf_convert.specs.Template.{room, is_block, constant, reg_of, cell_offset, room_insns, zero_cell, is_loaded}
+use Rattle.bpf_convert.specs.Template.{room, reg_of, cell_offset, room_insns, zero_cell, is_loaded}
 use Rattle.bpf_convert.specs.declared.layout.Layout.{Layout}
 use Rattle.bpf_convert.specs.declared.layout.Annotated.{Annotated}
 use Rattle.bpf_convert.proofs.Steps.{HasAt, Stands, Ends, Moves, after, either, doing, far_next}

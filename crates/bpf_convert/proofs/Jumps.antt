@@ -1,8 +1,8 @@
 -- What the templates of jumps do.
-use Rattle.std.proofs.Common.{◌≡◌, ℕ, zero, suc, ◌+◌, ◌*◌, ◌-◌, ◌%◌, ◌<◌, ◌≤◌, ◌^◌, List, [], ◌∷◌, ◌++◌, length, drop, Bool, true, false, cond, Option, Some, None, refl, sym, ap, ap₂, ◌∙◌, subst, ⊎_elim, arith}
-use Rattle.std.specs.Prelude.{ℤ, pos, max, nat_lt, nat_le, slice_get, not, ◌&&◌, ◌||◌, ◌==◌}
+use Rattle.std.proofs.Common.{◌≡◌, ℕ, zero, suc, ◌+◌, List, [], ◌∷◌, ◌++◌, length, drop, Bool, true, false, cond, Some, refl, sym, ap, ap₂, ◌∙◌, subst, ⊎_elim, arith}
+use Rattle.std.specs.Prelude.{pos, max, nat_lt, nat_le, slice_get, not, ◌&&◌, ◌==◌}
 use Rattle.std.specs.Int.{cast_signed, w32}
-use Rattle.std.proofs.lemmas.Bool.{false≢true, and_parts, eqb-true, ne_eqb, cases_lt, lt-ltb, le-ltb, lt-leb, le-leb}
+use Rattle.std.proofs.lemmas.Bool.{and_parts, eqb-true, ne_eqb, cases_lt, lt-ltb, le-ltb, lt-leb, le-leb}
 use Rattle.std.proofs.lemmas.Int.{clamps}
 use Rattle.bpf_insn.specs.Arithmetic.{low, extended, compare, jumps}
 use Rattle.bpf_insn.specs.Instruction.{Instructions}
@@ -14,16 +14,14 @@ use Rattle.bpf_insn.specs.declared.instruction.Cond.TheVariants.{Eq as IsEq, Gt 
 use Rattle.bpf_insn.specs.declared.instruction.Insn.{Insn}
 use Rattle.bpf_insn.specs.declared.instruction.Insn.TheVariants.{Ja, JumpIf as JumpIfInsn}
 use Rattle.bpf_semantics.specs.declared.value.Value.TheVariants.{Number}
-use Rattle.bpf_classic.specs.Machine.{Given, Machine, Next, operand, same_test, next, go_on, run_from}
-use Rattle.bpf_classic.specs.Machine.Next.{Goes}
+use Rattle.bpf_classic.specs.Machine.{Given, Machine, operand, same_test, next, run_from}
 use Rattle.bpf_classic.specs.declared.instruction.Source.{Source}
 use Rattle.bpf_classic.specs.declared.instruction.Source.TheVariants.{K, X as FromX}
 use Rattle.bpf_classic.specs.declared.instruction.Test.{Test}
 use Rattle.bpf_classic.specs.declared.instruction.Test.TheVariants.{Eq, Gt, Ge, Set}
-use Rattle.bpf_classic.specs.declared.instruction.Classic.{Classic}
 use Rattle.bpf_classic.specs.declared.instruction.Classic.TheVariants.{Jump, JumpIf}
-use Rattle.bpf_convert.specs.Template.{room, operand_of, is_register, inverse, jump_code, unless_code, if_code, total, ahead_in, code}
-use Rattle.bpf_convert.specs.Flow.{leads_to, implies}
+use Rattle.bpf_convert.specs.Template.{room, operand_of, is_register, inverse, jump_code, unless_code, ahead_in, code}
+use Rattle.bpf_convert.specs.Flow.{leads_to}
 use Rattle.bpf_convert.specs.Meaning.{insns}
 use Rattle.bpf_convert.specs.declared.layout.Layout.{Layout}
 use Rattle.bpf_convert.specs.declared.layout.Annotated.{Annotated}
@@ -31,7 +29,7 @@ use Rattle.bpf_convert.proofs.Steps.{HasAt, Stands, Ends, Moves, after, either, 
 use Rattle.bpf_convert.proofs.Values.{constant_low, low_small}
 use Rattle.bpf_convert.proofs.Places.{alike_jump}
 use Rattle.bpf_convert.proofs.Machine.{Fixed, Now, at, goes, tests}
-use Rattle.bpf_convert.proofs.Known.{Fits, Knows, Good, Covers, Agreed, or_right, implied, none_below, marked, Holds, Behind, Onward, Follows, straight, same_knows}
+use Rattle.bpf_convert.proofs.Known.{or_right, implied, none_below, marked, Behind, Onward, Follows, straight, same_knows}
 use Rattle.bpf_convert.proofs.Operations.{IsWord, word_of}
 
 some_jump : (k d : ℕ) → jump_code (suc k) d ≡ Ja (pos d) ∷ []

@@ -1,27 +1,24 @@
 -- What is known in front of each instruction of a converted filter, and how a run goes on behind a template.
-use Rattle.std.proofs.Common.{◌≡◌, ℕ, zero, suc, ◌+◌, ◌-◌, ◌*◌, ◌%◌, ◌<◌, ◌≤◌, ◌^◌, List, [], ◌∷◌, ◌++◌, length, take, drop, get_or, Bool, true, false, cond, Option, Some, None, refl, sym, ap, ap₂, ◌∙◌, subst, ⊎_elim, inl, inr, arith}
-use Rattle.std.specs.Prelude.{ℤ, pos, map, max, nat_lt, nat_le, slice_get, slice_index, not, ◌&&◌, ◌||◌, ◌==◌}
-use Rattle.std.proofs.lemmas.Bool.{false≢true, cases_lt, leb-true, le-ltb, lt-leb, le-leb, and_parts, cond_both}
-use Rattle.std.proofs.lemmas.Int.{clamps}
+use Rattle.std.proofs.Common.{◌≡◌, ℕ, zero, suc, ◌+◌, ◌-◌, ◌%◌, ◌<◌, ◌≤◌, ◌^◌, List, [], ◌∷◌, length, take, drop, Bool, true, false, cond, Option, Some, None, refl, sym, ap, ◌∙◌, subst, ⊎_elim, arith}
+use Rattle.std.specs.Prelude.{ℤ, pos, nat_lt, slice_get, slice_index, ◌||◌}
+use Rattle.std.proofs.lemmas.Bool.{false≢true, cases_lt, leb-true, le-ltb, lt-leb, le-leb, and_parts}
 use Rattle.std.proofs.lemmas.Option.{same_Some, none-some, slice_get-get_or, slice_get_past}
 use Rattle.std.proofs.lemmas.List.{drop_more}
 use Rattle.bpf_insn.specs.Order.{number_of}
-use Rattle.bpf_insn.specs.Arithmetic.{low, extended}
+use Rattle.bpf_insn.specs.Arithmetic.{low}
 use Rattle.bpf_insn.specs.Instruction.{Instructions}
 use Rattle.bpf_insn.specs.declared.order.Order.{Order}
 use Rattle.bpf_insn.specs.declared.order.Order.TheVariants.{Big}
 use Rattle.bpf_insn.specs.declared.instruction.Operand.TheVariants.{Imm}
 use Rattle.bpf_insn.specs.declared.instruction.Width.TheVariants.{W32}
 use Rattle.bpf_insn.specs.declared.instruction.AluOp.TheVariants.{Mov}
-use Rattle.bpf_semantics.specs.declared.value.Value.{Value}
 use Rattle.bpf_semantics.specs.declared.value.Value.TheVariants.{Number}
-use Rattle.bpf_classic.specs.Machine.{Given, Machine, Next, put, held, next, go_on, run_from, loaded, read}
-use Rattle.bpf_classic.specs.Machine.Next.{Ends as EndsWith, Goes}
+use Rattle.bpf_classic.specs.Machine.{Given, Machine, put, held, next, go_on, run_from, loaded, read}
 use Rattle.bpf_classic.specs.Valid.{names_no_cell, has_bad_constant}
 use Rattle.bpf_classic.specs.declared.instruction.Register.{Register}
 use Rattle.bpf_classic.specs.declared.instruction.Register.TheVariants.{A, X}
 use Rattle.bpf_classic.specs.declared.instruction.Classic.{Classic}
-use Rattle.bpf_convert.specs.Template.{head, room, length_offset, is_beyond, is_swapped, is_masked, need, total, ahead_in, loads, trap_code, code}
+use Rattle.bpf_convert.specs.Template.{head, room, length_offset, is_beyond, is_swapped, is_masked, total, ahead_in, loads, code}
 use Rattle.bpf_convert.specs.Flow.{is_word, has_word, is_a, is_x, reads_a, reads_x, sets_a, sets_x, uses_trap, known_behind, leads_to, leads_on, implies, agrees, all_agree}
 use Rattle.bpf_convert.specs.Meaning.{insns}
 use Rattle.bpf_convert.specs.declared.layout.Form.{Form}

@@ -1,12 +1,12 @@
 -- What the templates of loads from the packet do.
-use Rattle.std.proofs.Common.{◌≡◌, ℕ, zero, suc, ◌+◌, ◌*◌, ◌-◌, ◌%◌, ◌<◌, ◌≤◌, ◌^◌, List, [], ◌∷◌, ◌++◌, length, take, drop, Bool, true, false, cond, Option, Some, None, refl, sym, ap, ap₂, ◌∙◌, subst, ⊎_elim, arith}
-use Rattle.std.specs.Prelude.{ℤ, pos, ◌+ℤ◌, ◌-ℤ◌, max, nat_lt, nat_le, slice_get, slice_index, not, ◌&&◌, ◌||◌}
+use Rattle.std.proofs.Common.{◌≡◌, ℕ, ◌+◌, ◌*◌, ◌%◌, ◌<◌, ◌≤◌, ◌^◌, List, [], ◌∷◌, ◌++◌, length, take, drop, Bool, true, false, cond, Option, Some, refl, sym, ap, ◌∙◌, subst, ⊎_elim, arith}
+use Rattle.std.specs.Prelude.{pos, ◌+ℤ◌, ◌-ℤ◌, max, nat_lt, slice_index}
 use Rattle.std.specs.Int.{cast_signed, w32, w64}
-use Rattle.std.proofs.lemmas.Bool.{false≢true, ltb-true, ltb-false, or_left, or_right as either_right, cases_lt, lt-ltb}
+use Rattle.std.proofs.lemmas.Bool.{ltb-true, ltb-false, or_left, or_right as either_right, cases_lt, lt-ltb}
 use Rattle.std.proofs.lemmas.Int.{clamps, ints}
 use Rattle.std.proofs.lemmas.List.{get_or-take, get_or-drop, get_or_past, length-take}
 use Rattle.bpf_insn.specs.Order.{number_of}
-use Rattle.bpf_insn.specs.Arithmetic.{low, extended, modulo, alu, jumps, swapped}
+use Rattle.bpf_insn.specs.Arithmetic.{extended, alu, jumps, swapped}
 use Rattle.bpf_insn.specs.Instruction.{Instructions}
 use Rattle.bpf_insn.specs.declared.order.Order.{Order}
 use Rattle.bpf_insn.specs.declared.order.Order.TheVariants.{Big}
@@ -25,21 +25,20 @@ use Rattle.bpf_semantics.proofs.NumberLemmas.{number_below}
 use Rattle.bpf_semantics.specs.declared.value.Value.{Value}
 use Rattle.bpf_semantics.specs.declared.value.Value.TheVariants.{Number, Pointer}
 use Rattle.bpf_semantics.specs.declared.value.Region.TheVariants.{Context}
-use Rattle.bpf_classic.specs.Machine.{Given, Machine, Next, put, bytes, read, loaded, next, go_on, run_from}
+use Rattle.bpf_classic.specs.Machine.{Given, Machine, put, bytes, read, loaded, next, go_on, run_from}
 use Rattle.bpf_classic.specs.declared.instruction.Register.TheVariants.{A, X}
 use Rattle.bpf_classic.specs.declared.instruction.LoadSize.{LoadSize}
 use Rattle.bpf_classic.specs.declared.instruction.LoadSize.TheVariants.{Byte, Half, Word}
-use Rattle.bpf_classic.specs.declared.instruction.Classic.{Classic}
 use Rattle.bpf_classic.specs.declared.instruction.Classic.TheVariants.{At, Index, Header}
-use Rattle.bpf_convert.specs.Template.{head, room, is_beyond, is_swapped, insn_size, end_bits, need, swap_if, swap_of, constant, length_test, load_code, total, code}
-use Rattle.bpf_convert.specs.Flow.{leads_to, tests_length, implies}
+use Rattle.bpf_convert.specs.Template.{head, room, is_beyond, is_swapped, insn_size, end_bits, need, swap_if, swap_of, length_test, load_code, total, code}
+use Rattle.bpf_convert.specs.Flow.{tests_length}
 use Rattle.bpf_convert.specs.Meaning.{insns}
 use Rattle.bpf_convert.specs.declared.layout.Layout.{Layout}
 use Rattle.bpf_convert.specs.declared.layout.Annotated.{Annotated}
-use Rattle.bpf_convert.proofs.Steps.{HasAt, Stands, Ends, Moves, after, either, has_back}
+use Rattle.bpf_convert.proofs.Steps.{HasAt, Ends, after, either, has_back}
 use Rattle.bpf_convert.proofs.Values.{constant_small, low_small, one_byte, header_words, swapped_half, swapped_word}
 use Rattle.bpf_convert.proofs.Machine.{Fixed, Now, at, set_to, with_scratch, alu_moves, scratch_moves, swap_moves, context_moves, goes, tests}
-use Rattle.bpf_convert.proofs.Known.{Fits, Knows, Good, Covers, Agreed, or_right, implied, marked, Holds, Behind, Onward, Follows, straight, put_knows, trapped, read_inside, read_outside, outside_is, inside_is}
+use Rattle.bpf_convert.proofs.Known.{Fits, or_right, implied, marked, Holds, Follows, straight, put_knows, trapped, read_inside, read_outside, outside_is, inside_is}
 
 -- a part of bytes is bytes
 pub part_bytes : (xs : List ℕ) → ((j : ℕ) → slice_index xs j < 256) → (i n j : ℕ) → slice_index (take n (drop i xs)) j < 256

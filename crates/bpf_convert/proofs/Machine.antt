@@ -1,25 +1,24 @@
 -- What the instructions of templates do on the states that a converted filter has.
-use Rattle.std.proofs.Common.{◌≡◌, ℕ, zero, suc, ◌+◌, ◌<◌, ◌≤◌, ◌^◌, List, [], ◌∷◌, length, take, drop, get_or, Bool, true, false, cond, Option, Some, None, refl, sym, ap, ap₂, ◌∙◌, subst, arith}
-use Rattle.std.specs.Prelude.{ℤ, pos, ◌+ℤ◌, nat_le, max, option_map, option_and_then}
+use Rattle.std.proofs.Common.{◌≡◌, ℕ, ◌+◌, ◌<◌, ◌≤◌, List, [], ◌∷◌, length, take, drop, get_or, Bool, true, false, cond, Option, Some, None, refl, ap, ap₂, ◌∙◌, arith}
+use Rattle.std.specs.Prelude.{ℤ, pos, ◌+ℤ◌, max, option_map}
 use Rattle.std.proofs.lemmas.Bool.{le-leb, cond_both}
 use Rattle.std.proofs.lemmas.Int.{clamps}
 use Rattle.bpf_insn.specs.Options.{◌>>=◌}
 use Rattle.bpf_insn.specs.Order.{number_of}
-use Rattle.bpf_insn.specs.Arithmetic.{low, extended, alu, jumps, swapped}
+use Rattle.bpf_insn.specs.Arithmetic.{alu, jumps, swapped}
 use Rattle.bpf_insn.specs.Instruction.{Instructions, byte_count}
 use Rattle.bpf_insn.specs.declared.order.Order.{Order}
 use Rattle.bpf_insn.specs.declared.instruction.Reg.{Reg}
-use Rattle.bpf_insn.specs.declared.instruction.Reg.TheVariants.{R0, R1, R2, R3, R4}
+use Rattle.bpf_insn.specs.declared.instruction.Reg.TheVariants.{R0, R4}
 use Rattle.bpf_insn.specs.declared.instruction.Operand.{Operand}
 use Rattle.bpf_insn.specs.declared.instruction.Width.{Width}
-use Rattle.bpf_insn.specs.declared.instruction.Width.TheVariants.{W32, W64}
+use Rattle.bpf_insn.specs.declared.instruction.Width.TheVariants.{W32}
 use Rattle.bpf_insn.specs.declared.instruction.AluOp.{AluOp}
-use Rattle.bpf_insn.specs.declared.instruction.AluOp.TheVariants.{Sub, Mov}
+use Rattle.bpf_insn.specs.declared.instruction.AluOp.TheVariants.{Sub}
 use Rattle.bpf_insn.specs.declared.instruction.Cond.{Cond}
 use Rattle.bpf_insn.specs.declared.instruction.EndBits.{EndBits}
 use Rattle.bpf_insn.specs.declared.instruction.EndKind.TheVariants.{Be}
-use Rattle.bpf_insn.specs.declared.instruction.Insn.{Insn}
-use Rattle.bpf_insn.specs.declared.instruction.Insn.TheVariants.{Alu, Neg, End, Load, Ja, JumpIf, Exit}
+use Rattle.bpf_insn.specs.declared.instruction.Insn.TheVariants.{Alu, Neg, End, Load, Ja, JumpIf}
 use Rattle.bpf_semantics.specs.State.{State, Cell, register}
 use Rattle.bpf_semantics.specs.Memory.{inside, location_of}
 use Rattle.bpf_semantics.specs.Memory.Location.{InContext}

@@ -1,40 +1,38 @@
 -- What the templates of arithmetic do: in front of a division by X a test for 0, in front of a shift by X one for 32.
-use Rattle.std.proofs.Common.{◌≡◌, ℕ, zero, suc, ◌+◌, ◌*◌, ◌-◌, ◌%◌, ◌<◌, ◌≤◌, ◌^◌, List, [], ◌∷◌, ◌++◌, length, drop, Bool, true, false, cond, Option, Some, None, refl, sym, ap, ap₂, ◌∙◌, subst, arith}
-use Rattle.std.specs.Prelude.{ℤ, pos, max, nat_lt, nat_le, slice_get, not, ◌&&◌, ◌||◌, ◌==◌}
+use Rattle.std.proofs.Common.{◌≡◌, ℕ, ◌+◌, ◌<◌, ◌≤◌, ◌^◌, List, [], ◌∷◌, ◌++◌, drop, Bool, true, false, cond, Option, Some, refl, sym, ap, ◌∙◌, subst, arith}
+use Rattle.std.specs.Prelude.{pos, nat_le, slice_get, not, ◌&&◌, ◌==◌}
 use Rattle.std.specs.Int.{cast_signed, w32}
-use Rattle.std.proofs.lemmas.Bool.{false≢true, cond_both, or_parts, and_from, and_left, and_right, ltb-true, ltb-false, lt-leb, le-leb}
+use Rattle.std.proofs.lemmas.Bool.{false≢true, or_parts, and_from, and_left, and_right, ltb-true, ltb-false, lt-leb, le-leb}
 use Rattle.std.proofs.lemmas.Int.{clamps}
 use Rattle.std.proofs.lemmas.Option.{same_Some}
 use Rattle.bpf_insn.specs.Arithmetic.{low, extended, alu, compute, jumps}
 use Rattle.bpf_insn.specs.Instruction.{Instructions}
 use Rattle.bpf_insn.specs.declared.instruction.Reg.TheVariants.{R0, R3}
-use Rattle.bpf_insn.specs.declared.instruction.Operand.{Operand}
 use Rattle.bpf_insn.specs.declared.instruction.Operand.TheVariants.{Imm, Reg as FromReg}
 use Rattle.bpf_insn.specs.declared.instruction.Width.TheVariants.{W32}
 use Rattle.bpf_insn.specs.declared.instruction.AluOp.TheVariants.{Mov}
 use Rattle.bpf_insn.specs.declared.instruction.Cond.TheVariants.{Eq as IsEq, Lt as IsLt}
 use Rattle.bpf_insn.specs.declared.instruction.Insn.{Insn}
 use Rattle.bpf_insn.specs.declared.instruction.Insn.TheVariants.{Alu as AluInsn, JumpIf as JumpIfInsn}
-use Rattle.bpf_semantics.specs.Step.{operand as operand_value, alu_result}
+use Rattle.bpf_semantics.specs.Step.{alu_result}
 use Rattle.bpf_semantics.specs.declared.value.Value.TheVariants.{Number}
-use Rattle.bpf_classic.specs.Machine.{Given, Machine, Next, put, operand, same_op, divides, shifts, result, next, go_on, run_from}
+use Rattle.bpf_classic.specs.Machine.{Given, Machine, put, operand, same_op, divides, shifts, result, next, go_on, run_from}
 use Rattle.bpf_classic.specs.Machine.Next.{Ends as EndsWith, Goes}
 use Rattle.bpf_classic.specs.declared.instruction.Register.TheVariants.{A}
 use Rattle.bpf_classic.specs.declared.instruction.Source.{Source}
 use Rattle.bpf_classic.specs.declared.instruction.Source.TheVariants.{K, X as FromX}
 use Rattle.bpf_classic.specs.declared.instruction.Op.{Op}
 use Rattle.bpf_classic.specs.declared.instruction.Op.TheVariants.{Add, Sub, Mul, Div, Or, And, Lsh, Rsh, Mod, Xor}
-use Rattle.bpf_classic.specs.declared.instruction.Classic.{Classic}
 use Rattle.bpf_classic.specs.declared.instruction.Classic.TheVariants.{Alu}
 use Rattle.bpf_convert.specs.Template.{room, operand_of, is_register, is_masked, total, code}
-use Rattle.bpf_convert.specs.Flow.{source_word, leads_to, implies}
+use Rattle.bpf_convert.specs.Flow.{source_word, leads_to}
 use Rattle.bpf_convert.specs.Meaning.{insns}
 use Rattle.bpf_convert.specs.declared.layout.Layout.{Layout}
 use Rattle.bpf_convert.specs.declared.layout.Annotated.{Annotated}
 use Rattle.bpf_convert.proofs.Steps.{HasAt, Stands, Ends, Moves, after, either}
 use Rattle.bpf_convert.proofs.Values.{constant_low, low_small, alu_narrow, nothing_left, nothing_right}
 use Rattle.bpf_convert.proofs.Machine.{Fixed, Now, at, set_to, alu_moves, tests}
-use Rattle.bpf_convert.proofs.Known.{word_below, Fits, Knows, Good, Covers, Agreed, or_no, or_right, implied, none_below, marked, Holds, Behind, Onward, Follows, pass, straight, put_knows, trapped}
+use Rattle.bpf_convert.proofs.Known.{word_below, Fits, Agreed, or_no, or_right, implied, none_below, marked, Holds, Behind, Onward, Follows, pass, trapped}
 
 -- each of them is what eBPF's is
 same_result : (op : Op) (a b : ℕ) → alu_result W32 (same_op op) (Some (Number a)) (Number b) ≡ Some (Number (alu W32 (same_op op) a b))

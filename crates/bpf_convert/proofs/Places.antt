@@ -3,7 +3,6 @@ use Rattle.std.proofs.Common.{◌≡◌, ℕ, zero, suc, ◌+◌, ◌-◌, ◌�
 use Rattle.std.specs.Prelude.{pos, nat_lt, ◌&&◌, not, ◌==◌}
 use Rattle.bpf_insn.specs.Instruction.{Instructions}
 use Rattle.bpf_insn.specs.declared.instruction.Cond.{Cond}
-use Rattle.bpf_insn.specs.declared.instruction.EndBits.{EndBits}
 use Rattle.bpf_insn.specs.declared.instruction.Insn.{Insn}
 use Rattle.bpf_insn.specs.declared.instruction.Insn.TheVariants.{Alu as AluInsn, Load as LoadInsn, Ja, JumpIf as JumpIfInsn}
 use Rattle.bpf_insn.specs.declared.instruction.Reg.TheVariants.{R0, R1, R2, R3}
@@ -12,16 +11,13 @@ use Rattle.bpf_insn.specs.declared.instruction.Width.TheVariants.{W32, W64}
 use Rattle.bpf_insn.specs.declared.instruction.Size.TheVariants.{B}
 use Rattle.bpf_insn.specs.declared.instruction.AluOp.TheVariants.{And as AndWith, Lsh as ShiftUp, Mov}
 use Rattle.bpf_insn.specs.declared.instruction.Cond.TheVariants.{Eq as IsEq, Lt as IsLt}
-use Rattle.bpf_classic.specs.Machine.{bytes, divides, shifts, same_op, same_test}
+use Rattle.bpf_classic.specs.Machine.{divides, shifts, same_op, same_test}
 use Rattle.bpf_classic.specs.declared.instruction.Source.{Source}
-use Rattle.bpf_classic.specs.declared.instruction.LoadSize.{LoadSize}
-use Rattle.bpf_classic.specs.declared.instruction.LoadSize.TheVariants.{Byte, Half, Word}
 use Rattle.bpf_classic.specs.declared.instruction.Op.{Op}
 use Rattle.bpf_classic.specs.declared.instruction.Test.{Test}
-use Rattle.bpf_classic.specs.declared.instruction.Test.TheVariants.{Eq, Gt, Ge, Set}
 use Rattle.bpf_classic.specs.declared.instruction.Classic.{Classic}
 use Rattle.bpf_classic.specs.declared.instruction.Classic.TheVariants.{Constant, Length, Cell, Store, At, Index, Header, Extension, Alu, Neg, Jump, JumpIf, Return, ReturnA, Tax, Txa}
-use Rattle.bpf_convert.specs.Template.{head, insn_size, constant, operand_of, is_beyond, is_register, is_masked, is_swapped, end_bits, need, swap_of, swap_if, length_test, at_code, index_code, header_code, load_code, any_load_code, alu_code, inverse, jump_code, unless_code, if_code, plain_code, code_of, template, nowhere, size, total, ahead_in, trap_code, code}
+use Rattle.bpf_convert.specs.Template.{head, insn_size, constant, operand_of, is_beyond, is_register, is_masked, need, swap_of, length_test, load_code, alu_code, inverse, jump_code, unless_code, if_code, code_of, template, nowhere, size, total, ahead_in, trap_code, code}
 use Rattle.bpf_convert.specs.declared.layout.Layout.{Layout}
 use Rattle.bpf_convert.specs.declared.layout.Annotated.{Annotated}
 use Rattle.bpf_convert.proofs.Steps.{HasAt, has_back}

@@ -1,8 +1,8 @@
 -- What the templates do that neither load from the packet nor jump nor compute with a second operand.
-use Rattle.std.proofs.Common.{◌≡◌, ℕ, zero, suc, ◌+◌, ◌*◌, ◌-◌, ◌%◌, ◌<◌, ◌≤◌, ◌^◌, List, [], ◌∷◌, ◌++◌, length, take, drop, get_or, Bool, true, false, cond, Option, Some, None, refl, sym, ap, ap₂, ◌∙◌, subst, arith}
-use Rattle.std.specs.Prelude.{ℤ, pos, ◌+ℤ◌, max, nat_le, ◌==◌, slice_set, option_and_then}
+use Rattle.std.proofs.Common.{◌≡◌, ℕ, ◌+◌, ◌%◌, ◌<◌, ◌^◌, take, drop, Bool, true, Some, refl, ap, ◌∙◌, subst, arith}
+use Rattle.std.specs.Prelude.{ℤ, pos, ◌+ℤ◌, max, option_and_then}
 use Rattle.std.specs.Int.{cast_signed, w32}
-use Rattle.std.proofs.lemmas.Bool.{false≢true, eq-eqb, leb-false}
+use Rattle.std.proofs.lemmas.Bool.{eq-eqb, leb-false}
 use Rattle.std.proofs.lemmas.Int.{clamps}
 use Rattle.bpf_insn.specs.Order.{number_of}
 use Rattle.bpf_insn.specs.Arithmetic.{low, extended, alu}
@@ -15,24 +15,21 @@ use Rattle.bpf_semantics.specs.State.{number_in}
 use Rattle.bpf_semantics.specs.Memory.{with_bytes}
 use Rattle.bpf_insn.specs.Order.{bytes_of}
 use Rattle.bpf_semantics.specs.declared.value.Value.TheVariants.{Number}
-use Rattle.bpf_classic.specs.Machine.{Given, Machine, Next, put, held, with_cell, cell_of, next, go_on, run_from}
+use Rattle.bpf_classic.specs.Machine.{Given, put, held, with_cell, cell_of, next}
 use Rattle.bpf_classic.specs.Valid.{cell_count}
 use Rattle.bpf_classic.specs.declared.instruction.Register.{Register}
 use Rattle.bpf_classic.specs.declared.instruction.Register.TheVariants.{A, X}
 use Rattle.bpf_classic.specs.declared.instruction.LoadSize.TheVariants.{Word}
-use Rattle.bpf_classic.specs.declared.instruction.Classic.{Classic}
 use Rattle.bpf_classic.specs.declared.instruction.Classic.TheVariants.{Constant, Length, Cell, Store, Neg, Return, ReturnA, Tax, Txa}
-use Rattle.bpf_convert.specs.Template.{room, length_offset, length_insn, reg_of, code}
-use Rattle.bpf_convert.specs.Meaning.{insns}
+use Rattle.bpf_convert.specs.Template.{room, length_offset, length_insn, reg_of}
 use Rattle.bpf_convert.specs.declared.layout.Form.{Form}
 use Rattle.bpf_convert.specs.declared.layout.Form.TheVariants.{Blocks, Plain, Seccomp, Extended}
 use Rattle.bpf_convert.specs.declared.layout.Layout.{Layout}
-use Rattle.bpf_convert.specs.declared.layout.Annotated.{Annotated}
-use Rattle.bpf_convert.proofs.Steps.{HasAt, Stands, Ends, Moves, after, ending}
+use Rattle.bpf_convert.proofs.Steps.{Stands, Moves, after, ending}
 use Rattle.bpf_convert.proofs.Values.{constant_low, low_small, alu_narrow}
 use Rattle.bpf_convert.proofs.Machine.{Fixed, Now, at, set_to, with_cells, alu_moves, negates, context_moves}
-use Rattle.bpf_convert.proofs.Frame.{CellsHold, first_of, cells_after, cell_moves, store_moves}
-use Rattle.bpf_convert.proofs.Known.{word_below, LengthIs, Fits, Knows, Good, Covers, or_no, or_right, implied, none_below, marked, Behind, Follows, pass, straight, put_knows, held_is, held_small}
+use Rattle.bpf_convert.proofs.Frame.{first_of, cells_after, cell_moves, store_moves}
+use Rattle.bpf_convert.proofs.Known.{word_below, LengthIs, Fits, or_no, or_right, implied, none_below, marked, Behind, Follows, pass, put_knows, held_is, held_small}
 
 module _ (l : Layout) (p : Instructions) (g : Given) (f : Fixed) (wanted : ℕ → Bool) where
   -- A or X is set to what the move gives

@@ -1,24 +1,23 @@
 -- A converted filter answers what the filter does: forward along the filter's run, an instruction at a time.
-use Rattle.std.proofs.Common.{◌≡◌, ℕ, zero, suc, ◌+◌, ◌-◌, ◌<◌, ◌≤◌, List, [], ◌∷◌, ◌++◌, length, drop, Bool, true, false, Option, Some, None, refl, sym, ap, ◌∙◌, subst, arith}
-use Rattle.std.specs.Prelude.{map, slice_get, nat_le, max, ◌&&◌, ◌||◌}
-use Rattle.std.specs.List.{list_any}
+use Rattle.std.proofs.Common.{◌≡◌, ℕ, zero, suc, ◌+◌, List, [], ◌∷◌, drop, Bool, true, Option, Some, None, refl, sym, ap, ◌∙◌, subst, arith}
+use Rattle.std.specs.Prelude.{slice_get, ◌&&◌, ◌||◌}
 use Rattle.std.proofs.lemmas.Bool.{false≢true, and_parts, leb-true, or_left, or_right}
 use Rattle.std.proofs.lemmas.Option.{none-some}
 use Rattle.std.proofs.lemmas.List.{drop-map}
 use Rattle.bpf_insn.specs.Instruction.{Instructions}
-use Rattle.bpf_classic.specs.Machine.{Given, Machine, next, go_on, run_from}
+use Rattle.bpf_classic.specs.Machine.{Given, Machine, run_from}
 use Rattle.bpf_classic.specs.declared.instruction.Source.TheVariants.{K, X as FromX}
 use Rattle.bpf_classic.specs.declared.instruction.Classic.{Classic}
 use Rattle.bpf_classic.specs.declared.instruction.Classic.TheVariants.{Constant, Length, Cell, Store, At, Index, Header, Extension, Alu, Neg, Jump, JumpIf, Return, ReturnA, Tax, Txa}
 use Rattle.bpf_convert.specs.Template.{ahead_in, loads, is_loaded, code}
-use Rattle.bpf_convert.specs.Flow.{sets_a, sets_x, known_behind, leads_to, implies, agrees, all_agree}
+use Rattle.bpf_convert.specs.Flow.{sets_a, sets_x, known_behind, leads_to, agrees, all_agree}
 use Rattle.bpf_convert.specs.Meaning.{insns}
 use Rattle.bpf_convert.specs.declared.layout.Layout.{Layout}
 use Rattle.bpf_convert.specs.declared.layout.Annotated.{Annotated}
 use Rattle.bpf_convert.proofs.Steps.{HasAt, Ends}
 use Rattle.bpf_convert.proofs.Places.{code_at}
 use Rattle.bpf_convert.proofs.Machine.{Fixed, Now, at}
-use Rattle.bpf_convert.proofs.Known.{Fits, Knows, Good, Sane, Covers, Agreed, agreed, all_drop, found, implied, marked, Holds, Behind, Onward, Follows}
+use Rattle.bpf_convert.proofs.Known.{Fits, Sane, Covers, Agreed, agreed, all_drop, found, implied, marked, Holds, Behind, Onward, Follows}
 use Rattle.bpf_convert.proofs.Plain as plain
 use Rattle.bpf_convert.proofs.Operations as operations
 use Rattle.bpf_convert.proofs.Jumps as jumps

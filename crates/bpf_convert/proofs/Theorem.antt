@@ -1,12 +1,11 @@
 -- A converted filter answers what the filter does, on every context.
-use Rattle.std.proofs.Common.{◌≡◌, ℕ, zero, suc, ◌+◌, ◌-◌, ◌*◌, ◌%◌, ◌<◌, ◌≤◌, ◌^◌, List, [], ◌∷◌, ◌++◌, length, take, drop, get_or, Bool, true, false, cond, Option, Some, None, refl, sym, ap, ap₂, ◌∙◌, subst, arith}
-use Rattle.std.specs.Prelude.{ℤ, pos, min, map, replicate, flat_map, slice_index, slice_get, ◌&&◌}
+use Rattle.std.proofs.Common.{◌≡◌, ℕ, zero, suc, ◌+◌, ◌-◌, ◌%◌, ◌≤◌, ◌^◌, List, [], ◌∷◌, ◌++◌, length, take, drop, get_or, Bool, true, false, cond, Some, None, refl, sym, ap, ◌∙◌, subst, arith}
+use Rattle.std.specs.Prelude.{min, replicate, flat_map}
 use Rattle.std.specs.List.{range_with_len}
 use Rattle.std.proofs.lemmas.Bool.{false≢true, and_parts, leb-true, cond_both}
 use Rattle.std.proofs.lemmas.Int.{clamps}
-use Rattle.std.proofs.lemmas.List.{get_or-take, get_or-drop, length-drop, length-take-le, drop-take, drop-drop, take-take, get_or-replicate}
+use Rattle.std.proofs.lemmas.List.{get_or-take, get_or-drop, length-drop, length-take-le, drop-take, drop-drop, take-take}
 use Rattle.bpf_insn.specs.Laws.{AreBytes}
-use Rattle.bpf_insn.specs.Limits.{max_context}
 use Rattle.bpf_insn.specs.Order.{number_of}
 use Rattle.bpf_insn.specs.Arithmetic.{low}
 use Rattle.bpf_insn.specs.Instruction.{Instructions}
@@ -14,29 +13,25 @@ use Rattle.bpf_insn.specs.declared.order.Order.{Order}
 use Rattle.bpf_insn.specs.declared.order.Order.TheVariants.{Little, Big}
 use Rattle.bpf_insn.specs.declared.instruction.Insn.{Insn}
 use Rattle.bpf_insn.specs.declared.instruction.Reg.TheVariants.{R0, R3}
-use Rattle.bpf_insn.specs.declared.instruction.Width.TheVariants.{W32}
-use Rattle.bpf_semantics.specs.State.{Cell, empty_stack, start}
-use Rattle.bpf_semantics.specs.Run.{IsDone}
+use Rattle.bpf_semantics.specs.State.{empty_stack, start}
 use Rattle.bpf_semantics.specs.declared.value.Value.TheVariants.{Number}
-use Rattle.bpf_classic.specs.Machine.{Given, Machine, blank, answer, run_from}
-use Rattle.bpf_classic.specs.Valid.{IsFilter, AreFaultless}
+use Rattle.bpf_classic.specs.Machine.{blank, run_from}
+use Rattle.bpf_classic.specs.Valid.{AreFaultless}
 use Rattle.bpf_classic.specs.declared.instruction.Register.{Register}
 use Rattle.bpf_classic.specs.declared.instruction.Register.TheVariants.{A, X}
-use Rattle.bpf_classic.specs.declared.instruction.Classic.{Classic}
 use Rattle.bpf_classic.specs.declared.refusal.Kind.{Kind}
-use Rattle.bpf_convert.specs.Template.{head, room, is_block, is_swapped, low_half, length_offset, known_first, is_loaded, room_insns, room_code, zero_if, zero_cell, entry, code, whole}
-use Rattle.bpf_convert.specs.Longest.{longest}
-use Rattle.bpf_convert.specs.Flow.{all_agree, starts_well, is_sound, implies}
-use Rattle.bpf_convert.specs.Meaning.{wire_of, there, words_of, given, HasForm, IsContext, insns, program_of, IsConverted, EndsAlike, ConversionKeepsAnswers}
+use Rattle.bpf_convert.specs.Template.{head, room, is_block, is_swapped, low_half, length_offset, known_first, is_loaded, room_insns, zero_if, zero_cell, code, whole}
+use Rattle.bpf_convert.specs.Flow.{is_sound}
+use Rattle.bpf_convert.specs.Meaning.{wire_of, there, words_of, given, HasForm, IsContext, insns, program_of, EndsAlike, ConversionKeepsAnswers}
 use Rattle.bpf_convert.specs.declared.layout.Form.{Form}
 use Rattle.bpf_convert.specs.declared.layout.Form.TheVariants.{Blocks, Plain, Seccomp, Extended}
 use Rattle.bpf_convert.specs.declared.layout.Layout.{Layout}
 use Rattle.bpf_convert.specs.declared.layout.Annotated.{Annotated}
 use Rattle.bpf_convert.proofs.Steps.{HasAt, Ends, has_all, narrow_layout}
 use Rattle.bpf_convert.proofs.Machine.{Fixed, Now, at, set_to, with_cells}
-use Rattle.bpf_convert.proofs.Frame.{Cells, HoldsNumber, CellsHold}
-use Rattle.bpf_convert.proofs.Known.{LengthIs, WordsAre, Fits, Knows, Good, implied}
-use Rattle.bpf_convert.proofs.Simulation.{AreGood, Wants, simulates}
+use Rattle.bpf_convert.proofs.Frame.{Cells, HoldsNumber}
+use Rattle.bpf_convert.proofs.Known.{LengthIs, WordsAre, Fits, implied}
+use Rattle.bpf_convert.proofs.Simulation.{AreGood, simulates}
 use Rattle.bpf_convert.proofs.Narrow.{narrow_whole}
 use Rattle.bpf_convert.proofs.Answering.{faultless, answers}
 use Rattle.bpf_convert.proofs.Entry.{Zeroed, block_room, zero_register, zero_cells}

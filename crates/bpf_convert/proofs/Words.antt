@@ -1,34 +1,31 @@
 -- What the templates of Linux's auxiliary data do.
-use Rattle.std.proofs.Common.{◌≡◌, ℕ, ◌+◌, ◌*◌, ◌<◌, ◌≤◌, ◌^◌, List, [], ◌∷◌, length, take, drop, Bool, Option, Some, None, refl, sym, ap, ap₂, ◌∙◌, subst, arith}
-use Rattle.std.specs.Prelude.{ℤ, pos, ◌+ℤ◌, max, slice_index}
+use Rattle.std.proofs.Common.{◌≡◌, ℕ, ◌+◌, ◌<◌, ◌≤◌, ◌^◌, List, [], take, drop, Bool, refl, sym, ap, ap₂, ◌∙◌, subst, arith}
+use Rattle.std.specs.Prelude.{pos, ◌+ℤ◌, max, slice_index}
 use Rattle.std.proofs.lemmas.Int.{clamps}
 use Rattle.std.proofs.Math.Seq.{drop-nil}
 use Rattle.bpf_insn.specs.Order.{number_of}
 use Rattle.bpf_insn.specs.Instruction.{Instructions}
 use Rattle.bpf_insn.specs.declared.order.Order.{Order}
 use Rattle.bpf_insn.specs.declared.order.Order.TheVariants.{Little, Big}
-use Rattle.bpf_insn.specs.declared.instruction.Reg.TheVariants.{R0, R1}
+use Rattle.bpf_insn.specs.declared.instruction.Reg.TheVariants.{R1}
 use Rattle.bpf_insn.specs.declared.instruction.Operand.TheVariants.{Imm}
 use Rattle.bpf_insn.specs.declared.instruction.Width.TheVariants.{W32}
 use Rattle.bpf_insn.specs.declared.instruction.AluOp.TheVariants.{Mov}
 use Rattle.bpf_semantics.specs.declared.value.Value.TheVariants.{Number}
 use Rattle.bpf_classic.specs.Auxiliary.{offset_of}
-use Rattle.bpf_classic.specs.Machine.{Given, Machine, Next, put, word_at, next, go_on, run_from}
+use Rattle.bpf_classic.specs.Machine.{Given, put, word_at, next}
 use Rattle.bpf_classic.specs.declared.instruction.Register.TheVariants.{A}
 use Rattle.bpf_classic.specs.declared.instruction.LoadSize.TheVariants.{Word}
 use Rattle.bpf_classic.specs.declared.instruction.Auxiliary.{Auxiliary}
 use Rattle.bpf_classic.specs.declared.instruction.Auxiliary.TheVariants.{Protocol, PacketType, Interface, Mark, Queue, HardwareType, Hash, Processor, VlanTag, HasVlanTag, Random, VlanProtocol}
-use Rattle.bpf_classic.specs.declared.instruction.Classic.{Classic}
 use Rattle.bpf_classic.specs.declared.instruction.Classic.TheVariants.{Extension}
-use Rattle.bpf_convert.specs.Template.{room, word_insn, code}
-use Rattle.bpf_convert.specs.Meaning.{insns}
+use Rattle.bpf_convert.specs.Template.{room, word_insn}
 use Rattle.bpf_convert.specs.declared.layout.Form.{Form}
 use Rattle.bpf_convert.specs.declared.layout.Form.TheVariants.{Blocks, Plain, Seccomp, Extended}
 use Rattle.bpf_convert.specs.declared.layout.Layout.{Layout}
-use Rattle.bpf_convert.specs.declared.layout.Annotated.{Annotated}
-use Rattle.bpf_convert.proofs.Steps.{HasAt, Stands, Ends, Moves}
+use Rattle.bpf_convert.proofs.Steps.{Stands, Moves}
 use Rattle.bpf_convert.proofs.Machine.{Fixed, Now, at, set_to, alu_moves, context_moves}
-use Rattle.bpf_convert.proofs.Known.{WordsAre, Fits, Knows, Good, Covers, or_right, none_below, marked, Follows, pass, put_knows}
+use Rattle.bpf_convert.proofs.Known.{WordsAre, Fits, or_right, none_below, marked, Follows, pass, put_knows}
 use Rattle.bpf_convert.proofs.Loading.{part_bytes, number_small}
 
 offset_low : (word : Auxiliary) → offset_of word ≤ 60

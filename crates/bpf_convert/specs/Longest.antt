@@ -1,5 +1,5 @@
 -- How long the longest way through a program is, in instructions, where jumps lead forward and nothing is called.
-use Rattle.std.specs.Prelude.{ℕ, ◌+◌, max, ℤ, pos, negsuc, List, [], ◌∷◌, get_or}
+use Rattle.std.specs.Prelude.{ℕ, ◌+◌, max, pos, List, [], ◌∷◌, get_or}
 use Rattle.bpf_insn.specs.declared.instruction.Insn.{Insn}
 use Rattle.bpf_insn.specs.declared.instruction.Insn.TheVariants.{Ja, JumpIf, Exit}
 

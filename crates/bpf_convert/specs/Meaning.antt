@@ -1,5 +1,5 @@
 -- What a filter is given by a context, and what it is that a program answers what the filter does.
-use Rattle.std.specs.Prelude.{◌≡◌, ℕ, ◌+◌, ◌<◌, ◌≤◌, slice_index, min, List, [], length, take, drop, map, true, Option, Some, if◌then◌else◌, ⊤}
+use Rattle.std.specs.Prelude.{◌≡◌, ℕ, ◌+◌, ◌<◌, ◌≤◌, slice_index, min, List, [], length, take, drop, map, true, Some, if◌then◌else◌, ⊤}
 use Rattle.bpf_insn.specs.Limits.{max_context}
 use Rattle.bpf_insn.specs.Laws.{AreBytes}
 use Rattle.bpf_insn.specs.Order.{number_of}

@@ -1,6 +1,6 @@
 -- What each instruction of a filter becomes. The accumulator A is r0, the index register X is r3, each with zeros above 32 bits; r1 is the
 -- context, r2 how many bytes of the packet are there, r4 is scratch, and the cell M[i] is the frame's slot i + 1.
-use Rattle.std.specs.Prelude.{◌≡◌, ℕ, ◌+◌, ◌-◌, ◌*◌, ◌%◌, ◌==◌, nat_lt, nat_le, min, ℤ, pos, ◌-ℤ◌, Bool, true, false, not, ◌&&◌, List, [], ◌∷◌, ◌++◌, length, get_or, drop, flat_map, Option, Some, None, if◌then◌else◌}
+use Rattle.std.specs.Prelude.{◌≡◌, ℕ, ◌+◌, ◌-◌, ◌*◌, ◌%◌, ◌==◌, nat_lt, min, ℤ, pos, ◌-ℤ◌, Bool, true, false, not, ◌&&◌, List, [], ◌∷◌, ◌++◌, length, get_or, drop, flat_map, Option, Some, None, if◌then◌else◌}
 use Rattle.std.specs.List.{list_any, range_with_len}
 use Rattle.std.specs.Int.{cast_signed, w32}
 use Rattle.bpf_insn.specs.declared.order.Order.{Order}

@@ -2,6 +2,9 @@
 
 ghost use Rattle.std.specs.Prelude.{◌≡◌, ◌++◌, ◌≤◌, OnOk};
 ghost use Rattle.bpf_insn.specs.Limits.{max_context};
+ghost use Rattle.bpf_insn.specs.declared.instruction.Reg.TheVariants.{R1};
+ghost use Rattle.bpf_insn.specs.declared.instruction.Size.TheVariants.{W};
+ghost use Rattle.bpf_insn.specs.declared.instruction.Insn.TheVariants.{Load as LoadInsn};
 ghost use Rattle.bpf_classic.specs.Valid.{max_filter};
 ghost use Rattle.bpf_classic.specs.Machine.{same_op, same_test};
 ghost use Rattle.bpf_convert.specs.Template.{reg_of, operand_of, cell_offset, length_insn, word_insn, is_register, alu_code, inverse, jump_code, unless_code, if_code, plain_code, template, from_on, way};
@@ -77,16 +80,23 @@ fn inverse(test: Test) -> Option<Cond>
     }
 }
 
+/// A load of four bytes of the context.
+fn word_load(dst: Reg, off: i16) -> Insn
+    ensures { result ≡ LoadInsn W dst R1 off }
+{
+    Insn::Load {
+        size: Size::W,
+        dst,
+        src: Reg::R1,
+        off,
+    }
+}
+
 fn length_insn(form: Form, offset: i16, dst: Reg) -> Insn
     ensures { result ≡ length_insn form offset dst }
 {
     match form {
-        Form::Blocks | Form::Extended => Insn::Load {
-            size: Size::W,
-            dst,
-            src: Reg::R1,
-            off: offset,
-        },
+        Form::Blocks | Form::Extended => word_load(dst, offset),
         Form::Plain => alu(AluOp::Mov, dst, Operand::Reg(Reg::R2)),
         Form::Seccomp => alu(AluOp::Mov, dst, Operand::Imm(64)),
     }
@@ -98,12 +108,7 @@ fn word_insn(form: Form, offset: u32) -> Insn
     ensures { result ≡ word_insn form offset }
 {
     match form {
-        Form::Extended => Insn::Load {
-            size: Size::W,
-            dst: Reg::R0,
-            src: Reg::R1,
-            off: (8 + offset) as i16,
-        },
+        Form::Extended => word_load(Reg::R0, (8 + offset) as i16),
         Form::Blocks | Form::Plain | Form::Seccomp => alu(AluOp::Mov, Reg::R0, Operand::Imm(0)),
     }
 }

@@ -1,4 +1,4 @@
-use Rattle.std.proofs.Common.{rules, ◌≡◌, ◌+◌, ◌-◌, ◌<◌, ℕ, None, length, ap, ◌∙◌}
+use Rattle.std.proofs.Common.{rules, ◌≡◌, ◌+◌, ◌-◌, ◌<◌, None, length, ap, ◌∙◌}
 use Rattle.std.specs.Prelude.{get_or}
 use Rattle.bpf_classic.specs.declared.raw.Raw.{Raw}
 use Rattle.std.specs.Prelude.{option_and_then}
