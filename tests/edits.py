@@ -74,6 +74,8 @@ CONVERTERS = {
     "a length is known on one way, and believed on both": ["bpf_convert/leads_to-keeps-a-length-where-ways-meet"],
     "an answer is a signed number": ["bpf_convert/put_plain-answers-a-signed-number"],
     "two cells share a slot": ["bpf_convert/cell_offset-lays-two-cells-into-one-slot"],
+    "an extension is read as bytes of the packet": ["bpf_classic/in_kind-takes-words-as-bytes-of-a-packet"],
+    "a word is taken for its neighbour": ["bpf_classic/auxiliary_at-exchanges-tag-and-presence", "bpf_convert/word_insn-reads-a-word-too-early"],
 }
 
 # Each command, as bpf_words names it, and each call of the library for hosts, as bpf.h does.
