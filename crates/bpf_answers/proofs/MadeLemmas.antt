@@ -3,7 +3,7 @@ use Rattle.std.proofs.Common.{◌≡◌, ◌⊎◌, inl, inr, subst, ℕ, List, 
 use Rattle.std.specs.Io.KnownBytes.{Appends, Keeps}
 use Rattle.bpf_insn.specs.Written.{AppendsBeginning}
 use Rattle.bpf_answers.specs.Answer.{Answer, Says, Unfinished, text_of}
-use Rattle.bpf_answers.specs.Answer.Answer.{Written}
+use Rattle.bpf_answers.specs.declared.answer.Answer.TheVariants.{Written}
 use Rattle.bpf_answers.specs.declared.failure.Failure.{Failure}
 use Rattle.bpf_answers.specs.declared.failure.Failure.TheVariants.{CannotWrite, NoMemory}
 use Rattle.std.specs.Borrow.{Bor}

@@ -1,4 +1,4 @@
--- What a command answers on standard output, with its status.
+-- The status of an answer, and its text on standard output.
 use Rattle.std.specs.Prelude.{◌≡◌, ◌⊎◌, ◌++◌, ℕ, List, [], ◌∷◌, Option, Some, None, Bool, true, false, codes, decimal, nat_eq, if◌then◌else◌}
 use Rattle.std.specs.Io.KnownBytes.{Appends, Keeps}
 use Rattle.std.specs.List.{concat, join_with_byte}
@@ -6,77 +6,27 @@ use Rattle.bpf_semantics.specs.ReasonNumbers.{reason_number}
 use Rattle.bpf_insn.specs.Written.{AppendsBeginning}
 use Rattle.bpf_insn.specs.RefusalNumbers.{decode_number, decode_slot, build_number, build_slot}
 use Rattle.bpf_insn.specs.declared.instruction.Groups.{Groups}
-use Rattle.bpf_insn.specs.declared.instruction.Insn.{Insn}
-use Rattle.bpf_insn.specs.declared.refusal.DecodeError.{DecodeError}
 use Rattle.bpf_state.specs.Work.{Counts}
-use Rattle.bpf_insn.specs.declared.order.Order.{Order}
 use Rattle.bpf_text.specs.Listing.{listing}
 use Rattle.bpf_text.specs.Annotated.{annotated}
-use Rattle.bpf_text.specs.declared.annotated.Notes.{Notes}
 use Rattle.bpf_text.specs.declared.error.TextError.{TextError}
 use Rattle.bpf_text.specs.declared.error.TextError.TheVariants.{Form, Range, DefinedAgain, Undefined, TooFar, Program, Memory as TextMemory}
 use Rattle.bpf_cert.specs.RefusalNumbers.{refusal_number as cert_number, refusal_line as cert_line}
-use Rattle.bpf_cert.specs.declared.error.CertError.{CertError}
 use Rattle.bpf_check.specs.RefusalNumbers.{refusal_number as check_number, refusal_slot as check_slot}
-use Rattle.bpf_check.specs.declared.refusal.Refusal.{Refusal}
 use Rattle.bpf_infer_error.specs.RefusalNumbers.{condition_number}
 use Rattle.bpf_infer_error.specs.declared.error.InferError.{InferError}
 use Rattle.bpf_infer_error.specs.declared.error.InferError.TheVariants.{Unstable, NoBudget, Recursion, Fault as NoState, Memory as InferMemory}
 use Rattle.bpf_harden_notes.specs.RefusalNumbers.{harden_number, harden_slot}
-use Rattle.bpf_harden_notes.specs.declared.error.HardenError.{HardenError}
 use Rattle.bpf_follows.specs.Mismatches.{mismatch_number, mismatch_slot}
-use Rattle.bpf_follows.specs.declared.mismatch.Mismatch.{Mismatch}
 use Rattle.bpf_follows_law.specs.declared.notes.Bounds.{Bounds}
 use Rattle.bpf_follows_notes.specs.Refused.{refusal_number as notes_number, refusal_line as notes_line}
-use Rattle.bpf_follows_notes.specs.declared.error.NotesError.{NotesError}
-use Rattle.bpf_answers.specs.declared.certified.Certification.{Certification}
+pub use Rattle.bpf_answers.specs.declared.answer.Answer.{Answer}
+use Rattle.bpf_answers.specs.declared.answer.Answer.TheVariants.{Yes, NoImage, NoText, NoCertificate, NotCertified, NotProposed, NotHardened, NotShown, Certified, TooDear, Uncertified, NotConverted, Follows, NoOld, NoNew, NoNotes, NotFollowed, NoContext, Ends, Ran, Occur, Lists, Annotates, Written, WrittenFor}
 use Rattle.bpf_answers.specs.declared.converted.Unconverted.{Unconverted}
 use Rattle.bpf_answers.specs.declared.converted.Unconverted.TheVariants.{InLine, InFilter}
 use Rattle.bpf_answers.specs.declared.certified.Rewriting.{Rewriting}
 use Rattle.bpf_machine.specs.declared.outcome.Outcome.{Outcome}
 use Rattle.bpf_machine.specs.declared.outcome.Outcome.TheVariants.{Done as DoneRun, Fault as FaultRun, OutOfFuel}
-
-pub data Answer : Type 0 where
-  -- a certificate certifies the image's program: for contexts of `least` to `most` bytes, within this bound; and the work of
-  -- the check, where it is asked for
-  Yes : (least most bound : ℕ) → (work : Option Counts) → Answer
-  -- what is at a name is no image, no text, no certificate; or the certificate doesn't certify, or none is proposed
-  NoImage : (error : DecodeError) → Answer
-  NoText : (error : TextError) → Answer
-  NoCertificate : (error : CertError) → Answer
-  NotCertified : (refusal : Refusal) → Answer
-  NotProposed : (error : InferError) → Answer
-  -- a program isn't hardened; or it is, and isn't shown to keep its meaning
-  NotHardened : (error : HardenError) → Answer
-  NotShown : (mismatch : Mismatch) → Answer
-  -- an image was written with its certificate; or its bound is too great; or the checker refuses what was found
-  Certified : (told : Certification) → Answer
-  TooDear : Answer
-  Uncertified : Answer
-  -- a filter of classic BPF isn't converted
-  NotConverted : (why : Unconverted) → Answer
-  -- notes show that one image's program keeps the meaning of another's, on these contexts and for these runs
-  Follows : (bounds : Bounds) → Answer
-  -- what is at the name of the old one or of the new one is no image, what is at the notes' name none; or they don't show it
-  NoOld : (error : DecodeError) → Answer
-  NoNew : (error : DecodeError) → Answer
-  NoNotes : (error : NotesError) → Answer
-  NotFollowed : (mismatch : Mismatch) → Answer
-  -- a context of so many bytes, where the certificate speaks of `least` to `most`
-  NoContext : (count least most : ℕ) → Answer
-  -- a checked program ends with this number
-  Ends : (value : ℕ) → Answer
-  -- how a run of any program ends
-  Ran : (outcome : Outcome) → Answer
-  -- the conformance groups, and the instructions, of an image
-  Occur : (groups : Groups) → Answer
-  Lists : (is : List Insn) → Answer
-  -- the same with comments
-  Annotates : (notes : Notes) → (order : Order) → (is : List Insn) → Answer
-  -- what was asked for was written at a name
-  Written : Answer
-  -- the same of a hardened image that is shown to keep the meaning of runs that leave so many bytes of each frame to r10, which nobody asked for
-  WrittenFor : (untouched : ℕ) → Answer
 
 -- ---- the status: 0 done, yes or written; 1 a refusal, a fault of the program, out of fuel
 
@@ -107,8 +57,8 @@ status_of (NoContext count least most) = 1
 status_of (Ends value) = 0
 status_of (Ran outcome) = status_of_run outcome
 status_of (Occur groups) = 0
-status_of (Lists is) = 0
-status_of (Annotates notes order is) = 0
+status_of (Lists program) = 0
+status_of (Annotates a) = 0
 status_of Written = 0
 status_of (WrittenFor untouched) = 0
 
@@ -251,8 +201,8 @@ text_of (NoContext count least most) = no_context_line count least most
 text_of (Ends value) = concat (codes "done " ∷ decimal value ∷ codes "\n" ∷ [])
 text_of (Ran outcome) = run_line outcome
 text_of (Occur groups) = groups_line groups
-text_of (Lists is) = listing is
-text_of (Annotates notes order is) = annotated notes order is
+text_of (Lists program) = listing program.list
+text_of (Annotates a) = annotated a.notes a.program.order a.program.list
 text_of Written = []
 text_of (WrittenFor untouched) = concat (codes "untouched " ∷ decimal untouched ∷ codes "\n" ∷ [])
 

@@ -3,7 +3,7 @@
 ghost use Rattle.std.specs.Prelude.{◌≡◌, IfOk, IfErr, MatchResult};
 ghost use Rattle.bpf_insn.specs.Written.{AppendsBeginning};
 ghost use Rattle.bpf_answers.specs.Answer.{Says, text_of};
-ghost use Rattle.bpf_answers.specs.Answer.Answer.{NoCertificate, NotCertified};
+ghost use Rattle.bpf_answers.specs.declared.answer.Answer.TheVariants.{NoCertificate, NotCertified};
 ghost use Rattle.bpf_answers.specs.Loaded.{CertificateAt, CertificateRefused, CertificateFails, Tried};
 ghost use Rattle.bpf_answers.specs.Told.{IsQuiet, OutputFails};
 

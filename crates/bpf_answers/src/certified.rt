@@ -4,7 +4,7 @@ ghost use Rattle.std.specs.Prelude.{◌≡◌, Some, IfOk, IfErr};
 ghost use Rattle.std.specs.String.{string_bytes};
 ghost use Rattle.bpf_insn.specs.Written.{AppendsBeginning};
 ghost use Rattle.bpf_answers.specs.Answer.{Says, certified_line, padded_word, proved_end, text_of};
-ghost use Rattle.bpf_answers.specs.Answer.Answer.{Certified as IsCertified, TooDear, Uncertified};
+ghost use Rattle.bpf_answers.specs.declared.answer.Answer.TheVariants.{Certified as IsCertified, TooDear, Uncertified};
 ghost use Rattle.bpf_answers.specs.Told.{OutputFails};
 
 use crate::failure::{DONE, Failure, say};

@@ -3,7 +3,7 @@
 ghost use Rattle.std.specs.Prelude.{◌≡◌, IfOk, IfErr};
 ghost use Rattle.bpf_insn.specs.Written.{AppendsBeginning};
 ghost use Rattle.bpf_answers.specs.Answer.{Says, text_of};
-ghost use Rattle.bpf_answers.specs.Answer.Answer.{NotConverted};
+ghost use Rattle.bpf_answers.specs.declared.answer.Answer.TheVariants.{NotConverted};
 ghost use Rattle.bpf_answers.specs.Told.{OutputFails};
 
 use crate::failure::Failure;

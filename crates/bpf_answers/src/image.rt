@@ -5,7 +5,7 @@ ghost use Rattle.bpf_places.specs.Opened.{ReadsAt};
 ghost use Rattle.bpf_answers.specs.Loaded.{NoSpaceFor, ImageRefused, LoadsImage, ImageFails, Tried};
 ghost use Rattle.bpf_insn.specs.Written.{AppendsBeginning};
 ghost use Rattle.bpf_answers.specs.Answer.{Says, text_of};
-ghost use Rattle.bpf_answers.specs.Answer.Answer.{NoImage, NoNew, NoOld};
+ghost use Rattle.bpf_answers.specs.declared.answer.Answer.TheVariants.{NoImage, NoNew, NoOld};
 ghost use Rattle.bpf_answers.specs.Told.{IsQuiet, OutputFails};
 
 use crate::failure::Failure;

@@ -4,7 +4,7 @@ ghost use Rattle.std.specs.Prelude.{◌≡◌, IfOk, IfErr, MatchResult};
 ghost use Rattle.std.specs.String.{string_bytes};
 ghost use Rattle.bpf_insn.specs.Written.{AppendsBeginning};
 ghost use Rattle.bpf_answers.specs.Answer.{Says, follows_end, text_of};
-ghost use Rattle.bpf_answers.specs.Answer.Answer.{Follows, NoNotes, NotFollowed};
+ghost use Rattle.bpf_answers.specs.declared.answer.Answer.TheVariants.{Follows, NoNotes, NotFollowed};
 ghost use Rattle.bpf_answers.specs.Loaded.{Tried};
 ghost use Rattle.bpf_answers.specs.Notes.{LoadsNotes, NotesFail, NotesRefused};
 ghost use Rattle.bpf_answers.specs.Told.{IsQuiet, OutputFails};

@@ -5,7 +5,7 @@ ghost use Rattle.std.specs.Str.{IsUtf8};
 ghost use Rattle.std.specs.String.{string_bytes};
 ghost use Rattle.bpf_insn.specs.Written.{AppendsBeginning};
 ghost use Rattle.bpf_answers.specs.Answer.{Says, text_of};
-ghost use Rattle.bpf_answers.specs.Answer.Answer.{NoText};
+ghost use Rattle.bpf_answers.specs.declared.answer.Answer.TheVariants.{NoText};
 ghost use Rattle.bpf_answers.specs.Loaded.{ReadableFails, ShortTextAt, TextAt, TextFails, Tried};
 ghost use Rattle.bpf_answers.specs.Told.{IsQuiet, OutputFails};
 

@@ -3,7 +3,7 @@
 ghost use Rattle.bpf_insn.specs.Written.{AppendsBeginning};
 ghost use Rattle.std.specs.Prelude.{◌≡◌, IfOk, IfErr, ◌∷◌, []};
 ghost use Rattle.bpf_answers.specs.Answer.{Answered, Says, groups_line, Unfinished, text_of};
-ghost use Rattle.bpf_answers.specs.Answer.Answer.{Occur};
+ghost use Rattle.bpf_answers.specs.declared.answer.Answer.TheVariants.{Occur};
 ghost use Rattle.bpf_answers.specs.Loaded.{ImageFails, OpensFirst};
 ghost use Rattle.bpf_command_core.specs.Printed.{GroupsSay, ImageSays};
 ghost use Rattle.bpf_answers.specs.Told.{OutputFails};

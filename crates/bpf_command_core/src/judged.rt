@@ -5,7 +5,7 @@ ghost use Rattle.std.specs.Prelude.{◌≡◌, IfOk, IfErr, Some, None, ◌∷�
 ghost use Rattle.std.specs.String.{string_bytes};
 ghost use Rattle.bpf_check.specs.CheckedProgram.{work_of};
 ghost use Rattle.bpf_answers.specs.Answer.{Answered, Says, no_context_line, work_line, yes_line, Unfinished, text_of};
-ghost use Rattle.bpf_answers.specs.Answer.Answer.{Yes, NoContext, Ends};
+ghost use Rattle.bpf_answers.specs.declared.answer.Answer.TheVariants.{Yes, NoContext, Ends};
 ghost use Rattle.bpf_answers.specs.Loaded.{CertificateFails, OpensFirst};
 ghost use Rattle.bpf_command_core.specs.Printed.{JudgedSays, ResultSays, WishSays};
 ghost use Rattle.bpf_command_core.specs.Given.{JudgedEachFails, JudgedEachLeaves, JudgedEachSays};

@@ -4,7 +4,7 @@ ghost use Rattle.bpf_insn.specs.Written.{AppendsBeginning};
 ghost use Rattle.std.specs.Prelude.{◌≡◌, IfOk, IfErr, None, Some, ◌∷◌, []};
 ghost use Rattle.bpf_insn.specs.Image.{image};
 ghost use Rattle.bpf_answers.specs.Answer.{Answered, Says, Unfinished, text_of};
-ghost use Rattle.bpf_answers.specs.Answer.Answer.{Annotates, Lists};
+ghost use Rattle.bpf_answers.specs.declared.answer.Answer.TheVariants.{Annotates, Lists};
 ghost use Rattle.bpf_answers.specs.Loaded.{ImageFails, OpensFirst};
 ghost use Rattle.bpf_command_core.specs.Printed.{ImageSays, ListSays, notes_of};
 ghost use Rattle.bpf_answers.specs.Told.{OutputFails};

@@ -8,7 +8,7 @@ ghost use Rattle.bpf_answers.specs.Context.{context_in};
 ghost use Rattle.bpf_machine.specs.Answers.{IsRun};
 ghost use Rattle.bpf_command_core.specs.Names.{names_run};
 ghost use Rattle.bpf_answers.specs.Answer.{Answer, Answered, Says, status_of, text_of, Unfinished};
-ghost use Rattle.bpf_answers.specs.Answer.Answer.{Ran};
+ghost use Rattle.bpf_answers.specs.declared.answer.Answer.TheVariants.{Ran};
 ghost use Rattle.bpf_answers.specs.Loaded.{ImageFails, OpensFirst};
 ghost use Rattle.bpf_command_core.specs.Printed.{FailsWith, ImageSays, OutcomeSays};
 ghost use Rattle.bpf_command_core.specs.Given.{FailsBehind, OnNamed, OnWord, RunAtSays, RunEachFails, RunEachLeaves, RunEachSays, RunFails, RunLeaves, RunSays};

@@ -7,7 +7,7 @@ ghost use Rattle.bpf_insn.specs.Instruction.{slots};
 ghost use Rattle.bpf_insn.specs.Image.{IsProgram};
 ghost use Rattle.bpf_harden_notes.specs.RefusalNumbers.{harden_slot};
 ghost use Rattle.bpf_answers.specs.Answer.{Answered, Says, Unfinished, text_of as answer_text};
-ghost use Rattle.bpf_answers.specs.Answer.Answer.{NotHardened, NotShown};
+ghost use Rattle.bpf_answers.specs.declared.answer.Answer.TheVariants.{NotHardened, NotShown};
 ghost use Rattle.bpf_follows_law.specs.declared.notes.Place.{Place};
 ghost use Rattle.bpf_follows_law.specs.Matching.{Matches};
 ghost use Rattle.bpf_follows_notes.specs.NotesText.{notes_text};

@@ -4,7 +4,7 @@ ghost use Rattle.bpf_insn.specs.Written.{AppendsBeginning};
 ghost use Rattle.std.specs.Prelude.{◌≡◌, IfOk, IfErr};
 ghost use Rattle.std.specs.String.{string_bytes};
 ghost use Rattle.bpf_answers.specs.Answer.{Answered, Says, text_of, Unfinished};
-ghost use Rattle.bpf_answers.specs.Answer.Answer.{NotProposed};
+ghost use Rattle.bpf_answers.specs.declared.answer.Answer.TheVariants.{NotProposed};
 ghost use Rattle.bpf_places.specs.Made.{making};
 ghost use Rattle.bpf_command.specs.Inferred.{InferSays, InferFails, NotInferred};
 ghost use Rattle.bpf_answers.specs.Told.{OutputFails};

@@ -1,6 +1,6 @@
 use Rattle.std.proofs.Common.{rules, IfErr, inr}
 use Rattle.std.proofs.lemmas.Result.{err_from_is_err_and}
-use Rattle.bpf_answers.specs.Answer.Answer.{NotConverted as IsNotConverted, Certified as IsCertified}
+use Rattle.bpf_answers.specs.declared.answer.Answer.TheVariants.{NotConverted as IsNotConverted, Certified as IsCertified}
 use Rattle.bpf_answers.specs.Both.{pairing}
 use Rattle.bpf_answers.specs.Both.Put.{Both}
 use Rattle.bpf_answers.specs.Loaded.{BytesAt}

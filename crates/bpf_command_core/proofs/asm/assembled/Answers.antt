@@ -6,7 +6,7 @@ use Rattle.bpf_places.specs.Made.{making}
 use Rattle.bpf_command_core.specs.Printed.{AsmSays, LoadsText}
 use Rattle.bpf_answers.proofs.MadeLemmas.{put_says, not_all_printed}
 use Rattle.bpf_answers.proofs.TextLemmas.{text_says}
-use Rattle.bpf_answers.specs.Answer.Answer.{NoText}
+use Rattle.bpf_answers.specs.declared.answer.Answer.TheVariants.{NoText}
 use Rattle.bpf_command_core.proofs.asm.assembled.Goals as goal
 
 pub returns-in-Ok-clause-ok : goal.returns-in-Ok-clause-ok

@@ -6,7 +6,7 @@ use Rattle.bpf_answers.specs.Loaded.{LoadsImage}
 use Rattle.bpf_command_core.specs.Printed.{CheckSays, YesSays, IsPromised}
 use Rattle.bpf_answers.proofs.LoadedLemmas.{read_of}
 use Rattle.bpf_command_core.proofs.JudgedLemmas.{verified, promised, said_more, loaded_says, says_so}
-use Rattle.bpf_answers.specs.Answer.Answer.{NoImage}
+use Rattle.bpf_answers.specs.declared.answer.Answer.TheVariants.{NoImage}
 use Rattle.bpf_answers.proofs.MadeLemmas.{not_all_printed, unfinished_by}
 use Rattle.bpf_command_core.proofs.check.checked.Goals as goal
 

@@ -1,6 +1,6 @@
 use Rattle.std.proofs.Common.{rules}
 use Rattle.bpf_answers.specs.Loaded.{LoadsImage}
-use Rattle.bpf_answers.specs.Answer.Answer.{NoOld}
+use Rattle.bpf_answers.specs.declared.answer.Answer.TheVariants.{NoOld}
 use Rattle.bpf_answers.proofs.MadeLemmas.{not_all_printed, unfinished_by}
 use Rattle.bpf_command_core.proofs.JudgedLemmas.{says_so}
 use Rattle.bpf_command_core.proofs.FollowedLemmas.{follows_fails, follows_says}

@@ -1,7 +1,7 @@
 use Rattle.std.proofs.Common.{rules, ℕ, List, Option}
 use Rattle.std.specs.Prelude.{Result, Ok, Err, IfOk}
 use Rattle.bpf_answers.specs.Answer.{Answer, Answered, Says}
-use Rattle.bpf_answers.specs.Answer.Answer.{Follows, NoNotes, NotFollowed}
+use Rattle.bpf_answers.specs.declared.answer.Answer.TheVariants.{Follows, NoNotes, NotFollowed}
 use Rattle.bpf_command_core.specs.Followed.{bounds_of}
 use Rattle.bpf_answers.proofs.MadeLemmas.{not_all_printed}
 use Rattle.bpf_command_core.proofs.follows.noted.Goals as goal

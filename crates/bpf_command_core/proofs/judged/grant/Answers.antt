@@ -1,6 +1,6 @@
 use Rattle.std.proofs.Common.{rules, Some, None}
 use Rattle.bpf_check.specs.CheckedProgram.{work_of}
-use Rattle.bpf_answers.specs.Answer.Answer.{Yes}
+use Rattle.bpf_answers.specs.declared.answer.Answer.TheVariants.{Yes}
 use Rattle.bpf_answers.proofs.MadeLemmas.{not_all_printed}
 use Rattle.bpf_command_core.proofs.judged.grant.Goals as goal
 

@@ -1,7 +1,7 @@
 use Rattle.std.proofs.Common.{rules, ◌≡◌}
 use Rattle.bpf_check.specs.CheckedProgram.{IsCertifiedBy, checked}
 use Rattle.bpf_answers.specs.Loaded.{CertificateAt}
-use Rattle.bpf_answers.specs.Answer.Answer.{NoCertificate, NotCertified}
+use Rattle.bpf_answers.specs.declared.answer.Answer.TheVariants.{NoCertificate, NotCertified}
 use Rattle.bpf_answers.proofs.MadeLemmas.{not_all_printed, unfinished_by}
 use Rattle.bpf_command_core.specs.Printed.{WishSays}
 use Rattle.bpf_command_core.proofs.JudgedLemmas.{granted}

@@ -1,7 +1,7 @@
 use Rattle.std.proofs.Common.{rules, ◌≡◌}
 use Rattle.bpf_check.specs.CheckedProgram.{IsCertifiedBy, checked}
 use Rattle.bpf_answers.specs.Loaded.{CertificateAt}
-use Rattle.bpf_answers.specs.Answer.Answer.{NoCertificate, NotCertified}
+use Rattle.bpf_answers.specs.declared.answer.Answer.TheVariants.{NoCertificate, NotCertified}
 use Rattle.bpf_answers.proofs.MadeLemmas.{not_all_printed}
 use Rattle.bpf_command_core.proofs.EachLemmas.{judged_each_says, judged_each_fails, judged_each_leaves, or_else}
 use Rattle.bpf_command_core.proofs.judged.judged_each.Goals as goal

@@ -1,5 +1,5 @@
 use Rattle.std.proofs.Common.{rules, length}
-use Rattle.bpf_answers.specs.Answer.Answer.{NoContext, Ends}
+use Rattle.bpf_answers.specs.declared.answer.Answer.TheVariants.{NoContext, Ends}
 use Rattle.bpf_answers.proofs.MadeLemmas.{not_all_printed}
 use Rattle.bpf_command_core.proofs.judged.run_on.Goals as goal
 

@@ -4,7 +4,7 @@ use Rattle.bpf_answers.specs.Loaded.{CertificateAt}
 use Rattle.bpf_places.specs.Made.{making}
 use Rattle.bpf_command_core.specs.Printed.{MigrateSays, migrated}
 use Rattle.bpf_answers.proofs.MadeLemmas.{put_says, not_all_printed}
-use Rattle.bpf_answers.specs.Answer.Answer.{NoCertificate}
+use Rattle.bpf_answers.specs.declared.answer.Answer.TheVariants.{NoCertificate}
 use Rattle.bpf_command_core.proofs.migrate.migrated.Goals as goal
 
 pub returns-in-Ok-migrate-clause-ok : goal.returns-in-Ok-migrate-clause-ok

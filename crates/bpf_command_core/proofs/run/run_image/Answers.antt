@@ -1,5 +1,5 @@
 use Rattle.std.proofs.Common.{rules}
-use Rattle.bpf_answers.specs.Answer.Answer.{NoImage, Ran}
+use Rattle.bpf_answers.specs.declared.answer.Answer.TheVariants.{NoImage, Ran}
 use Rattle.bpf_answers.proofs.MadeLemmas.{not_all_printed}
 use Rattle.bpf_command_core.proofs.run.run_image.Goals as goal
 

@@ -4,7 +4,7 @@ use Rattle.bpf_insn.specs.Limits.{max_context}
 use Rattle.bpf_places.specs.Made.{making}
 use Rattle.bpf_answers.specs.Both.{pairing}
 use Rattle.bpf_answers.specs.Loaded.{LoadsImage}
-use Rattle.bpf_answers.specs.Answer.Answer.{NoImage, Certified as IsCertified}
+use Rattle.bpf_answers.specs.declared.answer.Answer.TheVariants.{NoImage, Certified as IsCertified}
 use Rattle.bpf_answers.specs.Told.{OutputFails}
 use Rattle.bpf_answers.proofs.MadeLemmas.{not_all_printed, nothing_printed, on_failure}
 use Rattle.bpf_command.specs.Certified.{Certifies, NotAllPut, made_of, notes_of, refused_as, told_of}

@@ -1,6 +1,6 @@
 use Rattle.std.proofs.Common.{◌≡◌, refl, false, inl, inr, rules}
 use Rattle.bpf_answers.specs.Loaded.{LoadsImage, NoSpaceFor}
-use Rattle.bpf_answers.specs.Answer.Answer.{NoImage}
+use Rattle.bpf_answers.specs.declared.answer.Answer.TheVariants.{NoImage}
 use Rattle.bpf_command_core.specs.Printed.{LoadedSays, YesSays}
 use Rattle.bpf_answers.proofs.LoadedLemmas.{read_of}
 use Rattle.bpf_command.proofs.ExplainedLemmas.{answered_so, loaded_so, printed_so}

@@ -1,6 +1,6 @@
 use Rattle.std.proofs.Common.{◌≡◌, None, refl, inl, inr, rules}
 use Rattle.bpf_answers.specs.Loaded.{LoadsImage, NoSpaceFor}
-use Rattle.bpf_answers.specs.Answer.Answer.{NoImage, Lists}
+use Rattle.bpf_answers.specs.declared.answer.Answer.TheVariants.{NoImage, Lists}
 use Rattle.bpf_command_core.specs.Printed.{ImageSays, ListSays}
 use Rattle.bpf_answers.proofs.LoadedLemmas.{read_of}
 use Rattle.bpf_command.proofs.ExplainedLemmas.{answered_so, printed_so}

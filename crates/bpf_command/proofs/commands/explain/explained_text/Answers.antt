@@ -3,7 +3,7 @@ use Rattle.std.specs.String.{string_bytes}
 use Rattle.bpf_text.specs.Assembly.{Assembles, IsRefused}
 use Rattle.bpf_text.specs.declared.error.TextError.TheVariants.{Memory}
 use Rattle.bpf_answers.specs.Loaded.{ShortTextAt}
-use Rattle.bpf_answers.specs.Answer.Answer.{NoText, Lists}
+use Rattle.bpf_answers.specs.declared.answer.Answer.TheVariants.{NoText, Lists}
 use Rattle.bpf_command.specs.Explained.{TextSays}
 use Rattle.bpf_answers.proofs.TextLemmas.{text_says}
 use Rattle.bpf_command.proofs.ExplainedLemmas.{answered_so, printed_so}

@@ -1,6 +1,6 @@
 use Rattle.std.proofs.Common.{refl, false, rules}
 use Rattle.bpf_answers.specs.Loaded.{CertificateAt, CertificateRefused}
-use Rattle.bpf_answers.specs.Answer.Answer.{NoCertificate}
+use Rattle.bpf_answers.specs.declared.answer.Answer.TheVariants.{NoCertificate}
 use Rattle.bpf_command_core.specs.Printed.{JudgedSays, YesSays}
 use Rattle.bpf_cert.specs.declared.error.CertError.TheVariants.{Memory}
 use Rattle.bpf_command.proofs.ExplainedLemmas.{answered_so, judged_so, printed_so}

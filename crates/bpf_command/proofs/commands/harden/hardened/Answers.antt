@@ -7,7 +7,7 @@ use Rattle.bpf_places.specs.Made.{making}
 use Rattle.bpf_harden_notes.specs.declared.error.HardenError.TheVariants.{Memory as NoSpace}
 use Rattle.bpf_answers.specs.declared.failure.Failure.TheVariants.{CannotWrite, NoMemory}
 use Rattle.bpf_command.proofs.HardenedLemmas.{all_said, all_stand, answered, made_of, out_fails, texts_fail, texts_left, unsaid}
-use Rattle.bpf_answers.specs.Answer.Answer.{NoImage, NotHardened, NotShown}
+use Rattle.bpf_answers.specs.declared.answer.Answer.TheVariants.{NoImage, NotHardened, NotShown}
 use Rattle.bpf_answers.proofs.MadeLemmas.{not_all_printed, nothing_printed, on_failure}
 use Rattle.bpf_command.specs.Hardened.{AllStand, IsUnshown, NotBothPut, NotBothStand, said_answer}
 use Rattle.bpf_command.specs.declared.commands.harden.Unshown.TheVariants.{Differs}

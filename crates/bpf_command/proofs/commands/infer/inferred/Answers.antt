@@ -5,7 +5,7 @@ use Rattle.bpf_answers.specs.Loaded.{LoadsImage}
 use Rattle.bpf_places.specs.Made.{making}
 use Rattle.bpf_command.specs.Inferred.{InferSays, IsProposal}
 use Rattle.bpf_answers.proofs.MadeLemmas.{on_failure, put_says, not_all_printed}
-use Rattle.bpf_answers.specs.Answer.Answer.{NoImage, NotProposed}
+use Rattle.bpf_answers.specs.declared.answer.Answer.TheVariants.{NoImage, NotProposed}
 use Rattle.bpf_command.proofs.commands.infer.inferred.Goals as goal
 
 pub returns-in-Ok-propose-clause-ok : goal.returns-in-Ok-propose-clause-ok

@@ -1,0 +1,211 @@
+//! What a command answers: its status, and its text on standard output.
+
+ghost use Rattle.std.specs.Prelude.{◌≡◌, IfOk, IfErr, OnOk, OnErr};
+ghost use Rattle.std.specs.Io.KnownBytes.{Appends};
+ghost use Rattle.bpf_insn.specs.Written.{AppendsBeginning};
+ghost use Rattle.bpf_answers.specs.Answer.{Says, status_of, status_of_run, text_of};
+ghost use Rattle.bpf_answers.specs.Told.{OutputFails};
+
+use crate::annotated::Annotated;
+use crate::certified::Certification;
+use crate::converted::Unconverted;
+use crate::counted::Counted;
+use crate::failure::{DONE, Failure, REFUSED};
+use crate::lines;
+use crate::pieces::{write_at, write_refusal};
+use bpf_cert::CertError;
+use bpf_check::Refusal;
+use bpf_follows::Mismatch;
+use bpf_follows_law::Bounds;
+use bpf_follows_notes::NotesError;
+use bpf_harden_notes::HardenError;
+use bpf_infer_error::InferError;
+use bpf_insn::{DecodeError, Groups, Program};
+use bpf_machine::Outcome;
+use bpf_text::TextError;
+use std::io::{self, Write};
+
+/// The number of the refusal of a hardened program that isn't shown to keep its meaning, behind those of hardening itself.
+const NOT_SHOWN: u8 = 13;
+
+/// The number of the refusal of a bound that is too great.
+const TOO_DEAR: u8 = 14;
+
+/// The number of the refusal of a certificate that the checker refuses.
+const UNCERTIFIED: u8 = 15;
+
+/// What a command answers.
+#[derive(Drop)]
+pub enum Answer {
+    /// A certificate certifies the image's program: for contexts of `least` to `most` bytes, within this bound; and the work of the check, where
+    /// it is asked for.
+    Yes {
+        least: u32,
+        most: u32,
+        bound: u32,
+        work: Option<Counted>,
+    },
+    /// What is at a name is no image.
+    NoImage(DecodeError),
+    /// It is no text of a program.
+    NoText(TextError),
+    /// It is no certificate.
+    NoCertificate(CertError),
+    /// The certificate doesn't certify the program.
+    NotCertified(Refusal),
+    /// No certificate is proposed.
+    NotProposed(InferError),
+    /// A program isn't hardened.
+    NotHardened(HardenError),
+    /// It is, and isn't shown to keep its meaning.
+    NotShown(Mismatch),
+    /// An image was written with its certificate.
+    Certified(Certification),
+    /// Its bound is too great.
+    TooDear,
+    /// The checker refuses what was found.
+    Uncertified,
+    /// A filter of classic BPF isn't converted.
+    NotConverted(Unconverted),
+    /// Notes show that one image's program keeps the meaning of another's, on these contexts and for these runs.
+    Follows(Bounds),
+    /// What is at the name of the old one is no image.
+    NoOld(DecodeError),
+    /// What is at the name of the new one is none.
+    NoNew(DecodeError),
+    /// What is at the notes' name is no text of notes.
+    NoNotes(NotesError),
+    /// The notes don't show it.
+    NotFollowed(Mismatch),
+    /// A context of so many bytes, where the certificate speaks of `least` to `most`.
+    NoContext {
+        count: usize,
+        least: u32,
+        most: u32,
+    },
+    /// A checked program ends with this number.
+    Ends(u64),
+    /// How a run of any program ends.
+    Ran(Outcome),
+    /// The conformance groups of an image.
+    Occur(Groups),
+    /// The instructions of a program.
+    Lists(Program),
+    /// The same with comments.
+    Annotates(Annotated),
+    /// What was asked for was written at a name.
+    Written,
+    /// The same of a hardened image that is shown to keep the meaning of runs that leave so many bytes of each frame to r10, which nobody
+    /// asked for.
+    WrittenFor(u32),
+}
+
+/// The status of a run.
+fn status_of_run(outcome: Outcome) -> u8
+    ensures { result ≡ status_of_run outcome }
+{
+    match outcome {
+        Outcome::Done { .. } => DONE,
+        Outcome::Fault { .. } | Outcome::OutOfFuel => REFUSED,
+    }
+}
+
+impl Answer {
+    /// 0 done, yes or written; 1 a refusal, a fault of the program, out of fuel.
+    pub fn status(&self) -> u8
+        ensures { result ≡ status_of self.now }
+    {
+        match self {
+            Answer::Yes { .. } | Answer::Certified(_) | Answer::Follows(_) => DONE,
+            Answer::Ends(_) | Answer::Occur(_) | Answer::Lists(_) | Answer::Annotates(_) => DONE,
+            Answer::Written | Answer::WrittenFor(_) => DONE,
+            Answer::Ran(outcome) => status_of_run(*outcome),
+            Answer::NoImage(_) | Answer::NoText(_) | Answer::NoCertificate(_) => REFUSED,
+            Answer::NotCertified(_) | Answer::NotProposed(_) => REFUSED,
+            Answer::NotHardened(_) | Answer::NotShown(_) => REFUSED,
+            Answer::TooDear | Answer::Uncertified | Answer::NotConverted(_) => REFUSED,
+            Answer::NoOld(_) | Answer::NoNew(_) | Answer::NoNotes(_) => REFUSED,
+            Answer::NotFollowed(_) | Answer::NoContext { .. } => REFUSED,
+        }
+    }
+
+    /// Writes the text of the answer. A fault of the writer ends it; what went out is then a beginning of the text. Takes no memory.
+    pub fn write<W: Write>(&self, out: &mut W) -> io::Result<()>
+        ensures ok { OnOk result (Appends (W.contents out.old) (W.contents out.new) (text_of self.now)) }
+        ensures err { OnErr result (AppendsBeginning (W.contents out.old) (W.contents out.new) (text_of self.now)) }
+    {
+        match self {
+            Answer::Yes {
+                least,
+                most,
+                bound,
+                work,
+            } => lines::write_promise(out, *least, *most, *bound, work),
+            Answer::NoImage(error) => {
+                let slot = u64::from(error.slot());
+                write_refusal(out, "E", error.number(), " at slot ", slot)
+            }
+            Answer::NoText(error) => lines::write_text_refusal(out, *error),
+            Answer::NoCertificate(error) => {
+                let line = error.line() as u64;
+                write_refusal(out, "K", error.number(), " at line ", line)
+            }
+            Answer::NotCertified(refusal) => {
+                let slot = u64::from(refusal.slot());
+                write_refusal(out, "C", refusal.number(), " at slot ", slot)
+            }
+            Answer::NotProposed(error) => lines::write_infer_refusal(out, *error),
+            Answer::NotHardened(error) => {
+                let slot = u64::from(error.slot());
+                write_refusal(out, "H", error.number(), " at slot ", slot)
+            }
+            Answer::NotShown(mismatch) => {
+                let slot = u64::from(mismatch.slot());
+                write_refusal(out, "H", NOT_SHOWN, " at slot ", slot)
+            }
+            Answer::Certified(told) => lines::write_certified(out, *told),
+            Answer::TooDear => write_refusal(out, "H", TOO_DEAR, " at slot ", 0),
+            Answer::Uncertified => write_refusal(out, "H", UNCERTIFIED, " at slot ", 0),
+            Answer::NotConverted(why) => lines::write_unconverted(out, *why),
+            Answer::Follows(bounds) => lines::write_followed(out, *bounds),
+            Answer::NoOld(error) => {
+                let slot = u64::from(error.slot());
+                write_refusal(out, "E", error.number(), " of OLD at slot ", slot)
+            }
+            Answer::NoNew(error) => {
+                let slot = u64::from(error.slot());
+                write_refusal(out, "E", error.number(), " of NEW at slot ", slot)
+            }
+            Answer::NoNotes(error) => {
+                let line = error.line() as u64;
+                write_refusal(out, "N", error.number(), " at line ", line)
+            }
+            Answer::NotFollowed(mismatch) => {
+                let slot = u64::from(mismatch.slot());
+                write_refusal(out, "M", mismatch.number(), " at slot ", slot)
+            }
+            Answer::NoContext { count, least, most } => {
+                lines::write_no_context(out, *count, *least, *most)
+            }
+            Answer::Ends(value) => write_at(out, "done ", *value),
+            Answer::Ran(outcome) => lines::write_run(out, *outcome),
+            Answer::Occur(groups) => lines::write_groups(out, *groups),
+            Answer::Lists(program) => bpf_text::list(program, out),
+            Answer::Annotates(annotated) => annotated.write(out),
+            Answer::Written => Ok(()),
+            Answer::WrittenFor(untouched) => write_at(out, "untouched ", u64::from(*untouched)),
+        }
+    }
+}
+
+/// Prints an answer, and gives its status. Where that fails, standard output has a beginning of its text.
+pub fn print<'a, W: Write>(out: &mut W, answer: &Answer) -> Result<u8, Failure<'a>>
+    ensures ok { IfOk result (λ status. Says answer.now status (W.contents out.old) (W.contents out.new)) }
+    ensures err { IfErr result OutputFails }
+    ensures begun { IfErr result (λ _. AppendsBeginning (W.contents out.old) (W.contents out.new) (text_of answer.now)) }
+{
+    match answer.write(out) {
+        Ok(()) => Ok(answer.status()),
+        Err(_) => Err(Failure::CannotWrite("standard output")),
+    }
+}
