@@ -84,7 +84,7 @@ COMMANDS = {
     "check": ["bpf_command_core/check-tells-the-length-as-the-bound"],
     "explain": ["bpf_command/explain-seeks-for-length-0-whatever-was-asked", "bpf_command/explain-hardens-for-length-0-whatever-was-asked"],
     "follows": ["bpf_command_core/follows-compares-the-old-image-with-itself"],
-    "groups": ["bpf_command_core/groups-names-divmul-for-atomic"],
+    "groups": ["bpf_answers/groups_line-names-divmul-for-atomic", "bpf_command_core/grouped-says-nothing-where-no-base-occurs"],
     "harden": ["bpf_command/harden-writes-what-is-not-shown"],
     "infer": ["bpf_command/infer-seeks-for-the-least-length-alone"],
     "list": ["bpf_command_core/list-reads-big-images-as-little"],

@@ -67,8 +67,8 @@ notes_of false false = None
 
 -- the program is listed with these comments, or with none
 abbrev pub ListSays : Option Notes → Instructions → Answer → Type 0
-ListSays asked p (Lists is) = (asked ≡ None) × (is ≡ p.list)
-ListSays asked p (Annotates notes order is) = (asked ≡ Some notes) × (order ≡ p.order) × (is ≡ p.list)
+ListSays asked p (Lists q) = (asked ≡ None) × (q ≡ p)
+ListSays asked p (Annotates a) = (asked ≡ Some a.notes) × (a.program ≡ p)
 ListSays asked p answer = ⊥
 
 abbrev pub OutcomeSays : List ℕ → ℕ → Instructions → Answer → Type 0
