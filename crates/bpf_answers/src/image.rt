@@ -5,7 +5,7 @@ ghost use Rattle.bpf_places.specs.Opened.{ReadsAt};
 ghost use Rattle.bpf_answers.specs.Loaded.{NoSpaceFor, ImageRefused, LoadsImage, ImageFails, Tried};
 ghost use Rattle.bpf_insn.specs.Written.{AppendsBeginning};
 ghost use Rattle.bpf_answers.specs.Answer.{Says, text_of};
-ghost use Rattle.bpf_answers.specs.declared.answer.Answer.TheVariants.{NoImage, NoNew, NoOld};
+ghost use Rattle.bpf_answers.specs.declared.answer.Answer.TheVariants.{NoImage};
 ghost use Rattle.bpf_answers.specs.Told.{IsQuiet, OutputFails};
 
 use crate::failure::Failure;
@@ -71,32 +71,4 @@ pub fn refuse_image<'a, W: Write>(
 {
     let slot = u64::from(error.slot());
     refuse_at(alloc, out, "E", error.number(), " at slot ", slot)
-}
-
-/// Prints why of two images the old one is refused; where that fails, standard output has a beginning of the line.
-pub fn refuse_old<'a, W: Write>(
-    alloc: Global,
-    out: &mut W,
-    error: DecodeError,
-) -> Result<u8, Failure<'a>>
-    ensures ok { IfOk result (λ status. Says (NoOld error) status (W.contents out.old) (W.contents out.new)) }
-    ensures err { IfErr result OutputFails }
-    ensures begun { IfErr result (λ _. AppendsBeginning (W.contents out.old) (W.contents out.new) (text_of (NoOld error))) }
-{
-    let slot = u64::from(error.slot());
-    refuse_at(alloc, out, "E", error.number(), " of OLD at slot ", slot)
-}
-
-/// Prints why of two images the new one is refused; where that fails, standard output has a beginning of the line.
-pub fn refuse_new<'a, W: Write>(
-    alloc: Global,
-    out: &mut W,
-    error: DecodeError,
-) -> Result<u8, Failure<'a>>
-    ensures ok { IfOk result (λ status. Says (NoNew error) status (W.contents out.old) (W.contents out.new)) }
-    ensures err { IfErr result OutputFails }
-    ensures begun { IfErr result (λ _. AppendsBeginning (W.contents out.old) (W.contents out.new) (text_of (NoNew error))) }
-{
-    let slot = u64::from(error.slot());
-    refuse_at(alloc, out, "E", error.number(), " of NEW at slot ", slot)
 }

@@ -4,7 +4,6 @@ ghost use Rattle.std.specs.Prelude.{◌≡◌, ◌++◌, OnOk, OnErr, Some, [], 
 ghost use Rattle.std.specs.List.{concat};
 ghost use Rattle.std.specs.Io.KnownBytes.{Appends};
 ghost use Rattle.bpf_insn.specs.Written.{AppendsBeginning};
-
 ghost use Rattle.bpf_answers.specs.Answer.{certified_line, follows_end, follows_line, groups_line, infer_refusal_line, no_context_line, padded_word, proved_end, run_line, text_of, text_refusal_line, unconverted_line, work_line, yes_line};
 ghost use Rattle.bpf_answers.specs.declared.answer.Answer.TheVariants.{Yes};
 ghost use Rattle.bpf_text.specs.declared.error.TextError.TheVariants.{Program as InProgram};
@@ -104,7 +103,15 @@ fn write_in_program<W: Write>(out: &mut W, line: usize, error: BuildError) -> io
     let slot = third.format(error.slot());
     write_pieces(
         out,
-        &["no A6 at line ", line, " (E", number, " at slot ", slot, ")\n"],
+        &[
+            "no A6 at line ",
+            line,
+            " (E",
+            number,
+            " at slot ",
+            slot,
+            ")\n",
+        ],
     )
 }
 
@@ -201,15 +208,32 @@ fn write_rewritten<W: Write>(
     if rewriting.untouched == 0 {
         write_pieces(
             out,
-            &["yes length ", length, " bound ", bound, " hardened turns ", turns, word, end],
+            &[
+                "yes length ",
+                length,
+                " bound ",
+                bound,
+                " hardened turns ",
+                turns,
+                word,
+                end,
+            ],
         )
     } else {
         let untouched = fourth.format(rewriting.untouched);
         write_pieces(
             out,
             &[
-                "yes length ", length, " bound ", bound, " hardened turns ", turns, word,
-                " untouched ", untouched, end,
+                "yes length ",
+                length,
+                " bound ",
+                bound,
+                " hardened turns ",
+                turns,
+                word,
+                " untouched ",
+                untouched,
+                end,
             ],
         )
     }
@@ -256,7 +280,15 @@ pub fn write_followed<W: Write>(out: &mut W, bounds: Bounds) -> io::Result<()>
         let untouched = third.format(bounds.untouched);
         write_pieces(
             out,
-            &["yes length ", length, " turns ", turns, " untouched ", untouched, end],
+            &[
+                "yes length ",
+                length,
+                " turns ",
+                turns,
+                " untouched ",
+                untouched,
+                end,
+            ],
         )
     }
 }
@@ -277,12 +309,23 @@ pub fn write_no_context<W: Write>(
     let count = first.format(count);
     let length = second.format(least);
     if least == most {
-        write_pieces(out, &["no context of ", count, " bytes, want ", length, "\n"])
+        write_pieces(
+            out,
+            &["no context of ", count, " bytes, want ", length, "\n"],
+        )
     } else {
         let most = third.format(most);
         write_pieces(
             out,
-            &["no context of ", count, " bytes, want ", length, "..", most, "\n"],
+            &[
+                "no context of ",
+                count,
+                " bytes, want ",
+                length,
+                "..",
+                most,
+                "\n",
+            ],
         )
     }
 }

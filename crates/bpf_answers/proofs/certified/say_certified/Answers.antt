@@ -1,4 +1,4 @@
-use Rattle.std.proofs.Common.{rules, ◌≡◌, List, ℕ, refl, subst, ◌∙◌}
+use Rattle.std.proofs.Common.{rules, ◌≡◌, refl, subst, ◌∙◌}
 use Rattle.std.specs.Io.KnownBytes.{Appends}
 use Rattle.std.specs.String.{string_bytes}
 use Rattle.bpf_insn.specs.Written.{AppendsBeginning}

@@ -1,4 +1,3 @@
-use Rattle.std.proofs.Common.{rules}
 use Rattle.bpf_answers.proofs.MadeLemmas.{not_all_printed}
 use Rattle.bpf_answers.proofs.each.answer_context.Goals as goal
 
