@@ -11,7 +11,8 @@ mod subject;
 mod words;
 
 pub use asking::{
-    Assembling, CheckedRunning, Checking, Explaining, Grouping, Inferring, Listing, Migrating, Running,
+    Assembling, CheckedRunning, Checking, Explaining, Grouping, Inferring, Listing, Migrating,
+    Running,
 };
 pub use certifying::Certifying;
 pub use contexts::Contexts;

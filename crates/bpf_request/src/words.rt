@@ -7,7 +7,8 @@ ghost use Rattle.bpf_request.specs.CommandLine.{AreContexts, Asks, GivenBy, IsAs
 ghost use Rattle.clap.specs.declared.error.ErrorKind.TheVariants.{OutOfMemory};
 
 use crate::asking::{
-    Assembling, CheckedRunning, Checking, Explaining, Grouping, Inferring, Listing, Migrating, Running,
+    Assembling, CheckedRunning, Checking, Explaining, Grouping, Inferring, Listing, Migrating,
+    Running,
 };
 use crate::certifying::Certifying;
 use crate::contexts::Contexts;
