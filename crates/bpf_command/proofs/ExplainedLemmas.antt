@@ -17,7 +17,8 @@ use Rattle.bpf_explain_harden.specs.declared.refusal.Unhardened.{Unhardened}
 use Rattle.bpf_explain_harden.specs.declared.refusal.Unhardened.TheVariants.{Refused, Unshown}
 use Rattle.bpf_places.specs.Opened.{Opening, Unreadable}
 use Rattle.bpf_answers.specs.Loaded.{LoadsImage, CertificateAt, TextAt, TextFails, Tried}
-use Rattle.bpf_answers.specs.Answer.{Answer, Says, status_of}
+use Rattle.bpf_answers.specs.Answer.{Says, status_of}
+use Rattle.bpf_answers.specs.declared.answer.Answer.{Answer}
 use Rattle.bpf_answers.specs.declared.answer.Answer.TheVariants.{Yes, NoImage, NotCertified, NotHardened, NotShown, Written}
 use Rattle.bpf_command_core.specs.Printed.{ImageSays, JudgedSays, LoadedSays, YesSays}
 use Rattle.bpf_command.specs.Inferred.{IsProposal}

@@ -10,7 +10,8 @@ use Rattle.bpf_follows_notes.specs.NotesText.{notes_text}
 use Rattle.bpf_request.specs.declared.hardening.Hardening.{Hardening}
 use Rattle.bpf_places.specs.Opened.{Opening}
 use Rattle.bpf_places.specs.Made.{Making}
-use Rattle.bpf_answers.specs.Answer.{Answer, Answered, Says}
+use Rattle.bpf_answers.specs.Answer.{Answered, Says}
+use Rattle.bpf_answers.specs.declared.answer.Answer.{Answer}
 use Rattle.bpf_answers.specs.Loaded.{LoadsImage}
 use Rattle.bpf_command.specs.Hardened.{AllStand, BothStand, HardenFails, HardenSays, Hardens, IsLeft, IsLeftSaid, NotAllMade, NotBothPut, NotBothStand, Stands, Unput, bounds_of, said_answer}
 use Rattle.bpf_answers.specs.declared.failure.Failure.{Failure}

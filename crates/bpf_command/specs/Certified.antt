@@ -20,7 +20,7 @@ use Rattle.bpf_request.specs.CommandLine.{hardening_of}
 use Rattle.bpf_request.specs.declared.certifying.Certifying.{Certifying}
 use Rattle.bpf_places.specs.Opened.{Opening}
 use Rattle.bpf_places.specs.Made.{Making}
-use Rattle.bpf_answers.specs.Answer.{Answer}
+use Rattle.bpf_answers.specs.declared.answer.Answer.{Answer}
 use Rattle.bpf_answers.specs.declared.answer.Answer.TheVariants.{NoImage, NotHardened, NotShown, TooDear, Uncertified, Certified as IsCertified}
 use Rattle.bpf_answers.specs.Both.{Pairing}
 use Rattle.bpf_answers.specs.Both.Put.{Both, Neither, FirstAlone}

@@ -20,7 +20,8 @@ use Rattle.bpf_follows.specs.Mismatches.{IsMismatch}
 use Rattle.bpf_harden_notes.specs.RefusalNumbers.{harden_slot}
 use Rattle.bpf_places.specs.Opened.{Opening}
 use Rattle.bpf_answers.specs.Loaded.{ImageFails, ReadableFails, ShortTextAt, Tried}
-use Rattle.bpf_answers.specs.Answer.{Answer, status_of}
+use Rattle.bpf_answers.specs.Answer.{status_of}
+use Rattle.bpf_answers.specs.declared.answer.Answer.{Answer}
 use Rattle.bpf_answers.specs.declared.answer.Answer.TheVariants.{NoText, NotCertified, NotProposed, NotHardened, NotShown, Lists, Written}
 use Rattle.bpf_answers.specs.Told.{OutputFails}
 use Rattle.bpf_command_core.specs.Printed.{ImageSays, ListSays, LoadedSays, LoadedFails, YesSays}

@@ -14,7 +14,7 @@ use Rattle.bpf_request.specs.declared.hardening.Hardening.{Hardening}
 use Rattle.bpf_places.specs.Opened.{Opening}
 use Rattle.bpf_answers.specs.Loaded.{ImageFails, ImageRefused, LoadsImage, Tried}
 use Rattle.bpf_places.specs.Made.{Making}
-use Rattle.bpf_answers.specs.Answer.{Answer}
+use Rattle.bpf_answers.specs.declared.answer.Answer.{Answer}
 use Rattle.bpf_answers.specs.declared.answer.Answer.TheVariants.{NoImage, NotHardened, NotShown, Written, WrittenFor}
 use Rattle.bpf_command.specs.declared.commands.harden.Unshown.{Unshown}
 use Rattle.bpf_command.specs.declared.commands.harden.Unshown.TheVariants.{Memory as NoSpace, Differs}

@@ -8,7 +8,8 @@ use Rattle.bpf_cert.specs.View.{CertificateView}
 use Rattle.bpf_convert_checked.specs.declared.made.Made.{Made}
 use Rattle.bpf_request.specs.declared.converting.Converting.{Converting}
 use Rattle.bpf_places.specs.Opened.{Opening}
-use Rattle.bpf_answers.specs.Answer.{Answer, Answered, Says}
+use Rattle.bpf_answers.specs.Answer.{Answered, Says}
+use Rattle.bpf_answers.specs.declared.answer.Answer.{Answer}
 use Rattle.bpf_answers.specs.Both.{Pairing, Put}
 use Rattle.bpf_answers.specs.Both.Put.{Neither, FirstAlone}
 use Rattle.bpf_answers.specs.Loaded.{BytesAt}

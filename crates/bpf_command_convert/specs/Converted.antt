@@ -6,7 +6,7 @@ use Rattle.bpf_cert.specs.Spelling.{certificate_text}
 use Rattle.bpf_convert_checked.specs.declared.made.Made.{Made}
 use Rattle.bpf_request.specs.declared.converting.Converting.{Converting}
 use Rattle.bpf_places.specs.Opened.{Opening, Unreadable}
-use Rattle.bpf_answers.specs.Answer.{Answer}
+use Rattle.bpf_answers.specs.declared.answer.Answer.{Answer}
 use Rattle.bpf_answers.specs.declared.answer.Answer.TheVariants.{NotConverted as IsNotConverted, Certified}
 use Rattle.bpf_answers.specs.Both.{Pairing, Put}
 use Rattle.bpf_answers.specs.Both.Put.{Both, Neither, FirstAlone}

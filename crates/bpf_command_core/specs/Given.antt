@@ -9,7 +9,7 @@ use Rattle.bpf_answers.specs.Context.{context_in}
 use Rattle.bpf_places.specs.Opened.{Opening}
 use Rattle.bpf_answers.specs.Loaded.{LoadsImage, ImageFails, CertificateAt, CertificateFails, ContextAt, ContextFails}
 use Rattle.std.specs.Io.KnownBytes.{Keeps}
-use Rattle.bpf_answers.specs.Answer.{Answer}
+use Rattle.bpf_answers.specs.declared.answer.Answer.{Answer}
 use Rattle.bpf_answers.specs.declared.reply.Reply.{Reply}
 use Rattle.bpf_answers.specs.declared.reply.Reply.TheVariants.{One, Each}
 use Rattle.bpf_answers.specs.Each.{AnswersAt, FailsAt, LeftAt}

@@ -23,7 +23,7 @@ use Rattle.bpf_answers.specs.declared.context.ContextError.TheVariants.{Memory a
 use Rattle.bpf_places.specs.Opened.{Opening}
 use Rattle.bpf_answers.specs.Loaded.{ImageRefused, LoadsImage, ImageFails, ShortTextAt, TextFails, CertificateAt, CertificateRefused, CertificateUnread, CertificateFails, Tried}
 use Rattle.bpf_places.specs.Made.{Making}
-use Rattle.bpf_answers.specs.Answer.{Answer}
+use Rattle.bpf_answers.specs.declared.answer.Answer.{Answer}
 use Rattle.bpf_answers.specs.declared.answer.Answer.TheVariants.{Yes, NoImage, NoText, NoCertificate, NotCertified, NoContext, Ends, Ran, Occur, Lists, Annotates, Written}
 use Rattle.bpf_answers.specs.Told.{OutputFails}
 use Rattle.bpf_answers.specs.declared.failure.Failure.{Failure}

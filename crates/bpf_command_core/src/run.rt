@@ -41,12 +41,7 @@ fn run_image<'a, P: Places, T: Tracer>(
     ensures opened { OpensFirst P.opens (asked.entry.input.now ∷ []) places.old places.new }
 {
     match program_at(alloc, places, asked.input, asked.order)? {
-        Ok(program) => Ok(Answer::Ran(outcome_of(
-            &program,
-            context,
-            asked.steps,
-            tracer,
-        ))),
+        Ok(program) => Ok(Answer::Ran(outcome_of(&program, context, asked.steps, tracer))),
         Err(error) => Ok(Answer::NoImage(error)),
     }
 }

@@ -87,14 +87,7 @@ fn ran_checked_each<'a, P: Places, W: Write>(
     ensures opened { OpensFirst P.opens (asked.entry.input.now ∷ asked.entry.certificate.now ∷ contexts.entry.now ∷ []) places.old places.new }
 {
     match program_at(alloc, places, asked.input, asked.order)? {
-        Ok(program) => judged_each(
-            alloc,
-            places,
-            out,
-            &program,
-            asked.certificate,
-            contexts,
-        ),
+        Ok(program) => judged_each(alloc, places, out, &program, asked.certificate, contexts),
         Err(error) => Ok(Reply::One(Answer::NoImage(error))),
     }
 }
