@@ -1,5 +1,5 @@
 -- What is said of contexts at a name, from what is said of them behind an image and a certificate.
-use Rattle.std.proofs.Common.{◌≡◌, ◌⊎◌, ℕ, List, Option, subst, inr}
+use Rattle.std.proofs.Common.{◌≡◌, ℕ, List, Option, subst, inr}
 use Rattle.bpf_insn.specs.Instruction.{Instructions}
 use Rattle.bpf_cert.specs.View.{CertificateView}
 use Rattle.bpf_check.specs.CheckedProgram.{CheckedProgram, IsCertifiedBy, checked}

@@ -1,5 +1,5 @@
 -- What `check` and `run-checked` say, from what is said of the program that was loaded.
-use Rattle.std.proofs.Common.{◌≡◌, ℕ, Bool, List, Option, Result, Ok, Err, IfOk, ap, sym, subst, ◌∙◌}
+use Rattle.std.proofs.Common.{◌≡◌, ℕ, Bool, List, Result, Ok, Err, IfOk, ap, sym, subst, ◌∙◌}
 use Rattle.bpf_insn.specs.Instruction.{Instructions}
 use Rattle.bpf_insn.specs.Laws.{ImageIsInjective, IsImageOfProgram}
 use Rattle.bpf_insn.specs.declared.order.Order.{Order}

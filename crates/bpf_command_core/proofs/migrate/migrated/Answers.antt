@@ -1,4 +1,4 @@
-use Rattle.std.proofs.Common.{rules, ◌≡◌, ℕ, Bool, Err, subst, true, false, inr, refl}
+use Rattle.std.proofs.Common.{rules, ◌≡◌, ℕ, Err, subst, true, false, inr, refl}
 use Rattle.bpf_cert.specs.Spelling.{certificate_text}
 use Rattle.bpf_cert.specs.View.{CertificateView}
 use Rattle.bpf_answers.specs.Loaded.{CertificateAt}
