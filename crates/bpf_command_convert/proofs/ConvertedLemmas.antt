@@ -8,8 +8,6 @@ use Rattle.bpf_cert.specs.View.{CertificateView}
 use Rattle.bpf_convert_checked.specs.declared.made.Made.{Made}
 use Rattle.bpf_request.specs.declared.converting.Converting.{Converting}
 use Rattle.bpf_places.specs.Opened.{Opening}
-use Rattle.bpf_answers.specs.Answer.{Answered, Says}
-use Rattle.bpf_answers.specs.declared.answer.Answer.{Answer}
 use Rattle.bpf_answers.specs.Both.{Pairing, Put}
 use Rattle.bpf_answers.specs.Both.Put.{Neither, FirstAlone}
 use Rattle.bpf_answers.specs.Loaded.{BytesAt}
@@ -18,12 +16,6 @@ use Rattle.bpf_answers.specs.declared.certified.Certification.{Certification}
 use Rattle.bpf_answers.specs.declared.failure.Failure.{Failure}
 use Rattle.bpf_answers.specs.declared.failure.Failure.TheVariants.{CannotRead, CannotWrite, NoMemory}
 use Rattle.bpf_command_convert.specs.Converted.{ConvertFails, Converts, FilterUnread, IsMadeOf, NotBoth, NotConverted, Stand, max_filter_text, told_of}
-
--- an answer that was printed, of which this holds
-pub answered : {E : Type 0} (result : Result ℕ E) (before after : Option (List ℕ)) (answer : Answer) (says : Answer → Type 0)
-    → IfOk result (λ status. Says answer status before after) → says answer → IfOk result (Answered says before after)
-answered (Ok s) before after answer says said holds = (answer, said, holds)
-answered (Err e) before after answer says said holds = tt
 
 -- ---- what is made
 
@@ -66,8 +58,8 @@ puts_fail (Err f) o b old c between new made told converts fails = fails_by o b 
 
 left_by : {S : Type 0} (o : Opening S) (b : Pairing S) (old : S) (c : Converting) (between new : S) (made : Made) (told : Certification) (f : Failure)
     → Converts o old c between made told → NotBoth b between c made new f → NotConverted o b old c new
-left_by o b old c between new made told f converts (inl (is, left)) = inr (between, made, told, converts, (Neither, left))
-left_by o b old c between new made told f converts (inr (is, left)) = inr (between, made, told, converts, (FirstAlone, left))
+left_by o b old c between new made told f converts (inl (is, left)) = inr (between, made, told, converts, inl left)
+left_by o b old c between new made told f converts (inr (is, left)) = inr (between, made, told, converts, inr left)
 
 pub puts_left : {S A : Type 0} (result : Result A Failure) (o : Opening S) (b : Pairing S) (old : S) (c : Converting) (between new : S) (made : Made) (told : Certification)
     → Converts o old c between made told → IfErr result (NotBoth b between c made new) → IfErr result (λ _. NotConverted o b old c new)

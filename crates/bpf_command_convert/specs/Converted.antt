@@ -72,6 +72,6 @@ ConvertFails o b old c new (CannotRead name) = FilterUnread o old c.input.now ne
 ConvertFails o b old c new (CannotWrite name) = OutputFails (CannotWrite name) ⊎ Behind o old c (λ between made. NotBoth b between c made new (CannotWrite name))
 ConvertFails o b old c new failure = OutputFails failure
 
--- Where that fails, the input was opened, or couldn't be; or of OUT and CERT neither stands, or OUT alone; or both do, and the line couldn't be told.
+-- Where that fails, the input was opened, or couldn't be; or of OUT and CERT neither stands, or OUT alone.
 abbrev pub NotConverted : {S : Type 0} → Opening S → Pairing S → S → Converting → S → Type 0
-NotConverted o b old c new = Tried o old c.input.now new ⊎ Behind o old c (λ between made. (which : Put) × Stand b between c made which new)
+NotConverted o b old c new = Tried o old c.input.now new ⊎ Behind o old c (λ between made. Stand b between c made Neither new ⊎ Stand b between c made FirstAlone new)

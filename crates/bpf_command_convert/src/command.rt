@@ -2,19 +2,17 @@
 
 ghost use Rattle.std.specs.Prelude.{◌≡◌, ◌≤◌, IfOk, IfErr};
 ghost use Rattle.bpf_insn.specs.Limits.{max_context};
-ghost use Rattle.bpf_answers.specs.Answer.{Answered, Unfinished};
 ghost use Rattle.bpf_answers.specs.Both.{pairing};
 ghost use Rattle.bpf_command_convert.specs.Converted.{ConvertFails, ConvertSays, NotConverted, told_of};
 
 use crate::reading::{filter_at, made_of};
 use crate::unconvertible::Unconvertible;
-use bpf_answers::{Certification, Failure, put_both, refuse_conversion, say_certified};
+use bpf_answers::{Answer, Certification, Failure, put_both};
 use bpf_convert_checked::Made;
 use bpf_insn::MAX_CONTEXT;
 use bpf_places::Places;
 use bpf_request::Converting;
 use std::alloc::Global;
-use std::io::Write;
 
 /// Is told why what is at a name isn't converted. No answer depends on what it makes of that.
 pub trait Teller {
@@ -42,18 +40,14 @@ fn told_of(length: u32, made: &Made) -> Certification
 
 /// Writes the image of a filter of classic BPF and its certificate, both or neither, once the checker has taken it. The places for them are made
 /// only then. Of a refusal the teller is told, too.
-pub fn converted<'a, P: Places, W: Write, T: Teller>(
+pub fn converted<'a, P: Places, T: Teller>(
     alloc: Global,
     places: &mut P,
-    out: &mut W,
     teller: &T,
     asked: Converting<'a>,
-) -> Result<u8, Failure<'a>>
-    ensures ok { IfOk result (Answered (ConvertSays P.opens (pairing P.creates P.ends P.Writer.contents) places.old asked.entry places.new)
-        (W.contents out.old) (W.contents out.new)) }
+) -> Result<Answer, Failure<'a>>
+    ensures ok { IfOk result (ConvertSays P.opens (pairing P.creates P.ends P.Writer.contents) places.old asked.entry places.new) }
     ensures err { IfErr result (ConvertFails P.opens (pairing P.creates P.ends P.Writer.contents) places.old asked.entry places.new) }
-    ensures begun { IfErr result (λ _. Unfinished (ConvertSays P.opens (pairing P.creates P.ends P.Writer.contents) places.old asked.entry places.new)
-        (W.contents out.old) (W.contents out.new)) }
     ensures names { IfErr result (λ _. NotConverted P.opens (pairing P.creates P.ends P.Writer.contents) places.old asked.entry places.new) }
 {
     let bytes = filter_at(alloc, places, asked.input)?;
@@ -61,9 +55,9 @@ pub fn converted<'a, P: Places, W: Write, T: Teller>(
     let made = match made_of(alloc, &bytes, asked, length) {
         Ok(made) => made,
         Err(error) => {
-            let answer = refuse_conversion(alloc, out, error.answer());
+            let why = error.answer();
             teller.tell(error);
-            return answer;
+            return Ok(Answer::NotConverted(why));
         }
     };
     let told = told_of(length, &made);
@@ -75,5 +69,5 @@ pub fn converted<'a, P: Places, W: Write, T: Teller>(
         asked.certificate,
         &made.certificate,
     )?;
-    say_certified(alloc, out, told)
+    Ok(Answer::Certified(told))
 }

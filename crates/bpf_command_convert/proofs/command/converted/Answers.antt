@@ -1,21 +1,19 @@
-use Rattle.std.proofs.Common.{rules, IfErr, inr}
+use Rattle.std.proofs.Common.{rules, IfErr}
 use Rattle.std.proofs.lemmas.Result.{err_from_is_err_and}
-use Rattle.bpf_answers.specs.declared.answer.Answer.TheVariants.{NotConverted as IsNotConverted, Certified as IsCertified}
 use Rattle.bpf_answers.specs.Both.{pairing}
 use Rattle.bpf_answers.specs.Both.Put.{Both}
 use Rattle.bpf_answers.specs.Loaded.{BytesAt}
-use Rattle.bpf_answers.proofs.MadeLemmas.{not_all_printed, on_failure}
 use Rattle.bpf_command_convert.specs.Converted.{IsMadeOf, IsUnconvertible, max_filter_text}
-use Rattle.bpf_command_convert.proofs.ConvertedLemmas.{NotBothOf, answered, both_as, converts_of, puts_fail, puts_left, stands_as}
+use Rattle.bpf_command_convert.proofs.ConvertedLemmas.{NotBothOf, both_as, converts_of, puts_fail, puts_left, stands_as}
 use Rattle.bpf_command_convert.proofs.command.converted.Goals as goal
 
-pub returns-in-Err-clause-begun : goal.returns-in-Err-clause-begun
-returns-in-Err-clause-begun g c =
+pub returns-in-Err-clause-ok : goal.returns-in-Err-clause-ok
+returns-in-Err-clause-ok g c =
     let asked = c.args.asked in
     let bytes = c.in_ok-bytes.bytes.items in
     let read : BytesAt max_filter_text g.P.Places.opens c.args.places.now asked.input.now c.filter_at.new.places bytes = search rules in
     let why : IsUnconvertible asked bytes c.in-Err.error = search rules in
-    not_all_printed c.refuse_conversion-answer.result _ _ (IsNotConverted c.answer.result) _ c.refuse_conversion-answer.ensures.begun (bytes, c.in-Err.error, read, why, c.answer.ensures)
+    (bytes, c.in-Err.error, read, why, c.answer-why.ensures)
 
 pub returns-in_err-put_both-clause-err : goal.returns-in_err-put_both-clause-err
 returns-in_err-put_both-clause-err g c =
@@ -64,34 +62,4 @@ returns-clause-ok g c =
     let is_made : IsMadeOf asked length bytes made = search rules in
     let converts = converts_of o c.args.places.now asked between bytes made length c.told_of-told.result c.length_of-length.ensures.given read is_made c.told_of-told.ensures in
     let stand = stands_as b between asked made c.program-program.result.now Both c.put_both.new.places c.program-program.ensures c.in_ok-put_both.ensures.ok.1 in
-    answered c.say_certified.result _ _ (IsCertified c.told_of-told.result) _ c.say_certified.ensures.ok (between, made, converts, stand)
-
-pub returns-clause-begun : goal.returns-clause-begun
-returns-clause-begun g c =
-    let o = g.P.Places.opens in
-    let b = pairing g.P.Places.creates g.P.Places.ends g.P.Writer.Write.contents in
-    let asked = c.args.asked in
-    let bytes = c.in_ok-bytes.bytes.items in
-    let made = c.in-Ok.made in
-    let length = c.length_of-length.result in
-    let between = c.filter_at.new.places in
-    let read : BytesAt max_filter_text o c.args.places.now asked.input.now between bytes = search rules in
-    let is_made : IsMadeOf asked length bytes made = search rules in
-    let converts = converts_of o c.args.places.now asked between bytes made length c.told_of-told.result c.length_of-length.ensures.given read is_made c.told_of-told.ensures in
-    let stand = stands_as b between asked made c.program-program.result.now Both c.put_both.new.places c.program-program.ensures c.in_ok-put_both.ensures.ok.1 in
-    not_all_printed c.say_certified.result _ _ (IsCertified c.told_of-told.result) _ c.say_certified.ensures.begun (between, made, converts, stand)
-
-pub returns-clause-names : goal.returns-clause-names
-returns-clause-names g c =
-    let o = g.P.Places.opens in
-    let b = pairing g.P.Places.creates g.P.Places.ends g.P.Writer.Write.contents in
-    let asked = c.args.asked in
-    let bytes = c.in_ok-bytes.bytes.items in
-    let made = c.in-Ok.made in
-    let length = c.length_of-length.result in
-    let between = c.filter_at.new.places in
-    let read : BytesAt max_filter_text o c.args.places.now asked.input.now between bytes = search rules in
-    let is_made : IsMadeOf asked length bytes made = search rules in
-    let converts = converts_of o c.args.places.now asked between bytes made length c.told_of-told.result c.length_of-length.ensures.given read is_made c.told_of-told.ensures in
-    let stand = stands_as b between asked made c.program-program.result.now Both c.put_both.new.places c.program-program.ensures c.in_ok-put_both.ensures.ok.1 in
-    on_failure c.say_certified.result _ (inr (between, made, c.told_of-told.result, converts, (Both, stand)))
+    (between, made, converts, stand)
