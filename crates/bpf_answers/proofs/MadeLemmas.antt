@@ -1,8 +1,8 @@
 -- What was put at a name, what was printed, and what is left where that fails.
-use Rattle.std.proofs.Common.{◌≡◌, ◌⊎◌, inl, inr, subst, ℕ, List, [], Option, Some, None, Result, Ok, Err, IfOk, IfErr, refl, sym, append-nil}
+use Rattle.std.proofs.Common.{◌≡◌, ◌⊎◌, inl, inr, subst, ℕ, List, [], Option, Some, None, Result, Ok, Err, IfOk, IfErr, refl, sym, append-nil, true, true≢false}
 use Rattle.std.specs.Io.KnownBytes.{Appends, Keeps}
 use Rattle.bpf_insn.specs.Written.{AppendsBeginning}
-use Rattle.bpf_answers.specs.Answer.{Answer, Says, Unfinished, text_of}
+use Rattle.bpf_answers.specs.Answer.{Answer, Says, Unfinished, is_written, text_of}
 use Rattle.bpf_answers.specs.declared.answer.Answer.TheVariants.{Written}
 use Rattle.bpf_answers.specs.declared.failure.Failure.{Failure}
 use Rattle.bpf_answers.specs.declared.failure.Failure.TheVariants.{CannotWrite, NoMemory}
@@ -66,3 +66,8 @@ pub put_leaves : {A : Type 0} (result : Result A Failure) (name : Bor (List ℕ)
     → IfErr result (λ f. ((f ≡ CannotWrite name) ⊎ (f ≡ NoMemory)) × M) → (M → P) → IfErr result (λ _. P)
 put_leaves (Ok x) name M P fails holds = tt
 put_leaves (Err f) name M P fails holds = holds fails.1
+
+-- where there is nothing to print, nothing was printed
+pub written_says : (answer : Answer) (known : Option (List ℕ)) → is_written answer ≡ true → Says answer 0 known known
+written_says Written known h = record { status_is = refl; printed = nothing known }
+written_says answer known h = absurd (true≢false (sym h))

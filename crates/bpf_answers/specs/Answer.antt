@@ -62,6 +62,11 @@ status_of (Annotates a) = 0
 status_of Written = 0
 status_of (WrittenFor untouched) = 0
 
+-- there is nothing to print
+abbrev pub is_written : Answer → Bool
+is_written Written = true
+is_written answer = false
+
 -- ---- the text
 
 -- `no E4 at slot 0`: the kind of refusal, its number, the slot

@@ -1,9 +1,9 @@
 //! What a command answers: its status, and its text on standard output.
 
-ghost use Rattle.std.specs.Prelude.{◌≡◌, IfOk, IfErr, OnOk, OnErr};
+ghost use Rattle.std.specs.Prelude.{◌≡◌, false, IfOk, IfErr, OnOk, OnErr};
 ghost use Rattle.std.specs.Io.KnownBytes.{Appends};
 ghost use Rattle.bpf_insn.specs.Written.{AppendsBeginning};
-ghost use Rattle.bpf_answers.specs.Answer.{Says, status_of, status_of_run, text_of};
+ghost use Rattle.bpf_answers.specs.Answer.{Says, is_written, status_of, status_of_run, text_of};
 ghost use Rattle.bpf_answers.specs.Told.{OutputFails};
 
 use crate::annotated::Annotated;
@@ -129,6 +129,24 @@ impl Answer {
         }
     }
 
+    /// Whether there is nothing to print.
+    fn is_written(&self) -> bool
+        ensures { result ≡ is_written self.now }
+    {
+        match self {
+            Answer::Written => true,
+            Answer::Yes { .. } | Answer::Certified(_) | Answer::Follows(_) => false,
+            Answer::Ends(_) | Answer::Occur(_) | Answer::Lists(_) => false,
+            Answer::Annotates(_) | Answer::WrittenFor(_) | Answer::Ran(_) => false,
+            Answer::NoImage(_) | Answer::NoText(_) | Answer::NoCertificate(_) => false,
+            Answer::NotCertified(_) | Answer::NotProposed(_) => false,
+            Answer::NotHardened(_) | Answer::NotShown(_) => false,
+            Answer::TooDear | Answer::Uncertified | Answer::NotConverted(_) => false,
+            Answer::NoOld(_) | Answer::NoNew(_) | Answer::NoNotes(_) => false,
+            Answer::NotFollowed(_) | Answer::NoContext { .. } => false,
+        }
+    }
+
     /// Writes the text of the answer. A fault of the writer ends it; what went out is then a beginning of the text. Takes no memory.
     pub fn write<W: Write>(&self, out: &mut W) -> io::Result<()>
         ensures ok { OnOk result (Appends (W.contents out.old) (W.contents out.new) (text_of self.now)) }
@@ -198,12 +216,17 @@ impl Answer {
     }
 }
 
-/// Prints an answer, and gives its status. Where that fails, standard output has a beginning of its text.
+/// Prints an answer, and gives its status. Where that fails, standard output has a beginning of its text. Where there is nothing to print it
+/// doesn't fail.
 pub fn print<'a, W: Write>(out: &mut W, answer: &Answer) -> Result<u8, Failure<'a>>
     ensures ok { IfOk result (λ status. Says answer.now status (W.contents out.old) (W.contents out.new)) }
     ensures err { IfErr result OutputFails }
     ensures begun { IfErr result (λ _. AppendsBeginning (W.contents out.old) (W.contents out.new) (text_of answer.now)) }
+    ensures some { IfErr result (λ _. is_written answer.now ≡ false) }
 {
+    if answer.is_written() {
+        return Ok(DONE);
+    }
     match answer.write(out) {
         Ok(()) => Ok(answer.status()),
         Err(_) => Err(Failure::CannotWrite("standard output")),

@@ -30,7 +30,7 @@ pub use bytes::{BytesError, bytes_at};
 pub use certificate::{certificate_at, refuse_certificate, refuse_program};
 pub use certified::{Certification, Rewriting, refuse_dear, refuse_uncertified, say_certified};
 pub use context::{ContextError, context_of};
-pub use converted::{Unconverted, refuse_conversion};
+pub use converted::Unconverted;
 pub use counted::Counted;
 pub use each::{Runner, answered};
 pub use failure::{BAD_WORDS, CLOSED, DONE, FAILED, Failure, REFUSED, say, tell};
