@@ -1,5 +1,5 @@
 -- What the command answers to its words, whatever they ask for.
-use Rattle.std.specs.Prelude.{◌≡◌, ◌≢◌, ◌⊎◌, ◌&&◌, ◌||◌, ⊤, Bool, true, false, List, [], ◌∷◌, ℕ, Option, Some, None, nat_lt, codes, option_map, unwrap_or, if◌then◌else◌}
+use Rattle.std.specs.Prelude.{◌≡◌, ◌≢◌, ◌⊎◌, ◌&&◌, ◌||◌, ⊤, Bool, true, false, List, [], ◌∷◌, ℕ, Option, Some, None, Result, Ok, Err, nat_lt, codes, option_map, unwrap_or, if◌then◌else◌}
 use Rattle.std.specs.Option.{option_or}
 use Rattle.std.specs.Borrow.{Bor}
 use Rattle.std.specs.Io.KnownBytes.{Keeps}
@@ -8,7 +8,11 @@ use Rattle.bpf_request.specs.CommandLine.{IsAsked, bpf, faults_in, hardening_of,
 use Rattle.bpf_places.specs.Opened.{Opening}
 use Rattle.bpf_places.specs.Made.{Making}
 use Rattle.bpf_answers.specs.Loaded.{ImageFails, OpensFirst}
-use Rattle.bpf_answers.specs.Answer.{Answered, Unfinished}
+use Rattle.bpf_insn.specs.Written.{AppendsBeginning}
+use Rattle.bpf_answers.specs.Answer.{Answered, Says, Unfinished, is_written, text_of}
+use Rattle.bpf_answers.specs.declared.answer.Answer.{Answer}
+use Rattle.bpf_answers.specs.declared.reply.Reply.{Reply}
+use Rattle.bpf_answers.specs.declared.reply.Reply.TheVariants.{One, Each}
 use Rattle.bpf_command_core.specs.Printed.{LoadedFails, ImageSays, GroupsSay, ListSays, notes_of, AsmSays, AsmFails, NotAssembled, MigrateSays, MigrateFails, NotMigrated, CheckSays}
 use Rattle.bpf_command.specs.Inferred.{InferSays, InferFails, NotInferred}
 use Rattle.bpf_command.specs.Hardened.{HardenFails, HardenSays, NotAllMade}
@@ -21,7 +25,7 @@ use Rattle.bpf_command_core.specs.Given.{CheckedFails, CheckedLeaves, CheckedSay
 use Rattle.bpf_command_core.specs.Names.{names_checked, names_run}
 use Rattle.bpf_command.specs.Names.{behind_lines, names_explained}
 use Rattle.bpf_command.specs.Explained.{ExplainWithFails, ExplainWithSays}
-use Rattle.bpf_answers.specs.Told.{IsTold}
+use Rattle.bpf_answers.specs.Told.{IsTold, OutputFails}
 use Rattle.std.specs.Str.{bytes_eq}
 use Rattle.bpf_request.specs.declared.certifying.Certifying.{Certifying}
 use Rattle.bpf_request.specs.declared.hardening.Hardening.{Hardening}
@@ -105,19 +109,19 @@ conflict_with input lines GraphAlone = misplaced lines
 conflict_with input lines (Misfit clash) = Some NotTogether
 
 abbrev pub conflict_of : Request → Option Failure
-conflict_of (Groups input order) = None
-conflict_of (Asm input output order) = None
-conflict_of (ListOf input slots bytes order) = None
-conflict_of (Run input contexts steps trace order) = twice input.now (name_of contexts)
-conflict_of (Check input certificate work order) = twice input.now certificate.now
-conflict_of (RunChecked input certificate contexts order) = thrice input.now certificate.now (name_of contexts)
-conflict_of (Infer input least most deep output order) = out_of_order least most
+conflict_of (Groups g) = None
+conflict_of (Asm a) = None
+conflict_of (ListOf l) = None
+conflict_of (Run r) = twice r.input.now (name_of r.contexts)
+conflict_of (Check c) = twice c.input.now c.certificate.now
+conflict_of (RunChecked r) = thrice r.input.now r.certificate.now (name_of r.contexts)
+conflict_of (Infer i) = out_of_order i.least i.most
 conflict_of (Harden h) = written_twice h.output.now h.notes h.changes
 conflict_of (Certify c) = certify_conflict c
 conflict_of (Convert c) = conversion_conflict c
 conflict_of (Follows f) = thrice f.original.now f.rewritten.now f.notes.now
-conflict_of (Migrate certificate output) = None
-conflict_of (Explain input subject lines order) = conflict_with input.now lines subject
+conflict_of (Migrate t) = None
+conflict_of (Explain e) = conflict_with e.input.now e.lines e.subject
 
 -- ---- names that lead to one file
 
@@ -164,86 +168,108 @@ IsAnyInTheWay meets s c one =
     × (one ≡ (hardened || certificate || lines))
 
 abbrev pub Obstructs : {S : Type 0} → Meeting S → S → Request → Bool → Type 0
-Obstructs meets s (Groups input order) one = one ≡ false
-Obstructs meets s (Asm input output order) one = one ≡ false
-Obstructs meets s (ListOf input slots bytes order) one = one ≡ false
-Obstructs meets s (Run input contexts steps trace order) one = one ≡ false
-Obstructs meets s (Check input certificate work order) one = one ≡ false
-Obstructs meets s (RunChecked input certificate contexts order) one = one ≡ false
-Obstructs meets s (Infer input least most deep output order) one = one ≡ false
-Obstructs meets s (Explain input subject lines order) one = one ≡ false
+Obstructs meets s (Groups g) one = one ≡ false
+Obstructs meets s (Asm a) one = one ≡ false
+Obstructs meets s (ListOf l) one = one ≡ false
+Obstructs meets s (Run r) one = one ≡ false
+Obstructs meets s (Check c) one = one ≡ false
+Obstructs meets s (RunChecked r) one = one ≡ false
+Obstructs meets s (Infer i) one = one ≡ false
+Obstructs meets s (Explain e) one = one ≡ false
 Obstructs meets s (Harden h) one = IsInTheWay meets s h one
 Obstructs meets s (Certify c) one = IsAnyInTheWay meets s c one
 Obstructs meets s (Convert c) one = IsConversionInTheWay meets s c one
 Obstructs meets s (Follows f) one = one ≡ false
-Obstructs meets s (Migrate certificate output) one = one ≡ false
+Obstructs meets s (Migrate t) one = one ≡ false
 
 -- ---- what is done, and why not
 
+-- an answer was printed with its status, or printing it failed; where there is none, nothing was printed
+abbrev pub Prints : Result Answer Failure → Option (List ℕ) → Option (List ℕ) → Result ℕ Failure → Type 0
+Prints (Ok answer) before after (Ok status) = Says answer status before after
+Prints (Ok answer) before after (Err failure) = OutputFails failure × AppendsBeginning before after (text_of answer) × (is_written answer ≡ false)
+Prints (Err e) before after (Ok status) = ⊥
+Prints (Err e) before after (Err failure) = (failure ≡ e) × Keeps before after
+
+-- the same of an answer that is still to be printed
+abbrev pub PrintsReply : Result Reply Failure → Option (List ℕ) → Option (List ℕ) → Result ℕ Failure → Type 0
+PrintsReply (Ok (One answer)) before after result = Prints (Ok answer) before after result
+PrintsReply (Ok (Each status)) before after (Ok other) = (other ≡ status) × Keeps before after
+PrintsReply (Ok (Each status)) before after (Err failure) = ⊥
+PrintsReply (Err e) before after result = Prints (Err e) before after result
+
+-- one answer was found and printed, or those to contexts in lines were
+abbrev pub Replied : (Option (List ℕ) → Option (List ℕ) → Reply → Type 0) → Option (List ℕ) → Option (List ℕ) → ℕ → Type 0
+Replied says before after status = ((answer : Answer) × says before before (One answer) × Says answer status before after) ⊎ says before after (Each status)
+
+-- a beginning of the one answer was printed; or something failed before, which leaves this
+abbrev pub LeavesReply : (Option (List ℕ) → Option (List ℕ) → Reply → Type 0) → (Option (List ℕ) → Option (List ℕ) → Type 0) → Option (List ℕ) → Option (List ℕ) → Type 0
+LeavesReply says leaves before after = ((answer : Answer) × says before before (One answer) × AppendsBeginning before after (text_of answer)) ⊎ leaves before after
+
 -- The answer to a request, which was printed with its status; what stood at the names that were read, and what was put at OUT.
 abbrev pub Does : {S : Type 0} → Opening S → Making S → Pairing S → S → S → Option (List ℕ) → Option (List ℕ) → Request → ℕ → Type 0
-Does o m b old new before after (Groups input order) = Answered (ImageSays o order old input.now new GroupsSay) before after
-Does o m b old new before after (Asm input output order) = Answered (AsmSays o m order old input.now output.now new) before after
-Does o m b old new before after (ListOf input slots bytes order) = Answered (ImageSays o order old input.now new (ListSays (notes_of slots bytes))) before after
-Does o m b old new before after (Run input contexts steps trace order) = λ status. RunSays o order old input.now contexts steps new before after status
-Does o m b old new before after (Check input certificate work order) = Answered (CheckSays o order old input.now certificate.now new work) before after
-Does o m b old new before after (RunChecked input certificate contexts order) = λ status. CheckedSays o order old input.now certificate.now contexts new before after status
-Does o m b old new before after (Infer input least most deep output order) = Answered (InferSays o m order old input.now least most output.now new) before after
-Does o m b old new before after (Explain input subject lines order) = ExplainWithSays o order old input.now subject lines new
+Does o m b old new before after (Groups g) = Answered (ImageSays o g.order old g.input.now new GroupsSay) before after
+Does o m b old new before after (Asm a) = Answered (AsmSays o m a.order old a.input.now a.output.now new) before after
+Does o m b old new before after (ListOf l) = Answered (ImageSays o l.order old l.input.now new (ListSays (notes_of l.slots l.bytes))) before after
+Does o m b old new before after (Run r) = Replied (RunSays o old r r.contexts new) before after
+Does o m b old new before after (Check c) = Answered (CheckSays o c.order old c.input.now c.certificate.now new c.work) before after
+Does o m b old new before after (RunChecked r) = Replied (CheckedSays o old r r.contexts new) before after
+Does o m b old new before after (Infer i) = Answered (InferSays o m i.order old i.input.now i.least i.most i.output.now new) before after
+Does o m b old new before after (Explain e) = ExplainWithSays o e.order old e.input.now e.subject e.lines new
 Does o m b old new before after (Harden h) = Answered (HardenSays o m old h new) before after
 Does o m b old new before after (Certify c) = Answered (CertifyWithSays o m b old c new) before after
 Does o m b old new before after (Convert c) = Answered (ConvertSays o b old c new) before after
 Does o m b old new before after (Follows f) = Answered (FollowsSays o old f new) before after
-Does o m b old new before after (Migrate certificate output) = Answered (MigrateSays o m old certificate.now output.now new) before after
+Does o m b old new before after (Migrate t) = Answered (MigrateSays o m old t.certificate.now t.output.now new) before after
 
 -- What failed of a request without a conflict; what was answered before stands on standard output.
 abbrev pub Misses : {S : Type 0} → Opening S → Making S → Pairing S → S → S → Option (List ℕ) → Option (List ℕ) → Request → Failure → Type 0
-Misses o m b old new before after (Groups input order) = ImageFails o old input.now new
-Misses o m b old new before after (Asm input output order) = AsmFails o m order old input.now output.now new
-Misses o m b old new before after (ListOf input slots bytes order) = ImageFails o old input.now new
-Misses o m b old new before after (Run input contexts steps trace order) = RunFails o order old input.now contexts steps new before after
-Misses o m b old new before after (Check input certificate work order) = LoadedFails o order old input.now certificate.now new
-Misses o m b old new before after (RunChecked input certificate contexts order) = CheckedFails o order old input.now certificate.now contexts new before after
-Misses o m b old new before after (Infer input least most deep output order) = InferFails o m order old input.now least most output.now new
-Misses o m b old new before after (Explain input subject lines order) = ExplainWithFails o order old input.now subject lines new
+Misses o m b old new before after (Groups g) = ImageFails o old g.input.now new
+Misses o m b old new before after (Asm a) = AsmFails o m a.order old a.input.now a.output.now new
+Misses o m b old new before after (ListOf l) = ImageFails o old l.input.now new
+Misses o m b old new before after (Run r) = RunFails o old r r.contexts new before after
+Misses o m b old new before after (Check c) = LoadedFails o c.order old c.input.now c.certificate.now new
+Misses o m b old new before after (RunChecked r) = CheckedFails o old r r.contexts new before after
+Misses o m b old new before after (Infer i) = InferFails o m i.order old i.input.now i.least i.most i.output.now new
+Misses o m b old new before after (Explain e) = ExplainWithFails o e.order old e.input.now e.subject e.lines new
 Misses o m b old new before after (Harden h) = HardenFails o m old h new
 Misses o m b old new before after (Certify c) = CertifyWithFails o m b old c new
 Misses o m b old new before after (Convert c) = ConvertFails o b old c new
 Misses o m b old new before after (Follows f) = FollowsFails o old f new
-Misses o m b old new before after (Migrate certificate output) = MigrateFails o m old certificate.now output.now new
+Misses o m b old new before after (Migrate t) = MigrateFails o m old t.certificate.now t.output.now new
 
 -- What stands on standard output where a request without a conflict failed: nothing new, or a beginning of its answer; behind the answers to
 -- the lines before, where contexts are in lines. Of the words of `explain` nothing is said.
 abbrev pub Leaves : {S : Type 0} → Opening S → Making S → Pairing S → S → S → Option (List ℕ) → Option (List ℕ) → Request → Type 0
-Leaves o m b old new before after (Groups input order) = Unfinished (ImageSays o order old input.now new GroupsSay) before after
-Leaves o m b old new before after (Asm input output order) = Unfinished (AsmSays o m order old input.now output.now new) before after
-Leaves o m b old new before after (ListOf input slots bytes order) = Unfinished (ImageSays o order old input.now new (ListSays (notes_of slots bytes))) before after
-Leaves o m b old new before after (Run input contexts steps trace order) = RunLeaves o order old input.now contexts steps new before after
-Leaves o m b old new before after (Check input certificate work order) = Unfinished (CheckSays o order old input.now certificate.now new work) before after
-Leaves o m b old new before after (RunChecked input certificate contexts order) = CheckedLeaves o order old input.now certificate.now contexts new before after
-Leaves o m b old new before after (Infer input least most deep output order) = Unfinished (InferSays o m order old input.now least most output.now new) before after
-Leaves o m b old new before after (Explain input subject lines order) = ⊤
+Leaves o m b old new before after (Groups g) = Unfinished (ImageSays o g.order old g.input.now new GroupsSay) before after
+Leaves o m b old new before after (Asm a) = Unfinished (AsmSays o m a.order old a.input.now a.output.now new) before after
+Leaves o m b old new before after (ListOf l) = Unfinished (ImageSays o l.order old l.input.now new (ListSays (notes_of l.slots l.bytes))) before after
+Leaves o m b old new before after (Run r) = LeavesReply (RunSays o old r r.contexts new) (RunLeaves o old r r.contexts new) before after
+Leaves o m b old new before after (Check c) = Unfinished (CheckSays o c.order old c.input.now c.certificate.now new c.work) before after
+Leaves o m b old new before after (RunChecked r) = LeavesReply (CheckedSays o old r r.contexts new) (CheckedLeaves o old r r.contexts new) before after
+Leaves o m b old new before after (Infer i) = Unfinished (InferSays o m i.order old i.input.now i.least i.most i.output.now new) before after
+Leaves o m b old new before after (Explain e) = ⊤
 Leaves o m b old new before after (Harden h) = Unfinished (HardenSays o m old h new) before after
 Leaves o m b old new before after (Certify c) = Unfinished (CertifyWithSays o m b old c new) before after
 Leaves o m b old new before after (Convert c) = Unfinished (ConvertSays o b old c new) before after
 Leaves o m b old new before after (Follows f) = Unfinished (FollowsSays o old f new) before after
-Leaves o m b old new before after (Migrate certificate output) = Unfinished (MigrateSays o m old certificate.now output.now new) before after
+Leaves o m b old new before after (Migrate t) = Unfinished (MigrateSays o m old t.certificate.now t.output.now new) before after
 
 -- What was done at the names of a request that failed: those that it reads were opened in their order, up to one; what it makes isn't there.
 abbrev pub NotMade : {S : Type 0} → Opening S → Making S → Pairing S → S → S → Request → Type 0
-NotMade o m b old new (Groups input order) = OpensFirst o (input.now ∷ []) old new
-NotMade o m b old new (Asm input output order) = NotAssembled o m order old input.now output.now new
-NotMade o m b old new (ListOf input slots bytes order) = OpensFirst o (input.now ∷ []) old new
-NotMade o m b old new (Run input contexts steps trace order) = OpensFirst o (names_run input.now contexts) old new
-NotMade o m b old new (Check input certificate work order) = OpensFirst o (input.now ∷ certificate.now ∷ []) old new
-NotMade o m b old new (RunChecked input certificate contexts order) = OpensFirst o (names_checked input.now certificate.now contexts) old new
-NotMade o m b old new (Infer input least most deep output order) = NotInferred o m order old input.now least most output.now new
-NotMade o m b old new (Explain input subject lines order) = OpensFirst o (behind_lines lines (names_explained input.now subject)) old new
+NotMade o m b old new (Groups g) = OpensFirst o (g.input.now ∷ []) old new
+NotMade o m b old new (Asm a) = NotAssembled o m a.order old a.input.now a.output.now new
+NotMade o m b old new (ListOf l) = OpensFirst o (l.input.now ∷ []) old new
+NotMade o m b old new (Run r) = OpensFirst o (names_run r.input.now r.contexts) old new
+NotMade o m b old new (Check c) = OpensFirst o (c.input.now ∷ c.certificate.now ∷ []) old new
+NotMade o m b old new (RunChecked r) = OpensFirst o (names_checked r.input.now r.certificate.now r.contexts) old new
+NotMade o m b old new (Infer i) = NotInferred o m i.order old i.input.now i.least i.most i.output.now new
+NotMade o m b old new (Explain e) = OpensFirst o (behind_lines e.lines (names_explained e.input.now e.subject)) old new
 NotMade o m b old new (Harden h) = NotAllMade o m old h new
 NotMade o m b old new (Certify c) = NotCertifiedWith o m b old c new
-NotMade o m b old new (Convert c) = NotConverted o b old c new
+NotMade o m b old new (Convert c) = NotConverted o b old c new ⊎ ((answer : Answer) × ConvertSays o b old c new answer)
 NotMade o m b old new (Follows f) = OpensFirst o (f.original.now ∷ f.rewritten.now ∷ f.notes.now ∷ []) old new
-NotMade o m b old new (Migrate certificate output) = NotMigrated o m old certificate.now output.now new
+NotMade o m b old new (Migrate t) = NotMigrated o m old t.certificate.now t.output.now new
 
 -- why nothing is tried: words that can't stand together, names that lead to one file, or no memory to tell that
 abbrev pub IsStopped : {S : Type 0} → Meeting S → S → Request → Failure → Type 0

@@ -49,16 +49,10 @@ fn order_word(order: Order) -> &'static str {
 /// Names the command that tells why a request was refused, if one tells it of all its refusals. A search tells of its own.
 pub(crate) fn after_refusal<H: Terminal>(aside: &H, request: Request<'_>) {
     let (flags, order, input, certificate) = match request {
-        Request::Groups { input, order } | Request::List { input, order, .. } => {
-            ("", order, input, None)
-        }
-        Request::Asm { input, order, .. } => ("--text ", order, input, None),
-        Request::Check {
-            input,
-            certificate,
-            order,
-            ..
-        } => ("", order, input, Some(certificate)),
+        Request::Groups(asked) => ("", asked.order, asked.input, None),
+        Request::List(asked) => ("", asked.order, asked.input, None),
+        Request::Asm(asked) => ("--text ", asked.order, asked.input, None),
+        Request::Check(asked) => ("", asked.order, asked.input, Some(asked.certificate)),
         _ => return,
     };
     let order = order_word(order);
@@ -269,13 +263,11 @@ fn clash_text(clash: Clash) -> &'static str {
 /// Which words of a request don't go together.
 fn misfit_text(request: Request<'_>) -> Option<&'static str> {
     match request {
-        Request::Explain {
-            subject: Subject::Misfit(clash),
-            ..
-        } => Some(clash_text(clash)),
-        Request::Explain { lines: Some(_), .. } => Some(
-            "--lines goes with CERT, --infer or --harden, and not with --dot",
-        ),
+        Request::Explain(asked) => match (asked.subject, asked.lines) {
+            (Subject::Misfit(clash), _) => Some(clash_text(clash)),
+            (_, Some(_)) => Some("--lines goes with CERT, --infer or --harden, and not with --dot"),
+            (_, None) => None,
+        },
         Request::Certify(_) => Some(
             "OUT, CERT, --notes and --changes lead to files of their own; CERT, --notes and --changes not to IN, and none of them to --lines",
         ),
@@ -291,15 +283,13 @@ fn misfit_text(request: Request<'_>) -> Option<&'static str> {
 
 /// The word that was to spell a context.
 fn context_word<'a>(request: Request<'a>) -> Option<&'a str> {
-    match request {
-        Request::Run {
-            contexts: Contexts::Word(word),
-            ..
-        }
-        | Request::RunChecked {
-            contexts: Contexts::Word(word),
-            ..
-        } => Some(word),
+    let contexts = match request {
+        Request::Run(asked) => asked.contexts,
+        Request::RunChecked(asked) => asked.contexts,
+        _ => return None,
+    };
+    match contexts {
+        Contexts::Word(word) => Some(word),
         _ => None,
     }
 }

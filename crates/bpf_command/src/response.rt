@@ -5,7 +5,7 @@ ghost use Rattle.std.specs.Io.KnownBytes.{Keeps};
 ghost use Rattle.std.specs.String.{string_bytes};
 ghost use Rattle.bpf_places.specs.Made.{making};
 ghost use Rattle.bpf_answers.specs.Both.{pairing};
-ghost use Rattle.bpf_command.specs.Response.{Does, Fails, IsAnyInTheWay, IsCertificateInTheWay, IsInTheWay, AreLinesInTheWay, Leaves, MeetEither, MeetsOne, Misses, NotMade, Obstructs, Responds, Serves, certify_conflict, conflict_of, conflict_with, dashed, dashed_if, misplaced, misplaced_in, name_given, out_of_order, same_name, same_names, thrice, twice, written_twice};
+ghost use Rattle.bpf_command.specs.Response.{Does, Fails, IsAnyInTheWay, IsCertificateInTheWay, IsInTheWay, AreLinesInTheWay, Leaves, MeetEither, MeetsOne, Misses, NotMade, Obstructs, Prints, PrintsReply, Responds, Serves, certify_conflict, conflict_of, conflict_with, dashed, dashed_if, misplaced, misplaced_in, name_given, out_of_order, same_name, same_names, thrice, twice, written_twice};
 ghost use Rattle.bpf_answers.specs.Told.{IsTold, Tells};
 
 use crate::advice::{after_failure, after_refusal};
@@ -15,7 +15,7 @@ use crate::commands::{
     is_conversion_in_the_way,
 };
 use crate::shown::tell_mistake;
-use bpf_answers::{BAD_WORDS, CLOSED, FAILED, Failure, REFUSED, tell};
+use bpf_answers::{Answer, BAD_WORDS, CLOSED, FAILED, Failure, REFUSED, Reply, print, tell};
 use bpf_command_core::{
     assembled, checked, followed, grouped, listed, migrated, ran_checked_on, ran_on,
 };
@@ -183,31 +183,12 @@ fn conflict_in(request: Request<'_>) -> Option<Failure<'static>>
     ensures { result ≡ conflict_of request.entry }
 {
     match request {
-        Request::Groups { .. } | Request::Asm { .. } | Request::List { .. } => None,
-        Request::Migrate { .. } => None,
-        Request::Explain {
-            input,
-            subject,
-            lines,
-            ..
-        } => conflict_with(input, lines, subject),
-        Request::Run {
-            input,
-            contexts,
-            ..
-        } => twice(input, contexts.name()),
-        Request::Check {
-            input,
-            certificate,
-            ..
-        } => twice(input, certificate),
-        Request::RunChecked {
-            input,
-            certificate,
-            contexts,
-            ..
-        } => thrice(input, certificate, contexts.name()),
-        Request::Infer { least, most, .. } => out_of_order(least, most),
+        Request::Groups(_) | Request::Asm(_) | Request::List(_) | Request::Migrate(_) => None,
+        Request::Explain(asked) => conflict_with(asked.input, asked.lines, asked.subject),
+        Request::Run(asked) => twice(asked.input, asked.contexts.name()),
+        Request::Check(asked) => twice(asked.input, asked.certificate),
+        Request::RunChecked(asked) => thrice(asked.input, asked.certificate, asked.contexts.name()),
+        Request::Infer(asked) => out_of_order(asked.least, asked.most),
         Request::Harden(asked) => written_twice(asked.output, asked.notes, asked.changes),
         Request::Certify(asked) => certify_conflict(asked),
         Request::Convert(asked) => conversion_conflict(asked),
@@ -294,10 +275,34 @@ fn obstructs<P: Places>(places: &P, request: Request<'_>) -> Result<bool, AllocE
         Request::Harden(asked) => is_in_the_way(places, asked),
         Request::Certify(asked) => is_any_in_the_way(places, asked),
         Request::Convert(asked) => is_conversion_in_the_way(places, asked),
-        Request::Groups { .. } | Request::Asm { .. } | Request::List { .. } => Ok(false),
-        Request::Run { .. } | Request::Check { .. } | Request::RunChecked { .. } => Ok(false),
-        Request::Infer { .. } | Request::Explain { .. } => Ok(false),
-        Request::Follows(_) | Request::Migrate { .. } => Ok(false),
+        Request::Groups(_) | Request::Asm(_) | Request::List(_) => Ok(false),
+        Request::Run(_) | Request::Check(_) | Request::RunChecked(_) => Ok(false),
+        Request::Infer(_) | Request::Explain(_) => Ok(false),
+        Request::Follows(_) | Request::Migrate(_) => Ok(false),
+    }
+}
+
+/// Prints an answer, if there is one.
+fn printed<'a, W: Write>(
+    out: &mut W,
+    answer: Result<Answer, Failure<'a>>,
+) -> Result<u8, Failure<'a>>
+    ensures { Prints answer.entry (W.contents out.old) (W.contents out.new) result }
+{
+    match answer {
+        Ok(answer) => print(out, &answer),
+        Err(failure) => Err(failure),
+    }
+}
+
+/// Prints an answer that is still to be printed, if there is one.
+fn replied<'a, W: Write>(out: &mut W, reply: Result<Reply, Failure<'a>>) -> Result<u8, Failure<'a>>
+    ensures { PrintsReply reply.entry (W.contents out.old) (W.contents out.new) result }
+{
+    match reply {
+        Ok(Reply::One(answer)) => print(out, &answer),
+        Ok(Reply::Each(status)) => Ok(status),
+        Err(failure) => Err(failure),
     }
 }
 
@@ -318,67 +323,29 @@ fn carry_out<'a, P: Places, W: Write, H: Aside>(
     ensures names { IfErr result (λ _. NotMade P.opens (making P.creates P.ends P.Writer.contents) (pairing P.creates P.ends P.Writer.contents) places.old places.new request.entry) }
 {
     match request {
-        Request::Groups { input, order } => grouped(alloc, places, out, input, order),
-        Request::Asm {
-            input,
-            output,
-            order,
-        } => assembled(alloc, places, out, input, output, order),
-        Request::List {
-            input,
-            slots,
-            bytes,
-            order,
-        } => listed(alloc, places, out, input, slots, bytes, order),
-        Request::Run {
-            input,
-            contexts,
-            steps,
-            trace,
-            order,
-        } => {
+        Request::Groups(asked) => printed(out, grouped(alloc, places, asked)),
+        Request::Asm(asked) => printed(out, assembled(alloc, places, asked)),
+        Request::List(asked) => printed(out, listed(alloc, places, asked)),
+        Request::Run(asked) => {
             let trace = Trace {
                 aside: &*aside,
-                lines: trace,
+                lines: asked.trace,
             };
-            ran_on(alloc, places, out, &trace, input, contexts, steps, order)
+            let reply = ran_on(alloc, places, out, &trace, asked);
+            replied(out, reply)
         }
-        Request::Check {
-            input,
-            certificate,
-            work,
-            order,
-        } => checked(alloc, places, out, input, certificate, order, work),
-        Request::RunChecked {
-            input,
-            certificate,
-            contexts,
-            order,
-        } => ran_checked_on(alloc, places, out, input, certificate, contexts, order),
-        Request::Infer {
-            input,
-            least,
-            most,
-            deep,
-            output,
-            order,
-        } => inferred(
-            alloc, places, out, aside, input, least, most, deep, output, order,
-        ),
+        Request::Check(asked) => printed(out, checked(alloc, places, asked)),
+        Request::RunChecked(asked) => {
+            let reply = ran_checked_on(alloc, places, out, asked);
+            replied(out, reply)
+        }
+        Request::Infer(asked) => inferred(alloc, places, out, aside, asked),
         Request::Harden(asked) => hardened(alloc, places, out, &*aside, asked),
         Request::Certify(asked) => certified(alloc, places, out, &*aside, asked),
-        Request::Convert(asked) => converted(alloc, places, out, &*aside, asked),
-        Request::Follows(asked) => followed(alloc, places, out, asked),
-        Request::Explain {
-            input,
-            subject,
-            lines,
-            order,
-        } => explained(alloc, places, out, aside, input, subject, lines, order),
-        Request::Migrate {
-            certificate,
-            output,
-        } => migrated(alloc, places, out, certificate, output),
+        Request::Convert(asked) => printed(out, converted(alloc, places, &*aside, asked)),
+        Request::Follows(asked) => printed(out, followed(alloc, places, asked)),
+        Request::Explain(asked) => explained(alloc, places, out, aside, asked),
+        Request::Migrate(asked) => printed(out, migrated(alloc, places, asked)),
     }
 }
 

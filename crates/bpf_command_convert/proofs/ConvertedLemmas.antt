@@ -1,5 +1,5 @@
 -- What is said of the names of a conversion, from what is said of each.
-use Rattle.std.proofs.Common.{◌≡◌, ◌⊎◌, ◌≤◌, ℕ, List, Option, Result, Ok, Err, IfOk, IfErr, refl, sym, subst, inl, inr}
+use Rattle.std.proofs.Common.{◌≡◌, ◌⊎◌, ◌≤◌, ℕ, List, Result, Ok, Err, IfErr, refl, sym, subst, inl, inr}
 use Rattle.bpf_insn.specs.Instruction.{Instructions}
 use Rattle.bpf_insn.specs.Image.{image}
 use Rattle.bpf_insn.specs.Limits.{max_context}

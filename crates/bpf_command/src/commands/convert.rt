@@ -1,19 +1,17 @@
 //! `bpf convert IN LEN OUT CERT`.
 
 ghost use Rattle.std.specs.Prelude.{◌≡◌, IfOk, IfErr};
-ghost use Rattle.bpf_answers.specs.Answer.{Answered, Unfinished};
 ghost use Rattle.bpf_answers.specs.Both.{pairing};
 ghost use Rattle.bpf_command_convert.specs.Converted.{ConvertFails, ConvertSays, NotConverted};
 ghost use Rattle.bpf_command.specs.Conversion.{IsConversionInTheWay, conversion_conflict, is_misfit};
 
 use crate::aside::Aside;
 use crate::sentences::tell_sentence;
-use bpf_answers::Failure;
+use bpf_answers::{Answer, Failure};
 use bpf_command_convert::{Teller, Unconvertible};
 use bpf_places::Places;
 use bpf_request::Converting;
 use std::alloc::{AllocError, Global};
-use std::io::Write;
 
 /// The bytes in front of the packet of a block.
 const HEAD: u32 = 8;
@@ -72,19 +70,15 @@ impl<'a, H: Aside> Teller for Sentences<'a, H> {
 }
 
 /// Writes the image of a filter and its certificate. Of a refusal the sentence stands on standard error.
-pub fn converted<'a, P: Places, W: Write, H: Aside>(
+pub fn converted<'a, P: Places, H: Aside>(
     alloc: Global,
     places: &mut P,
-    out: &mut W,
     aside: &H,
     asked: Converting<'a>,
-) -> Result<u8, Failure<'a>>
-    ensures ok { IfOk result (Answered (ConvertSays P.opens (pairing P.creates P.ends P.Writer.contents) places.old asked.entry places.new)
-        (W.contents out.old) (W.contents out.new)) }
+) -> Result<Answer, Failure<'a>>
+    ensures ok { IfOk result (ConvertSays P.opens (pairing P.creates P.ends P.Writer.contents) places.old asked.entry places.new) }
     ensures err { IfErr result (ConvertFails P.opens (pairing P.creates P.ends P.Writer.contents) places.old asked.entry places.new) }
-    ensures begun { IfErr result (λ _. Unfinished (ConvertSays P.opens (pairing P.creates P.ends P.Writer.contents) places.old asked.entry places.new)
-        (W.contents out.old) (W.contents out.new)) }
     ensures names { IfErr result (λ _. NotConverted P.opens (pairing P.creates P.ends P.Writer.contents) places.old asked.entry places.new) }
 {
-    bpf_command_convert::converted(alloc, places, out, &Sentences(aside), asked)
+    bpf_command_convert::converted(alloc, places, &Sentences(aside), asked)
 }

@@ -418,16 +418,22 @@ pub fn explained<'a, P: Places, W: Write, H: Watch>(
     places: &mut P,
     out: &mut W,
     watch: &mut H,
-    input: &'a str,
-    subject: Subject<'a>,
-    lines: Option<&'a str>,
-    order: Order,
+    asked: Explaining<'a>,
 ) -> Result<u8, Failure<'a>>
-    ensures ok { IfOk result (ExplainWithSays P.opens order places.old input.entry.now subject.entry lines.entry places.new) }
-    ensures err { IfErr result (ExplainWithFails P.opens order places.old input.entry.now subject.entry lines.entry places.new) }
-    ensures opened { OpensFirst P.opens (behind_lines lines.entry (names_explained input.entry.now subject.entry)) places.old places.new }
+    ensures ok { IfOk result (ExplainWithSays P.opens asked.entry.order places.old asked.entry.input.now asked.entry.subject asked.entry.lines places.new) }
+    ensures err { IfErr result (ExplainWithFails P.opens asked.entry.order places.old asked.entry.input.now asked.entry.subject asked.entry.lines places.new) }
+    ensures opened { OpensFirst P.opens (behind_lines asked.entry.lines (names_explained asked.entry.input.now asked.entry.subject)) places.old places.new }
 {
-    let table = lines_at(alloc, places, lines)?;
+    let table = lines_at(alloc, places, asked.lines)?;
     let bytes = table.as_str().as_bytes();
-    explained_subject(alloc, places, out, watch, input, subject, bytes, order)
+    explained_subject(
+        alloc,
+        places,
+        out,
+        watch,
+        asked.input,
+        asked.subject,
+        bytes,
+        asked.order,
+    )
 }

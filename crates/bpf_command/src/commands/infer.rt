@@ -13,8 +13,9 @@ use crate::advice::{Sought, after_image, after_search};
 use crate::aside::Aside;
 use bpf_answers::{Failure, REFUSED, program_at, put, refuse_image, say};
 use bpf_infer::{InferError, Wanted, propose};
-use bpf_insn::{MAX_CONTEXT, Order};
+use bpf_insn::MAX_CONTEXT;
 use bpf_places::Places;
+use bpf_request::Inferring;
 use std::alloc::{AllocError, Global};
 use std::io::Write;
 
@@ -56,22 +57,25 @@ pub fn inferred<'a, P: Places, W: Write, H: Aside>(
     places: &mut P,
     out: &mut W,
     aside: &mut H,
-    input: &'a str,
-    least: u32,
-    most: u32,
-    deep: bool,
-    output: &'a str,
-    order: Order,
+    asked: Inferring<'a>,
 ) -> Result<u8, Failure<'a>>
-    ensures ok { IfOk result (Answered (InferSays P.opens (making P.creates P.ends P.Writer.contents) order places.old input.entry.now least most
-        output.entry.now places.new) (W.contents out.old) (W.contents out.new)) }
-    ensures err { IfErr result (InferFails P.opens (making P.creates P.ends P.Writer.contents) order places.old input.entry.now least most
-        output.entry.now places.new) }
-    ensures begun { IfErr result (λ _. Unfinished (InferSays P.opens (making P.creates P.ends P.Writer.contents) order places.old input.entry.now
-        least most output.entry.now places.new) (W.contents out.old) (W.contents out.new)) }
-    ensures names { IfErr result (λ _. NotInferred P.opens (making P.creates P.ends P.Writer.contents) order places.old input.entry.now least most
-        output.entry.now places.new) }
+    ensures ok { IfOk result (Answered (InferSays P.opens (making P.creates P.ends P.Writer.contents) asked.entry.order places.old
+        asked.entry.input.now asked.entry.least asked.entry.most asked.entry.output.now places.new) (W.contents out.old) (W.contents out.new)) }
+    ensures err { IfErr result (InferFails P.opens (making P.creates P.ends P.Writer.contents) asked.entry.order places.old
+        asked.entry.input.now asked.entry.least asked.entry.most asked.entry.output.now places.new) }
+    ensures begun { IfErr result (λ _. Unfinished (InferSays P.opens (making P.creates P.ends P.Writer.contents) asked.entry.order places.old
+        asked.entry.input.now asked.entry.least asked.entry.most asked.entry.output.now places.new) (W.contents out.old) (W.contents out.new)) }
+    ensures names { IfErr result (λ _. NotInferred P.opens (making P.creates P.ends P.Writer.contents) asked.entry.order places.old
+        asked.entry.input.now asked.entry.least asked.entry.most asked.entry.output.now places.new) }
 {
+    let Inferring {
+        input,
+        least,
+        most,
+        deep,
+        output,
+        order,
+    } = asked;
     let program = match program_at(alloc, places, input, order)? {
         Ok(program) => program,
         Err(error) => {
