@@ -198,13 +198,19 @@ PrintsReply (Ok (Each status)) before after (Ok other) = (other ≡ status) × K
 PrintsReply (Ok (Each status)) before after (Err failure) = ⊥
 PrintsReply (Err e) before after result = Prints (Err e) before after result
 
--- one answer was found and printed, or those to contexts in lines were
+-- something was given back of which this holds, and printed
 abbrev pub Replied : (Option (List ℕ) → Option (List ℕ) → Reply → Type 0) → Option (List ℕ) → Option (List ℕ) → ℕ → Type 0
-Replied says before after status = ((answer : Answer) × says before before (One answer) × Says answer status before after) ⊎ says before after (Each status)
+Replied says before after status = (reply : Reply) × (between : Option (List ℕ)) × says before between reply × PrintsReply (Ok reply) between after (Ok status)
 
--- a beginning of the one answer was printed; or something failed before, which leaves this
+-- printing it failed, or something else did, which leaves this
 abbrev pub LeavesReply : (Option (List ℕ) → Option (List ℕ) → Reply → Type 0) → (Option (List ℕ) → Option (List ℕ) → Type 0) → Option (List ℕ) → Option (List ℕ) → Type 0
-LeavesReply says leaves before after = ((answer : Answer) × says before before (One answer) × AppendsBeginning before after (text_of answer)) ⊎ leaves before after
+LeavesReply says leaves before after =
+    ((reply : Reply) × (between : Option (List ℕ)) × (failure : Failure) × says before between reply × PrintsReply (Ok reply) between after (Err failure))
+    ⊎ ((between : Option (List ℕ)) × leaves before between × Keeps between after)
+
+-- what failed before anything was given back, or standard output
+abbrev pub MissesReply : (Option (List ℕ) → Option (List ℕ) → Failure → Type 0) → Option (List ℕ) → Option (List ℕ) → Failure → Type 0
+MissesReply fails before after failure = OutputFails failure ⊎ ((between : Option (List ℕ)) × fails before between failure × Keeps between after)
 
 -- The answer to a request, which was printed with its status; what stood at the names that were read, and what was put at OUT.
 abbrev pub Does : {S : Type 0} → Opening S → Making S → Pairing S → S → S → Option (List ℕ) → Option (List ℕ) → Request → ℕ → Type 0
@@ -227,9 +233,9 @@ abbrev pub Misses : {S : Type 0} → Opening S → Making S → Pairing S → S 
 Misses o m b old new before after (Groups g) = ImageFails o old g.input.now new
 Misses o m b old new before after (Asm a) = AsmFails o m a.order old a.input.now a.output.now new
 Misses o m b old new before after (ListOf l) = ImageFails o old l.input.now new
-Misses o m b old new before after (Run r) = RunFails o old r r.contexts new before after
+Misses o m b old new before after (Run r) = MissesReply (RunFails o old r r.contexts new) before after
 Misses o m b old new before after (Check c) = LoadedFails o c.order old c.input.now c.certificate.now new
-Misses o m b old new before after (RunChecked r) = CheckedFails o old r r.contexts new before after
+Misses o m b old new before after (RunChecked r) = MissesReply (CheckedFails o old r r.contexts new) before after
 Misses o m b old new before after (Infer i) = InferFails o m i.order old i.input.now i.least i.most i.output.now new
 Misses o m b old new before after (Explain e) = ExplainWithFails o e.order old e.input.now e.subject e.lines new
 Misses o m b old new before after (Harden h) = HardenFails o m old h new
