@@ -28,7 +28,7 @@ use bpf_explain_harden::{Hardening, explain_hardening};
 use bpf_infer::{Wanted, Watch};
 use bpf_insn::{Code, DecodeError, MAX_CONTEXT, Order, Program, ProgramView, decode};
 use bpf_places::{Keeping, Places};
-use bpf_request::{Aspect, Subject, USUAL_TURNS};
+use bpf_request::{Aspect, Explaining, Subject, USUAL_TURNS};
 use bpf_text::{TextError, assemble};
 use std::alloc::Global;
 use std::io::{self, Write};
