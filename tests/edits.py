@@ -26,7 +26,7 @@ FOLDER = "wrong"
 # `rt ci` tries the edits of these crates itself, in must-fail/, and proves each of the crates a second time for them.
 BY_THE_KIT = {"bpf_lines", "bpf_flat", "bpf_request", "bpf_host_runs", "bpf_command_core", "bpf_command"}
 # The wrong bodies of these crates are tried by hand, by the crate's name: the gate would take too long with them.
-BY_NAME = {"bpf_c", "bpf_command_c", "bpf_pcap", "bpf_replay", "bpf_answers", "bpf_explain", "bpf_command_core", "bpf_command", "bpf_host_runs", "bpf_host_convert", "bpf_host_advice", "bpf_host"}
+BY_NAME = {"bpf_c", "bpf_command_c", "bpf_answers", "bpf_explain", "bpf_command_core", "bpf_command", "bpf_host_runs", "bpf_host_convert", "bpf_host_advice", "bpf_host"}
 
 # The mistakes that a toolchain like this is known for, each with the wrong bodies that make it.
 KNOWN = {
