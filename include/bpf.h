@@ -110,8 +110,13 @@ struct bpf_certified {
 enum bpf_form {
     BPF_BLOCKS = 0, /* a packet's length in eight bytes, in the image's order, the packet, as much of it as fits, and anything */
     BPF_PLAIN = 1,  /* the packet alone */
-    BPF_SECCOMP = 2 /* `struct seccomp_data`, 64 bytes, with its words in the image's order; the filter is one of seccomp */
+    BPF_SECCOMP = 2, /* `struct seccomp_data`, 64 bytes, with its words in the image's order; the filter is one of seccomp */
+    BPF_EXTENDED = 3 /* as BPF_BLOCKS, with sixteen words of Linux's auxiliary data (SKF_AD_OFF), in the image's order, behind the length */
 };
+
+/* With a form, as BPF_BLOCKS | BPF_TURNS(300): a run of the filter may jump back so many times, from 1 to 65,535, before the image answers 0. Without it an
+ * eighth of the most bytes of a packet that can be there, and one more. A filter without a loop becomes the same image. */
+#define BPF_TURNS(n) ((uint32_t)(n) << 16)
 
 /* What was converted. */
 struct bpf_converted {
@@ -452,7 +457,7 @@ static inline size_t bpf_convert_size(size_t count) {
  * the packet are accepted, 0 for none, and of seccomp what is to be done with the call. BPF_TOO_SMALL: *converted says what there is, and `made` or
  * `text`, which may be null with the length 0, has less room. BPF_IMAGE_MOST bytes do for the one, and bpf_convert_size(count) for the other. BPF_NO:
  * *refusal says why, by B, and at which instruction. BPF_NO_MEMORY. BPF_BAD_CALL: an order or a form that isn't one, or a size that no context of the
- * form has: above 4,096, of blocks below 8, of seccomp other than 64. BPF_BAD_MEMORY: no instructions where there is a count, `made` or `text` that
+ * form has: above 4,096, of blocks below 8, with extensions below 72, of seccomp other than 64. BPF_BAD_MEMORY: no instructions where there is a count, `made` or `text` that
  * lies in them or in the other one, or an answer that lies in one of the three. No search is made: the time is in proportion to the filter. */
 static inline int32_t bpf_convert(const void *filter, size_t count, uint32_t form, uint32_t size, uint32_t order, void *made, size_t made_len,
                                   char *text, size_t text_len, struct bpf_converted *converted, struct bpf_refusal *refusal) {

@@ -60,7 +60,7 @@ def refused():
     """What isn't converted is told, with the instruction; so is what is no filter and no capture."""
     frames = FOLDER / 'little.pcap'
     for words, text, status, said in [
-            ([frames], '1\n5 0 0 7\n', 1, 'refused by B5 at instruction 0: it leads past the last instruction, or back'),
+            ([frames], '1\n5 0 0 7\n', 1, 'refused by B5 at instruction 0: it leads past the last instruction, or back past the first'),
             ([frames], '0\n', 1, 'refused by B1 at instruction 0: a filter has from 1 to 4,096 instructions'),
             ([frames], '2\n6 0 0 1\n', 1, "an instruction of the filter isn't four numbers"),
             ([frames], 'ip\n', 1, "the filter doesn't begin with how many instructions it has"),

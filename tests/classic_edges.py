@@ -3,7 +3,9 @@
 
 - loads at the last byte of a packet and behind it, at and about 2^15, 2^31 and 2^32, by a constant and by X;
 - lengths of a packet beyond its block, and beyond 32 bits;
+- each word of Linux's auxiliary data, and offsets that have none;
 - jumps over the whole of 4,096 instructions, each of the longest template; one instruction more;
+- loops that end just before their turns are spent, with the last and just behind it; a jump back over 4,096 instructions;
 - a filter on a packet that is cut at every length, and on contexts of every length;
 - each spelling of a filter, cut at every length.
 
@@ -17,7 +19,7 @@ import sys
 import tempfile
 from concurrent.futures import ThreadPoolExecutor
 
-from classic import WORD, converted, fault, rows_of, structs_of, text_of, wanted_of
+from classic import DATA, OFFSETS, WORD, converted, fault, rows_of, structs_of, text_of, wanted_of
 
 RET_A, TXA, TAX = (0x16, 0, 0, 0), (0x87, 0, 0, 0), (0x07, 0, 0, 0)
 SIZES = 0x00, 0x08, 0x10
@@ -81,6 +83,20 @@ def of_lengths():
         yield 'blocks', 72, filter, packets
 
 
+def of_words():
+    """Each word of Linux's auxiliary data by a load of each size, and what has none, in blocks with and without room for a packet."""
+    packets = [bytes(range(101, 165)) + PACKET[:size] for size in (0, 1, 60, 64, 200)]
+    for at in range(68):
+        for size in SIZES:
+            yield 'extended', 136, [(0x20 | size, 0, 0, DATA + at), RET_A], packets
+    for at in (0, 60, 63, 64, *about(OFFSETS), OFFSETS + 12, 0xfff00000, DATA - 1, WORD):
+        for code in (0x20, 0x28, 0x30, 0x40, 0x48, 0x50, 0xb1):
+            yield 'extended', 136, [(code, 0, 0, at), TXA if code == 0xb1 else (0x04, 0, 0, 1), RET_A], packets
+    for length in range(72, 140, 3):
+        yield 'extended', length, [(0x30, 0, 0, DATA + 48), (0x15, 1, 0, 149), (0x06, 0, 0, 0), (0x80, 0, 0, 0), TAX, (0x50, 0, 0, WORD & 0), RET_A], packets
+        yield 'extended', length, [(0x28, 0, 0, 58), TAX, (0x20, 0, 0, DATA + 20), (0x0c, 0, 0, 0), RET_A], packets
+
+
 def of_jumps():
     """4,096 instructions, over which jumps lead from the first to the last."""
     packets = [bytes([it]) + PACKET for it in (0, 7, 8)]
@@ -94,6 +110,18 @@ def of_jumps():
     yield 'blocks', 72, chain, packets
     yield 'blocks', 72, [(0x05, 0, 0, 4095), *[load] * 4094, RET_A], packets
     yield 'plain', 0, [(0x05, 0, 0, 4094), *[load] * 4094, (0x06, 0, 0, 5)], [b'']
+
+
+def of_loops():
+    """Loops whose runs jump back once less than they may, as often, and once more; a jump back over the whole of 4,096 instructions."""
+    for form, length, head in (('blocks', 72, 8), ('plain', 64, 0), ('extended', 136, 72)):
+        packets = [bytes(64) * (form == 'extended') + PACKET[:64]]
+        for times in about((length - head) // 8 + 1):
+            yield form, length, [(0x04, 0, 0, 1), (0x35, 1, 0, times + 1), (0x05, 0, 0, (1 << 32) - 3), RET_A], packets
+            yield form, length, [(0x05, 0, 0, 0), (0x04, 0, 0, 1), (0x15, 0, 1, times + 1), RET_A, (0x05, 0, 0, (1 << 32) - 5)], packets
+        yield form, length, [(0x05, 0, 0, WORD)], packets
+    yield 'blocks', 72, [(0x05, 0, 0, (1 << 32) - 2), RET_A], [PACKET]
+    yield 'blocks', 72, [(0x04, 0, 0, 1), (0x35, 0, 1, 3), RET_A, *[(0x48, 0, 0, 2)] * 4092, (0x05, 0, 0, (1 << 32) - 4096)], [PACKET, PACKET[:3], b'']
 
 
 def of_cuts():
@@ -140,7 +168,7 @@ def judged(found, place):
     """The line of a refusal; what stands in front of the bound where there is none."""
     if isinstance(found, int):
         return f'no B8 at {place} {found}'
-    wrong = fault(found, False)
+    wrong = fault(found, 'blocks')
     return 'no B1 at instruction 0' if not found else 'no B%d at instruction %d' % wrong if wrong else 'yes length 72 bound'
 
 
@@ -169,7 +197,7 @@ def misread(bpf, case):
 
 def main():
     bpf = os.path.abspath(sys.argv[1])
-    parts = {'offsets': of_offsets(), 'lengths': of_lengths(), 'jumps': of_jumps(), 'cuts': of_cuts()}
+    parts = {'offsets': of_offsets(), 'lengths': of_lengths(), 'words': of_words(), 'jumps': of_jumps(), 'loops': of_loops(), 'cuts': of_cuts()}
     bad = False
     with ThreadPoolExecutor(os.cpu_count()) as pool:
         for name, cases in parts.items():

@@ -1,6 +1,6 @@
 /* expressions: libpcap's side of tests/expressions.py. A line of standard input is `compile LINK EXPRESSION`, which is answered by the text of
  * `tcpdump -ddd` with `/` for the ends of lines, or `no`; or `filter TEXT ROOM HEX..`, which is answered by what bpf_filter() says of each packet
- * of which ROOM bytes are there (`none` is an empty one). */
+ * of which ROOM bytes are there (`none` is an empty one); or `show TEXT`, which is answered by the lines of `tcpdump -d`, each with `/` behind it. */
 #include <pcap/pcap.h>
 #include <stdio.h>
 #include <stdlib.h>
@@ -28,10 +28,11 @@ static void compile(void)
         pcap_close(dead);
 }
 
-static void filter(void)
+/* Reads the instructions of a text, and says how many there are. */
+static size_t read_code(char *text)
 {
-    char *text = strtok(NULL, " "), *end;
-    size_t room = strtoul(strtok(NULL, " "), NULL, 10), count = strtoul(text, &end, 10);
+    char *end;
+    size_t count = strtoul(text, &end, 10);
 
     for (size_t at = 0; at < count; at++) {
         code[at].code = strtoul(end + 1, &end, 10);
@@ -39,6 +40,24 @@ static void filter(void)
         code[at].jf = strtoul(end + 1, &end, 10);
         code[at].k = strtoul(end + 1, &end, 10);
     }
+    return count;
+}
+
+static void show(void)
+{
+    size_t count = read_code(strtok(NULL, " \n"));
+
+    for (size_t at = 0; at < count; at++)
+        printf("%s/", bpf_image(&code[at], (int)at));
+    puts("");
+}
+
+static void filter(void)
+{
+    char *text = strtok(NULL, " ");
+    size_t room = strtoul(strtok(NULL, " "), NULL, 10);
+
+    read_code(text);
     for (char *hex = strtok(NULL, " \n"); hex != NULL; hex = strtok(NULL, " \n")) {
         size_t size = strcmp(hex, "none") == 0 ? 0 : strlen(hex) / 2;
         for (size_t at = 0; at < size; at++) {
@@ -58,6 +77,8 @@ int main(void)
         char *word = strtok(line, " ");
         if (word != NULL && strcmp(word, "compile") == 0)
             compile();
+        else if (word != NULL && strcmp(word, "show") == 0)
+            show();
         else if (word != NULL)
             filter();
         fflush(stdout);

@@ -2,7 +2,7 @@
 """Filters of libpcap's expressions, converted: expressions.py BPF
 
 Where libpcap is there: what tcpdump, or libpcap itself, compiles the examples of pcap-filter(7) to, and others of each kind that it names,
-answers what libpcap's own bpf_filter() does, on frames of each protocol, cut and altered.
+answers what libpcap's own bpf_filter() does, on frames of each protocol, cut and altered. The instructions in its listing are the lines of `tcpdump -d`.
 """
 import os
 import pathlib
@@ -12,7 +12,7 @@ import subprocess
 import sys
 import tempfile
 
-from classic import converted
+from classic import converted, listed
 
 HERE = pathlib.Path(__file__).resolve().parent
 
@@ -148,9 +148,14 @@ def examples(bpf, room):
         tried += 1
         filter = [tuple(map(int, line.split())) for line in text.splitlines()[1:]]
         packets = list(packets_for(rng))
+        wanted = asked(f'show {spelled_of(text)}').split('/')[:-1]
+        if tcpdump and subprocess.run([tcpdump, '-d', '-y', 'EN10MB', expression], capture_output=True, text=True).stdout.splitlines() != wanted:
+            failed.append(f"{expression}: libpcap shows it otherwise than tcpdump -d")
+        said = listed(bpf, 'blocks', filter, 1522)
+        if said != (wanted, True):
+            failed.append(f'{expression}, listed: want {str(wanted)[:200]}, got {str(said)[:200]}')
         for length in (64, 256, 1522):
-            spelled = text.strip().replace('\n', '/')
-            wanted = [int(it) for it in asked_filter(asked, spelled, length - 8, packets)]
+            wanted = [int(it) for it in asked_filter(asked, text, length - 8, packets)]
             said = converted(bpf, 'blocks', filter, length, packets)
             runs += len(packets)
             if said != wanted:
@@ -164,10 +169,14 @@ def examples(bpf, room):
     return not failed and tried > 0
 
 
-def asked_filter(asked, spelled, room, packets):
+def spelled_of(text):
+    """A filter as one word: the numbers of an instruction are apart by commas, for the line is cut at blanks."""
+    return text.strip().replace('\n', '/').replace(' ', ',')
+
+
+def asked_filter(asked, text, room, packets):
     words = ' '.join(it.hex() or 'none' for it in packets)
-    # The words of an instruction are apart by commas, for the line is cut at blanks.
-    return asked(f'filter {spelled.replace(" ", ",")} {room} {words}').split()
+    return asked(f'filter {spelled_of(text)} {room} {words}').split()
 
 
 def main():

@@ -409,7 +409,7 @@ static int table(void) {
 
 static int texts(void) {
     char text[128];
-    for (const char *kind = "BCEFHIKMN"; *kind; kind++)
+    for (const char *kind = "ABCEFHIKMN"; *kind; kind++)
         for (uint32_t n = 1; bpf_refusal_text((uint32_t)*kind, n, text, sizeof text); n++) printf("%c%u %s\n", *kind, n, text);
     return 0;
 }
@@ -717,13 +717,15 @@ static void bad_conversions(void) {
     WANTS(bpf_convert(IP, BPF_BLOCKS, 32, BPF_LITTLE, ROOM, &told, (void *)made), BPF_BAD_MEMORY);
     WANTS(bpf_convert(IP, BPF_BLOCKS, 32, BPF_LITTLE, ROOM, &told, (void *)(text + 4088)), BPF_BAD_MEMORY);
     WANTS(bpf_convert(IP, BPF_BLOCKS, 32, 2, ROOM, TOLD), BPF_BAD_CALL);
-    WANTS(bpf_convert(IP, 3, 32, BPF_LITTLE, ROOM, TOLD), BPF_BAD_CALL);
+    WANTS(bpf_convert(IP, 4, 96, BPF_LITTLE, ROOM, TOLD), BPF_BAD_CALL);
     WANTS(bpf_convert(IP, UINT32_MAX, 64, BPF_LITTLE, ROOM, TOLD), BPF_BAD_CALL);
     WANTS(bpf_convert(IP, BPF_BLOCKS, 7, BPF_LITTLE, ROOM, TOLD), BPF_BAD_CALL);
     WANTS(bpf_convert(IP, BPF_BLOCKS, 4097, BPF_LITTLE, ROOM, TOLD), BPF_BAD_CALL);
     WANTS(bpf_convert(IP, BPF_PLAIN, 4097, BPF_LITTLE, ROOM, TOLD), BPF_BAD_CALL);
     WANTS(bpf_convert(IP, BPF_SECCOMP, 63, BPF_LITTLE, ROOM, TOLD), BPF_BAD_CALL);
     WANTS(bpf_convert(IP, BPF_SECCOMP, 65, BPF_LITTLE, ROOM, TOLD), BPF_BAD_CALL);
+    WANTS(bpf_convert(IP, BPF_EXTENDED, 71, BPF_LITTLE, ROOM, TOLD), BPF_BAD_CALL);
+    WANTS(bpf_convert(IP, BPF_EXTENDED, 4097, BPF_LITTLE, ROOM, TOLD), BPF_BAD_CALL);
     /* The library's own call, by an order of the instructions that is none, and by bytes that end inside of one. */
     WANTS(bpf_host_convert((const uint8_t *)ip, 32, 2, BPF_BLOCKS, 32, BPF_LITTLE, made, 512, (uint8_t *)text, 4096, TOLD), BPF_BAD_CALL);
     WANTS(told.bound == 7 && why.kind == 7, 1);
@@ -838,7 +840,7 @@ static void bad_answers(void) {
 }
 
 static void bad_texts(void) {
-    static const struct { char kind; uint32_t count; } kinds[] = {{'B', 10}, {'C', 13}, {'E', 10}, {'F', 9}, {'H', 15}, {'I', 5}, {'K', 5}, {'M', 7}, {'N', 2}};
+    static const struct { char kind; uint32_t count; } kinds[] = {{'A', 7}, {'B', 10}, {'C', 13}, {'E', 10}, {'F', 9}, {'H', 15}, {'I', 5}, {'K', 5}, {'M', 7}, {'N', 2}};
     char text[128] = "as it was";
     for (size_t i = 0; i < sizeof kinds / sizeof *kinds; i++) {
         WANTS(bpf_refusal_text((uint32_t)kinds[i].kind, 0, text, sizeof text), 0);

@@ -9,6 +9,7 @@ import sys
 
 import classic
 import filters as made_for
+import refusals
 import rows
 
 BPF, EXAMPLES, FOLDER = sys.argv[1], pathlib.Path(sys.argv[2]), pathlib.Path(sys.argv[3])
@@ -237,16 +238,17 @@ def fill_convert(table):
     rng = random.Random(1)
     for seed in range(600):
         form = rng.choice([*classic.FORMS])
-        size = 64 if form == 'seccomp' else rng.choice([8, 9, 40, 200, 1522, 4096]) if form == 'blocks' else rng.choice([0, 1, 34, 64, 4096])
-        table.convert(rng.choice(['little', 'big']), classic.random_filter(rng, form == 'seccomp'), form, size)
+        size = rng.choice({'blocks': [8, 9, 40, 200, 1522, 4096], 'plain': [0, 1, 34, 64, 4096], 'seccomp': [64], 'extended': [72, 73, 200, 1586, 4096]}[form])
+        table.convert(rng.choice(['little', 'big']), classic.random_filter(rng, form), form, size)
     for count in [0, 1, 4096, 4097]:
         table.convert('little', [(6, 0, 0, 1)] * count, 'blocks', 128)
     # An index and a cell in each of as many instructions as may be, all of them labelled: the longest certificates that are known.
     steps = [(0x61, 0, 0, 15), (0x48, 0, 0, 14), (0x1D, 1, 0, 0), (0x7C, 0, 0, 0), (0x02, 0, 0, 7)]
     cells = [it for cell in range(16) for it in [(0x60, 0, 0, cell), (0x03, 0, 0, cell)]]
     table.convert('big', cells + (steps * 900)[:4096 - len(cells) - 2] + [(0x16, 0, 0, 0)] * 2, 'blocks', 4096)
-    for filter, form in [([(0x20, 0, 0, 0xfffff000), (6, 0, 0, 1)], 'blocks'), ([(0x28, 0, 0, 0), (6, 0, 0, 1)], 'seccomp'), ([(0x20, 0, 0, 4), (6, 0, 0, 1)], 'seccomp')]:
-        table.convert('little', filter, form, 64)
+    for filter, form in [([(0x20, 0, 0, 0xfffff000), (6, 0, 0, 1)], 'blocks'), ([(0x28, 0, 0, 0), (6, 0, 0, 1)], 'seccomp'), ([(0x20, 0, 0, 4), (6, 0, 0, 1)], 'seccomp'),
+                         ([(0x20, 0, 0, 0xfffff00c), (6, 0, 0, 1)], 'extended'), ([(0x20, 0, 0, 0xfffff02c), (6, 0, 0, 1)], 'extended')]:
+        table.convert('little', filter, form, 72 if form == 'extended' else 64)
 
 
 def fill(table):
@@ -344,36 +346,17 @@ def fill_with_rows(table):
                     table.run(order, found[0], context, found[2])
 
 
-def texts_by_number(crate, file='error.rt'):
-    """The sentences of a crate's refusals, in the order of their numbers, as its sources have them."""
-    found = re.findall(r'^ *([0-9]+) =>\s*(?:\{\s*)?Some\(\s*"([^"]*)"', (EXAMPLES.parent / 'crates' / crate / 'src' / file).read_text(), re.M)
-    assert [int(number) for number, _ in found] == [*range(1, len(found) + 1)], found
-    return [text for _, text in found]
-
-
 def texts(sentences):
-    """What hosts are told of a refusal is what the crates' errors say, I4 and H7 apart from the condition that they name; of a filter it is also what the
-    command says on standard error."""
+    """What hosts are told of a refusal is what the table says, I4 and H7 apart from the condition that they name; of a filter it is also what the command says
+    on standard error."""
     done = subprocess.run([HOSTS, 'texts'], capture_output=True, text=True, timeout=60, check=True)
-    told = {'B': [], 'C': [], 'E': [], 'F': [], 'H': [], 'I': [], 'K': [], 'M': [], 'N': []}
+    told = {}
     for line in done.stdout.splitlines():
         number, _, text = line.partition(' ')
-        told[number[0]].append(text)
+        told.setdefault(number[0], []).append(text)
         assert number[1:] == str(len(told[number[0]])), line
-    want = {
-        'B': texts_by_number('bpf_host_convert', 'texts.rt'),
-        'C': texts_by_number('bpf_state', 'condition.rt'),
-        'E': texts_by_number('bpf_insn', 'refusal.rt'),
-        'F': texts_by_number('bpf_semantics', 'reason.rt'),
-        'H': [*texts_by_number('bpf_harden_notes'), "the hardened program isn't shown to keep the meaning",
-              'a run of the hardened program may take more instructions than are paid for', 'the checker refuses the certificate that was found'],
-        'I': texts_by_number('bpf_infer_error'),
-        'K': texts_by_number('bpf_cert'),
-        'M': told['M'],
-        'N': told['N'],
-    }
+    want = refusals.table()
     assert told == want, (told, want)
-    assert [len(it) for it in told.values()] == [10, 13, 10, 9, 15, 5, 5, 7, 2], told
     for number, said in sentences.items():
         assert all(told['B'][int(number[1:]) - 1] in it for it in said), (number, said)
 

@@ -152,6 +152,8 @@ done
 # A limit stands by name where it is believed, in definitions and clauses: its number stands where the name is defined, and nowhere else.
 limits='4096|512|65535|65536|1048576|1099511627776|2 \^ (20|40)'
 defined='bpf_insn/specs/Limits|bpf_classic/specs/Limits|bpf_cert/specs/Limits|bpf_state/specs/Transfer|bpf_request/specs/CommandLine'
+# How often a filter's run may jump back has 16 bits: its greatest number is no limit of programs.
+counts='jumps_back = number |turns_or \(Some turns\) usual = min turns 65535'
 # The lines of definitions, without comments and strings; the lines of contracts and ghost items, up to the brace that closes them.
 definitions() {
     awk '{ line = $0; gsub(/"[^"]*"/, "", line); sub(/(^|[[:space:]])--([[:space:]].*|$)/, "", line); print FILENAME ":" FNR ": " line }' "$@"
@@ -172,7 +174,7 @@ for crate in "$crates"/*/; do
     bare=$({
         [ -z "$specs" ] || definitions $specs
         [ -z "$sources" ] || clauses $sources
-    } | grep -vE "/($defined)\.antt:[0-9]+: [a-z_]+ = (pos \()?($limits)\)?\$" | grep -E ":[0-9]+:(.*[^[:alnum:]_])?($limits)([^[:alnum:]_]|\$)")
+    } | grep -vE "/($defined)\.antt:[0-9]+: [a-z_]+ = (pos \()?($limits)\)?\$" | grep -vE ": ($counts)" | grep -E ":[0-9]+:(.*[^[:alnum:]_])?($limits)([^[:alnum:]_]|\$)")
     if [ -n "$bare" ]; then
         echo "these clauses and definitions have a limit's number in place of its name:"
         echo "$bare"

@@ -4,7 +4,7 @@
 use bpf_answers::Failure;
 use bpf_command::{Progress, fail, respond};
 use bpf_places::{Cause, Fault, FilePlaces, Noted};
-use std::io::ErrorKind;
+use std::io::{ErrorKind, IsTerminal};
 use std::process::ExitCode;
 use std::rt::Env;
 use std::{env, io};
@@ -25,7 +25,7 @@ fn main(rt: HostRuntime) -> ExitCode {
             &mut FilePlaces::new(&rt, &fault, rt.alloc(), rt.stdin(), rt.stdout()),
             &mut out,
             &mut err,
-            &mut Progress::new(&rt, rt.stderr()),
+            &mut Progress::new(&rt, rt.stderr(), rt.stderr().is_terminal()),
         ),
         Err(error) if error.kind() == ErrorKind::OutOfMemory => fail(
             Failure::NoMemory,

@@ -4,3 +4,4 @@ pub mod TextLemmas
 pub mod MadeLemmas
 pub mod LinesLemmas
 pub mod OpenedLemmas
+pub mod PiecesLemmas

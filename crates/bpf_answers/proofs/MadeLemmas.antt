@@ -1,9 +1,9 @@
 -- What was put at a name, what was printed, and what is left where that fails.
-use Rattle.std.proofs.Common.{◌≡◌, ◌⊎◌, inl, inr, subst, ℕ, List, [], Option, Some, None, Result, Ok, Err, IfOk, IfErr, refl, sym, append-nil}
+use Rattle.std.proofs.Common.{◌≡◌, ◌⊎◌, inl, inr, subst, ℕ, List, [], Option, Some, None, Result, Ok, Err, IfOk, IfErr, refl, sym, append-nil, true, true≢false}
 use Rattle.std.specs.Io.KnownBytes.{Appends, Keeps}
 use Rattle.bpf_insn.specs.Written.{AppendsBeginning}
-use Rattle.bpf_answers.specs.Answer.{Answer, Says, Unfinished, text_of}
-use Rattle.bpf_answers.specs.Answer.Answer.{Written}
+use Rattle.bpf_answers.specs.Answer.{Answer, Says, Unfinished, is_written, text_of}
+use Rattle.bpf_answers.specs.declared.answer.Answer.TheVariants.{Written}
 use Rattle.bpf_answers.specs.declared.failure.Failure.{Failure}
 use Rattle.bpf_answers.specs.declared.failure.Failure.TheVariants.{CannotWrite, NoMemory}
 use Rattle.std.specs.Borrow.{Bor}
@@ -15,12 +15,6 @@ whole old new bytes all = record { begun = bytes; left = []; is_whole = sym (app
 nothing : (known : Option (List ℕ)) → Appends known known []
 nothing None = tt
 nothing (Some xs) = sym (append-nil xs)
-
--- nothing is printed where all was written
-pub put_says : {E : Type 0} (result : Result ℕ E) (known : Option (List ℕ)) (M : Type 0) (Q : Answer → Type 0)
-    → IfOk result (λ status. (status ≡ 0) × M) → (M → Q Written) → IfOk result (λ status. (x : Answer) × Says x status known known × Q x)
-put_says (Ok s) known M Q h f = (Written, record { status_is = h.0; printed = nothing known }, f h.1)
-put_says (Err e) known M Q h f = tt
 
 -- no byte is a beginning of any
 pub none_begun : (known : Option (List ℕ)) (whole : List ℕ) → AppendsBeginning known known whole
@@ -36,23 +30,11 @@ pub keeps : (known : Option (List ℕ)) → Keeps known known
 keeps None = tt
 keeps (Some xs) = refl
 
--- a failure before anything is printed
-pub nothing_printed : {A E : Type 0} (result : Result A E) (known : Option (List ℕ)) (says : Answer → Type 0) → IfErr result (λ _. Unfinished says known known)
-nothing_printed (Ok x) known says = tt
-nothing_printed (Err e) known says = inl (keeps known)
-
 -- a failure while an answer is printed
 pub not_all_printed : {A E : Type 0} (result : Result A E) (before after : Option (List ℕ)) (answer : Answer) (says : Answer → Type 0)
     → IfErr result (λ _. AppendsBeginning before after (text_of answer)) → says answer → IfErr result (λ _. Unfinished says before after)
 not_all_printed (Ok x) before after answer says begun said = tt
 not_all_printed (Err e) before after answer says begun said = inr (answer, begun, said)
-
--- what is said of the answers of one command, said of those of another
-pub unfinished_by : {A E : Type 0} (result : Result A E) (before after : Option (List ℕ)) (says also : Answer → Type 0)
-    → ((answer : Answer) → says answer → also answer) → IfErr result (λ _. Unfinished says before after) → IfErr result (λ _. Unfinished also before after)
-unfinished_by (Ok x) before after says also f h = tt
-unfinished_by (Err e) before after says also f (inl kept) = inl kept
-unfinished_by (Err e) before after says also f (inr h) = inr (h.0, h.1, f h.0 h.2)
 
 -- why content can't be put at a name
 pub put_fails : {A : Type 0} (result : Result A Failure) (name : Bor (List ℕ)) (M : Type 0) (Q : Failure → Type 0)
@@ -66,3 +48,8 @@ pub put_leaves : {A : Type 0} (result : Result A Failure) (name : Bor (List ℕ)
     → IfErr result (λ f. ((f ≡ CannotWrite name) ⊎ (f ≡ NoMemory)) × M) → (M → P) → IfErr result (λ _. P)
 put_leaves (Ok x) name M P fails holds = tt
 put_leaves (Err f) name M P fails holds = holds fails.1
+
+-- where there is nothing to print, nothing was printed
+pub written_says : (answer : Answer) (known : Option (List ℕ)) → is_written answer ≡ true → Says answer 0 known known
+written_says Written known h = record { status_is = refl; printed = nothing known }
+written_says answer known h = absurd (true≢false (sym h))

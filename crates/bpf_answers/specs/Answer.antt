@@ -1,82 +1,35 @@
--- What a command answers on standard output, with its status.
+-- The status of an answer, and its text on standard output.
 use Rattle.std.specs.Prelude.{◌≡◌, ◌⊎◌, ◌++◌, ℕ, List, [], ◌∷◌, Option, Some, None, Bool, true, false, codes, decimal, nat_eq, if◌then◌else◌}
 use Rattle.std.specs.Io.KnownBytes.{Appends, Keeps}
 use Rattle.std.specs.List.{concat, join_with_byte}
 use Rattle.bpf_semantics.specs.ReasonNumbers.{reason_number}
 use Rattle.bpf_insn.specs.Written.{AppendsBeginning}
-use Rattle.bpf_insn.specs.RefusalNumbers.{decode_number, decode_slot, build_number, build_slot}
+use Rattle.bpf_insn.specs.RefusalNumbers.{build_number, build_slot}
 use Rattle.bpf_insn.specs.declared.instruction.Groups.{Groups}
-use Rattle.bpf_insn.specs.declared.instruction.Insn.{Insn}
-use Rattle.bpf_insn.specs.declared.refusal.DecodeError.{DecodeError}
 use Rattle.bpf_state.specs.Work.{Counts}
-use Rattle.bpf_insn.specs.declared.order.Order.{Order}
 use Rattle.bpf_text.specs.Listing.{listing}
 use Rattle.bpf_text.specs.Annotated.{annotated}
-use Rattle.bpf_text.specs.declared.annotated.Notes.{Notes}
 use Rattle.bpf_text.specs.declared.error.TextError.{TextError}
 use Rattle.bpf_text.specs.declared.error.TextError.TheVariants.{Form, Range, DefinedAgain, Undefined, TooFar, Program, Memory as TextMemory}
-use Rattle.bpf_cert.specs.RefusalNumbers.{refusal_number as cert_number, refusal_line as cert_line}
-use Rattle.bpf_cert.specs.declared.error.CertError.{CertError}
-use Rattle.bpf_check.specs.RefusalNumbers.{refusal_number as check_number, refusal_slot as check_slot}
-use Rattle.bpf_check.specs.declared.refusal.Refusal.{Refusal}
 use Rattle.bpf_infer_error.specs.RefusalNumbers.{condition_number}
 use Rattle.bpf_infer_error.specs.declared.error.InferError.{InferError}
 use Rattle.bpf_infer_error.specs.declared.error.InferError.TheVariants.{Unstable, NoBudget, Recursion, Fault as NoState, Memory as InferMemory}
-use Rattle.bpf_harden_notes.specs.RefusalNumbers.{harden_number, harden_slot}
-use Rattle.bpf_harden_notes.specs.declared.error.HardenError.{HardenError}
-use Rattle.bpf_follows.specs.Mismatches.{mismatch_number, mismatch_slot}
-use Rattle.bpf_follows.specs.declared.mismatch.Mismatch.{Mismatch}
 use Rattle.bpf_follows_law.specs.declared.notes.Bounds.{Bounds}
-use Rattle.bpf_follows_notes.specs.Refused.{refusal_number as notes_number, refusal_line as notes_line}
-use Rattle.bpf_follows_notes.specs.declared.error.NotesError.{NotesError}
-use Rattle.bpf_answers.specs.declared.certified.Certification.{Certification}
-use Rattle.bpf_answers.specs.declared.converted.Unconverted.{Unconverted}
-use Rattle.bpf_answers.specs.declared.converted.Unconverted.TheVariants.{InLine, InFilter}
+use Rattle.bpf_refusals.specs.Letters.{code_of}
+use Rattle.bpf_refusals.specs.Told.{at_number, told_at, told_certificate, told_check, told_hardening, told_image, told_mismatch, told_not_shown, told_notes}
+use Rattle.bpf_refusals.specs.declared.letter.Letter.{Letter}
+use Rattle.bpf_refusals.specs.declared.letter.Letter.TheVariants as letters
+use Rattle.bpf_refusals.specs.declared.told.Told.{Told}
+use Rattle.bpf_refusals.specs.declared.told.At.{At}
+use Rattle.bpf_refusals.specs.declared.told.At.TheVariants.{Nowhere, Slot, Line, Instruction}
+use Rattle.bpf_refusals.specs.declared.told.TheConstants.{TOO_DEAR, UNCERTIFIED}
+pub use Rattle.bpf_answers.specs.declared.answer.Answer.{Answer}
+use Rattle.bpf_answers.specs.declared.answer.Answer.TheVariants.{Yes, NoImage, NoText, NoCertificate, NotCertified, NotProposed, NotHardened, NotShown, Certified, TooDear, Uncertified, NotConverted, Follows, NoOld, NoNew, NoNotes, NotFollowed, NoContext, NoCapture, Ends, Ran, Occur, Lists, Annotates, Written, WrittenFor}
 use Rattle.bpf_answers.specs.declared.certified.Rewriting.{Rewriting}
+use Rattle.bpf_pcap.specs.Refused.{refusal_number as capture_number}
+use Rattle.bpf_pcap.specs.declared.error.CaptureRefusal.{CaptureRefusal}
 use Rattle.bpf_machine.specs.declared.outcome.Outcome.{Outcome}
 use Rattle.bpf_machine.specs.declared.outcome.Outcome.TheVariants.{Done as DoneRun, Fault as FaultRun, OutOfFuel}
-
-pub data Answer : Type 0 where
-  -- a certificate certifies the image's program: for contexts of `least` to `most` bytes, within this bound; and the work of
-  -- the check, where it is asked for
-  Yes : (least most bound : ℕ) → (work : Option Counts) → Answer
-  -- what is at a name is no image, no text, no certificate; or the certificate doesn't certify, or none is proposed
-  NoImage : (error : DecodeError) → Answer
-  NoText : (error : TextError) → Answer
-  NoCertificate : (error : CertError) → Answer
-  NotCertified : (refusal : Refusal) → Answer
-  NotProposed : (error : InferError) → Answer
-  -- a program isn't hardened; or it is, and isn't shown to keep its meaning
-  NotHardened : (error : HardenError) → Answer
-  NotShown : (mismatch : Mismatch) → Answer
-  -- an image was written with its certificate; or its bound is too great; or the checker refuses what was found
-  Certified : (told : Certification) → Answer
-  TooDear : Answer
-  Uncertified : Answer
-  -- a filter of classic BPF isn't converted
-  NotConverted : (why : Unconverted) → Answer
-  -- notes show that one image's program keeps the meaning of another's, on these contexts and for these runs
-  Follows : (bounds : Bounds) → Answer
-  -- what is at the name of the old one or of the new one is no image, what is at the notes' name none; or they don't show it
-  NoOld : (error : DecodeError) → Answer
-  NoNew : (error : DecodeError) → Answer
-  NoNotes : (error : NotesError) → Answer
-  NotFollowed : (mismatch : Mismatch) → Answer
-  -- a context of so many bytes, where the certificate speaks of `least` to `most`
-  NoContext : (count least most : ℕ) → Answer
-  -- a checked program ends with this number
-  Ends : (value : ℕ) → Answer
-  -- how a run of any program ends
-  Ran : (outcome : Outcome) → Answer
-  -- the conformance groups, and the instructions, of an image
-  Occur : (groups : Groups) → Answer
-  Lists : (is : List Insn) → Answer
-  -- the same with comments
-  Annotates : (notes : Notes) → (order : Order) → (is : List Insn) → Answer
-  -- what was asked for was written at a name
-  Written : Answer
-  -- the same of a hardened image that is shown to keep the meaning of runs that leave so many bytes of each frame to r10, which nobody asked for
-  WrittenFor : (untouched : ℕ) → Answer
 
 -- ---- the status: 0 done, yes or written; 1 a refusal, a fault of the program, out of fuel
 
@@ -97,20 +50,26 @@ status_of (NotShown mismatch) = 1
 status_of (Certified told) = 0
 status_of TooDear = 1
 status_of Uncertified = 1
-status_of (NotConverted why) = 1
+status_of (NotConverted told) = 1
 status_of (Follows bounds) = 0
 status_of (NoOld error) = 1
 status_of (NoNew error) = 1
 status_of (NoNotes error) = 1
 status_of (NotFollowed mismatch) = 1
 status_of (NoContext count least most) = 1
+status_of (NoCapture refusal) = 1
 status_of (Ends value) = 0
 status_of (Ran outcome) = status_of_run outcome
 status_of (Occur groups) = 0
-status_of (Lists is) = 0
-status_of (Annotates notes order is) = 0
+status_of (Lists program) = 0
+status_of (Annotates a) = 0
 status_of Written = 0
 status_of (WrittenFor untouched) = 0
+
+-- there is nothing to print
+abbrev pub is_written : Answer → Bool
+is_written Written = true
+is_written answer = false
 
 -- ---- the text
 
@@ -127,10 +86,31 @@ at_line = codes " at line "
 abbrev pub at_instruction : List ℕ
 at_instruction = codes " at instruction "
 
--- `no B5 at instruction 7`, or `no B8 at line 1`
-abbrev pub unconverted_line : Unconverted → List ℕ
-unconverted_line (InLine number line) = refusal_line (codes "B") number at_line line
-unconverted_line (InFilter number at) = refusal_line (codes "B") number at_instruction at
+-- what a refusal names that names nothing, by its letter: it is the number 0 of that
+abbrev pub at_whole : Letter → List ℕ
+at_whole letters.Text = at_line
+at_whole letters.Classic = at_instruction
+at_whole letters.Check = at_slot
+at_whole letters.Image = at_slot
+at_whole letters.Fault = at_slot
+at_whole letters.Hardening = at_slot
+at_whole letters.Inference = at_slot
+at_whole letters.Certificate = at_line
+at_whole letters.Mismatch = at_slot
+at_whole letters.Notes = at_line
+
+abbrev pub at_words : Letter → At → List ℕ
+at_words letter Nowhere = at_whole letter
+at_words letter (Slot slot) = at_slot
+at_words letter (Line line) = at_line
+at_words letter (Instruction at) = at_instruction
+
+-- `no E4 at slot 0`, `no K4 at line 0`, `no B5 at instruction 7`
+abbrev pub line_at : List ℕ → Told → List ℕ
+line_at place t = refusal_line (code_of t.letter ∷ []) t.number place (at_number t.at)
+
+abbrev pub told_line : Told → List ℕ
+told_line t = line_at (at_words t.letter t.at) t
 
 -- `no E4 of NEW at slot 0`: of two images this one
 abbrev pub at_slot_of_old : List ℕ
@@ -138,17 +118,6 @@ at_slot_of_old = codes " of OLD at slot "
 
 abbrev pub at_slot_of_new : List ℕ
 at_slot_of_new = codes " of NEW at slot "
-
--- the number of the refusal of a hardened program that isn't shown to keep its meaning, behind those of hardening itself
-abbrev pub not_shown : ℕ
-not_shown = 13
-
--- the number of the refusal of a bound that is too great, and of a certificate that the checker refuses
-abbrev pub too_dear : ℕ
-too_dear = 14
-
-abbrev pub uncertified : ℕ
-uncertified = 15
 
 -- `no A3 at line 2`, `no A6 at line 1 (E8 at slot 0)`
 abbrev pub text_refusal_line : TextError → List ℕ
@@ -224,6 +193,11 @@ certified_line length bound (Some r) =
 abbrev pub no_context_line : ℕ → ℕ → ℕ → List ℕ
 no_context_line count least most = concat (codes "no context of " ∷ decimal count ∷ codes " bytes, want " ∷ (range_pieces least most ++ (codes "\n" ∷ [])))
 
+-- `no P4 at packet 3 byte 1060`: the file ends within the record of this packet, which begins at this byte; both are 0 where it has no header
+abbrev pub capture_line : CaptureRefusal → List ℕ
+capture_line r =
+    concat (codes "no P" ∷ decimal (capture_number r.error) ∷ codes " at packet " ∷ decimal r.packet ∷ codes " byte " ∷ decimal r.byte ∷ codes "\n" ∷ [])
+
 -- `transfers 5 comparisons 4`
 abbrev pub work_line : Counts → List ℕ
 work_line work = concat (codes "transfers " ∷ decimal work.transfers ∷ codes " comparisons " ∷ decimal work.comparisons ∷ codes "\n" ∷ [])
@@ -231,28 +205,29 @@ work_line work = concat (codes "transfers " ∷ decimal work.transfers ∷ codes
 abbrev pub text_of : Answer → List ℕ
 text_of (Yes least most bound None) = yes_line least most bound
 text_of (Yes least most bound (Some work)) = yes_line least most bound ++ work_line work
-text_of (NoImage error) = refusal_line (codes "E") (decode_number error) at_slot (decode_slot error)
+text_of (NoImage error) = told_line (told_image error)
 text_of (NoText error) = text_refusal_line error
-text_of (NoCertificate error) = refusal_line (codes "K") (cert_number error) at_line (cert_line error)
-text_of (NotCertified refusal) = refusal_line (codes "C") (check_number refusal) at_slot (check_slot refusal)
+text_of (NoCertificate error) = told_line (told_certificate error)
+text_of (NotCertified refusal) = told_line (told_check refusal)
 text_of (NotProposed error) = infer_refusal_line error
-text_of (NotHardened error) = refusal_line (codes "H") (harden_number error) at_slot (harden_slot error)
-text_of (NotShown mismatch) = refusal_line (codes "H") not_shown at_slot (mismatch_slot mismatch)
+text_of (NotHardened error) = told_line (told_hardening error)
+text_of (NotShown mismatch) = told_line (told_not_shown mismatch)
 text_of (Certified told) = certified_line told.length told.bound told.rewriting
-text_of TooDear = refusal_line (codes "H") too_dear at_slot 0
-text_of Uncertified = refusal_line (codes "H") uncertified at_slot 0
-text_of (NotConverted why) = unconverted_line why
+text_of TooDear = told_line (told_at letters.Hardening TOO_DEAR Nowhere)
+text_of Uncertified = told_line (told_at letters.Hardening UNCERTIFIED Nowhere)
+text_of (NotConverted told) = told_line told
 text_of (Follows bounds) = follows_line bounds
-text_of (NoOld error) = refusal_line (codes "E") (decode_number error) at_slot_of_old (decode_slot error)
-text_of (NoNew error) = refusal_line (codes "E") (decode_number error) at_slot_of_new (decode_slot error)
-text_of (NoNotes error) = refusal_line (codes "N") (notes_number error) at_line (notes_line error)
-text_of (NotFollowed mismatch) = refusal_line (codes "M") (mismatch_number mismatch) at_slot (mismatch_slot mismatch)
+text_of (NoOld error) = line_at at_slot_of_old (told_image error)
+text_of (NoNew error) = line_at at_slot_of_new (told_image error)
+text_of (NoNotes error) = told_line (told_notes error)
+text_of (NotFollowed mismatch) = told_line (told_mismatch mismatch)
 text_of (NoContext count least most) = no_context_line count least most
+text_of (NoCapture refusal) = capture_line refusal
 text_of (Ends value) = concat (codes "done " ∷ decimal value ∷ codes "\n" ∷ [])
 text_of (Ran outcome) = run_line outcome
 text_of (Occur groups) = groups_line groups
-text_of (Lists is) = listing is
-text_of (Annotates notes order is) = annotated notes order is
+text_of (Lists program) = listing program.list
+text_of (Annotates a) = annotated a.notes a.program.order a.program.list
 text_of Written = []
 text_of (WrittenFor untouched) = concat (codes "untouched " ∷ decimal untouched ∷ codes "\n" ∷ [])
 

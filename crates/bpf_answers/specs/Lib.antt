@@ -1,3 +1,5 @@
+pub mod Commented
+pub mod Pieces
 pub mod Context
 pub mod Told
 pub mod Loaded

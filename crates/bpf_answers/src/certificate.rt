@@ -1,19 +1,13 @@
-//! Certificates at a name, and why they and programs are refused.
+//! Certificates at a name.
 
-ghost use Rattle.std.specs.Prelude.{◌≡◌, IfOk, IfErr, MatchResult};
-ghost use Rattle.bpf_insn.specs.Written.{AppendsBeginning};
-ghost use Rattle.bpf_answers.specs.Answer.{Says, text_of};
-ghost use Rattle.bpf_answers.specs.Answer.Answer.{NoCertificate, NotCertified};
+ghost use Rattle.std.specs.Prelude.{IfOk, IfErr, MatchResult};
 ghost use Rattle.bpf_answers.specs.Loaded.{CertificateAt, CertificateRefused, CertificateFails, Tried};
-ghost use Rattle.bpf_answers.specs.Told.{IsQuiet, OutputFails};
+ghost use Rattle.bpf_answers.specs.Told.{IsQuiet};
 
 use crate::failure::Failure;
-use crate::refusal::refuse_at;
 use bpf_cert::{CertError, Certificate, read};
-use bpf_check::Refusal;
 use bpf_places::{PlaceError, Places};
 use std::alloc::Global;
-use std::io::Write;
 
 /// The certificate at a name, or why it is refused.
 pub fn certificate_at<'a, P: Places>(
@@ -36,32 +30,4 @@ pub fn certificate_at<'a, P: Places>(
         Err(CertError::Read { .. }) => Err(Failure::CannotRead(name)),
         answer => Ok(answer),
     }
-}
-
-/// Prints why a certificate's text is refused; where that fails, standard output has a beginning of the line.
-pub fn refuse_certificate<'a, W: Write>(
-    alloc: Global,
-    out: &mut W,
-    error: CertError,
-) -> Result<u8, Failure<'a>>
-    ensures ok { IfOk result (λ status. Says (NoCertificate error) status (W.contents out.old) (W.contents out.new)) }
-    ensures err { IfErr result OutputFails }
-    ensures begun { IfErr result (λ _. AppendsBeginning (W.contents out.old) (W.contents out.new) (text_of (NoCertificate error))) }
-{
-    let line = error.line() as u64;
-    refuse_at(alloc, out, "K", error.number(), " at line ", line)
-}
-
-/// Prints why a certificate doesn't certify a program; where that fails, standard output has a beginning of the line.
-pub fn refuse_program<'a, W: Write>(
-    alloc: Global,
-    out: &mut W,
-    refusal: Refusal,
-) -> Result<u8, Failure<'a>>
-    ensures ok { IfOk result (λ status. Says (NotCertified refusal) status (W.contents out.old) (W.contents out.new)) }
-    ensures err { IfErr result OutputFails }
-    ensures begun { IfErr result (λ _. AppendsBeginning (W.contents out.old) (W.contents out.new) (text_of (NotCertified refusal))) }
-{
-    let slot = u64::from(refusal.slot());
-    refuse_at(alloc, out, "C", refusal.number(), " at slot ", slot)
 }

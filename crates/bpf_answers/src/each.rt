@@ -2,17 +2,19 @@
 
 ghost use Rattle.std.specs.Prelude.{◌≡◌, ◌≤◌, IfOk, IfErr, length};
 ghost use Rattle.bpf_insn.specs.Limits.{max_context};
+ghost use Rattle.bpf_answers.specs.Answer.{Answered, Unfinished};
+ghost use Rattle.bpf_answers.specs.Told.{OutputFails};
 ghost use Rattle.bpf_answers.specs.Lines.{AllAnswered, Spelled, Turns, max_line};
 ghost use Rattle.bpf_answers.specs.Loaded.{Tried};
 ghost use Rattle.bpf_answers.specs.Each.{AnswersAt, FailsAt, LeftAt, LinesFail, LinesLeft};
 
+use crate::answer::{Answer, print};
 use crate::context::ContextError;
 use crate::failure::{DONE, Failure};
 use arrayvec::ArrayVec;
 use bpf_insn::MAX_CONTEXT;
 use bpf_lines::{LineReader, Stop};
 use bpf_places::{PlaceError, Places};
-use std::alloc::Global;
 use std::io::{Read, Write};
 
 /// The greatest length of a line, which spells the longest context.
@@ -20,25 +22,16 @@ const MAX_LINE: usize = 2 * MAX_CONTEXT;
 
 /// What answers contexts.
 pub trait Runner {
-    ghost use Rattle.std.specs.Prelude.{◌≤◌, ℕ, List, IfOk, IfErr, length};
-    ghost use Rattle.bpf_answers.specs.Answer.{Answer, Answered, Unfinished};
-    ghost use Rattle.bpf_answers.specs.Told.{OutputFails};
+    ghost use Rattle.std.specs.Prelude.{◌≤◌, ℕ, List, length};
+    ghost use Rattle.bpf_answers.specs.Answer.{Answer};
 
     /// What is answered to a context.
     ghost says: { Self → List ℕ → Answer → Type 0 };
 
-    /// Prints the answer to a context in a line, and gives its status. Where that fails, standard output has at most a beginning
-    /// of the line.
-    fn answer<'a, W: Write>(
-        &self,
-        alloc: Global,
-        out: &mut W,
-        context: &[u8],
-    ) -> Result<u8, Failure<'a>>
+    /// The answer to a context.
+    fn answer(&self, context: &[u8]) -> Answer
         requires { length context.now ≤ max_context }
-        ensures ok { IfOk result (Answered (says self.now context.now) (W.contents out.old) (W.contents out.new)) }
-        ensures err { IfErr result OutputFails }
-        ensures begun { IfErr result (λ _. Unfinished (says self.now context.now) (W.contents out.old) (W.contents out.new)) };
+        ensures { says self.now context.now result };
 }
 
 /// What is found of the next context.
@@ -90,9 +83,22 @@ fn next_context<R: Read + Drop>(
     }
 }
 
+/// Prints the answer to a context, and gives its status. Where that fails, standard output has at most a beginning of it.
+fn answer_context<'a, Q: Runner, W: Write>(
+    out: &mut W,
+    runner: &Q,
+    context: &[u8],
+) -> Result<u8, Failure<'a>>
+    requires { length context.now ≤ max_context }
+    ensures ok { IfOk result (Answered (Q.says runner.now context.now) (W.contents out.old) (W.contents out.new)) }
+    ensures err { IfErr result OutputFails }
+    ensures begun { IfErr result (λ _. Unfinished (Q.says runner.now context.now) (W.contents out.old) (W.contents out.new)) }
+{
+    print(out, &runner.answer(context))
+}
+
 /// Answers each context of the lines, until one is refused.
 fn answer_lines<'a, R: Read + Drop, Q: Runner, W: Write>(
-    alloc: Global,
     lines: &mut LineReader<R>,
     out: &mut W,
     runner: &Q,
@@ -108,7 +114,7 @@ fn answer_lines<'a, R: Read + Drop, Q: Runner, W: Write>(
     'answers: for before in 0..u64::MAX {
         match next_context(lines, &mut line, &mut buffer) {
             Turn::Context(count) => {
-                status = status.max(runner.answer(alloc, out, &buffer[..count])?);
+                status = status.max(answer_context(out, runner, &buffer[..count])?);
             }
             Turn::End => return Ok(status),
             Turn::Refused(error) => {
@@ -125,7 +131,6 @@ fn answer_lines<'a, R: Read + Drop, Q: Runner, W: Write>(
 /// Answers each context of the lines at a name, and gives the greatest of the statuses. A line that is refused ends it, and so
 /// does whatever else fails; what was answered before stands.
 pub fn answered<'a, P: Places, Q: Runner, W: Write>(
-    alloc: Global,
     places: &mut P,
     out: &mut W,
     runner: &Q,
@@ -143,5 +148,5 @@ pub fn answered<'a, P: Places, Q: Runner, W: Write>(
         Err(PlaceError::Memory) => return Err(Failure::NoMemory),
     };
     let mut lines = LineReader::new(reader);
-    answer_lines(alloc, &mut lines, out, runner, name)
+    answer_lines(&mut lines, out, runner, name)
 }

@@ -1,8 +1,8 @@
 //! What ends a command before it has an answer, and the statuses.
 
-ghost use Rattle.std.specs.Prelude.{◌≡◌, ◌++◌, IfErr, OnOk, OnErr, codes};
+ghost use Rattle.std.specs.Prelude.{◌≡◌, ◌++◌, OnOk, OnErr, codes};
 ghost use Rattle.bpf_insn.specs.Written.{AppendsBeginning};
-ghost use Rattle.bpf_answers.specs.Told.{OutputFails, cause_text, failure_line, failure_text, failure_words, is_closed, is_gone, is_of_name, is_of_writing, line_text, reason_of, status_of_context, status_of_failure, told_of};
+ghost use Rattle.bpf_answers.specs.Told.{cause_text, failure_line, failure_text, failure_words, is_closed, is_gone, is_of_name, is_of_writing, line_text, reason_of, status_of_context, status_of_failure, told_of};
 ghost use Rattle.std.specs.Io.KnownBytes.{Appends, Keeps};
 
 use crate::context::ContextError;
@@ -194,18 +194,6 @@ impl<'a> From<AllocError> for Failure<'a> {
 
     fn from(_error: AllocError) -> Self {
         Failure::NoMemory
-    }
-}
-
-/// Writes a line to standard output, which has a beginning of it where that fails.
-pub fn say<'a, W: Write>(out: &mut W, line: &str) -> Result<(), Failure<'a>>
-    ensures ok { OnOk result (Appends (W.contents out.old) (W.contents out.new) line.now) }
-    ensures err { IfErr result OutputFails }
-    ensures begun { IfErr result (λ _. AppendsBeginning (W.contents out.old) (W.contents out.new) line.now) }
-{
-    match write_bytes(out, line.as_bytes()) {
-        Ok(()) => Ok(()),
-        Err(_) => Err(Failure::CannotWrite("standard output")),
     }
 }
 

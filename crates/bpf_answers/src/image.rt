@@ -1,19 +1,14 @@
-//! Images at a name, and why they are refused.
+//! Images at a name.
 
-ghost use Rattle.std.specs.Prelude.{◌≡◌, IfOk, IfErr, MatchResult};
+ghost use Rattle.std.specs.Prelude.{IfOk, IfErr, MatchResult};
 ghost use Rattle.bpf_places.specs.Opened.{ReadsAt};
 ghost use Rattle.bpf_answers.specs.Loaded.{NoSpaceFor, ImageRefused, LoadsImage, ImageFails, Tried};
-ghost use Rattle.bpf_insn.specs.Written.{AppendsBeginning};
-ghost use Rattle.bpf_answers.specs.Answer.{Says, text_of};
-ghost use Rattle.bpf_answers.specs.Answer.Answer.{NoImage, NoNew, NoOld};
-ghost use Rattle.bpf_answers.specs.Told.{IsQuiet, OutputFails};
+ghost use Rattle.bpf_answers.specs.Told.{IsQuiet};
 
 use crate::failure::Failure;
-use crate::refusal::refuse_at;
 use bpf_insn::{DecodeError, Order, Program, decode, read_image};
 use bpf_places::{PlaceError, Places};
 use std::alloc::Global;
-use std::io::Write;
 
 /// The bytes of the image at a name, as far as they are read, or E9. It can't be read where it can't be opened or its reader
 /// fails.
@@ -57,46 +52,4 @@ pub fn program_at<'a, P: Places>(
         Ok(bytes) => Ok(decode(alloc, &bytes, order)),
         Err(error) => Ok(Err(error)),
     }
-}
-
-/// Prints why an image is refused; where that fails, standard output has a beginning of the line.
-pub fn refuse_image<'a, W: Write>(
-    alloc: Global,
-    out: &mut W,
-    error: DecodeError,
-) -> Result<u8, Failure<'a>>
-    ensures ok { IfOk result (λ status. Says (NoImage error) status (W.contents out.old) (W.contents out.new)) }
-    ensures err { IfErr result OutputFails }
-    ensures begun { IfErr result (λ _. AppendsBeginning (W.contents out.old) (W.contents out.new) (text_of (NoImage error))) }
-{
-    let slot = u64::from(error.slot());
-    refuse_at(alloc, out, "E", error.number(), " at slot ", slot)
-}
-
-/// Prints why of two images the old one is refused; where that fails, standard output has a beginning of the line.
-pub fn refuse_old<'a, W: Write>(
-    alloc: Global,
-    out: &mut W,
-    error: DecodeError,
-) -> Result<u8, Failure<'a>>
-    ensures ok { IfOk result (λ status. Says (NoOld error) status (W.contents out.old) (W.contents out.new)) }
-    ensures err { IfErr result OutputFails }
-    ensures begun { IfErr result (λ _. AppendsBeginning (W.contents out.old) (W.contents out.new) (text_of (NoOld error))) }
-{
-    let slot = u64::from(error.slot());
-    refuse_at(alloc, out, "E", error.number(), " of OLD at slot ", slot)
-}
-
-/// Prints why of two images the new one is refused; where that fails, standard output has a beginning of the line.
-pub fn refuse_new<'a, W: Write>(
-    alloc: Global,
-    out: &mut W,
-    error: DecodeError,
-) -> Result<u8, Failure<'a>>
-    ensures ok { IfOk result (λ status. Says (NoNew error) status (W.contents out.old) (W.contents out.new)) }
-    ensures err { IfErr result OutputFails }
-    ensures begun { IfErr result (λ _. AppendsBeginning (W.contents out.old) (W.contents out.new) (text_of (NoNew error))) }
-{
-    let slot = u64::from(error.slot());
-    refuse_at(alloc, out, "E", error.number(), " of NEW at slot ", slot)
 }

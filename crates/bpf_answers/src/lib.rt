@@ -2,32 +2,39 @@
 //! refusal in its line, and what is told of failures.
 #![tactic(auto)]
 
+mod annotated;
+mod answer;
 mod both;
 mod bytes;
 mod certificate;
 mod certified;
 mod context;
-mod converted;
+mod counted;
 mod each;
 mod failure;
 mod image;
+mod lines;
 mod notes;
 mod output;
+mod pieces;
 mod refusal;
+mod reply;
 mod text;
 mod whole;
 
+pub use annotated::Annotated;
+pub use answer::{Answer, print};
 pub use both::put_both;
 pub use bytes::{BytesError, bytes_at};
-pub use certificate::{certificate_at, refuse_certificate, refuse_program};
-pub use certified::{Certification, Rewriting, refuse_dear, refuse_uncertified, say_certified};
+pub use certificate::certificate_at;
+pub use certified::{Certification, Rewriting};
 pub use context::{ContextError, context_of};
-pub use converted::{Unconverted, refuse_conversion};
+pub use counted::Counted;
 pub use each::{Runner, answered};
-pub use failure::{BAD_WORDS, CLOSED, DONE, FAILED, Failure, REFUSED, say, tell};
-pub use image::{image_at, program_at, refuse_image, refuse_new, refuse_old};
-pub use notes::{notes_at, refuse_match, refuse_notes, say_followed};
+pub use failure::{BAD_WORDS, CLOSED, DONE, FAILED, Failure, REFUSED, tell};
+pub use image::{image_at, program_at};
+pub use notes::notes_at;
 pub use output::{Content, put};
-pub use refusal::refuse_at;
-pub use text::{readable_text_at, refuse_text, text_at};
+pub use reply::Reply;
+pub use text::{readable_text_at, text_at};
 pub use whole::context_at;

@@ -1,24 +1,17 @@
-//! Notes at a name, why they are refused, and what they show.
+//! Notes at a name.
 
-ghost use Rattle.std.specs.Prelude.{◌≡◌, IfOk, IfErr, MatchResult};
-ghost use Rattle.std.specs.String.{string_bytes};
-ghost use Rattle.bpf_insn.specs.Written.{AppendsBeginning};
-ghost use Rattle.bpf_answers.specs.Answer.{Says, follows_end, text_of};
-ghost use Rattle.bpf_answers.specs.Answer.Answer.{Follows, NoNotes, NotFollowed};
+ghost use Rattle.std.specs.Prelude.{IfOk, IfErr, MatchResult};
 ghost use Rattle.bpf_answers.specs.Loaded.{Tried};
 ghost use Rattle.bpf_answers.specs.Notes.{LoadsNotes, NotesFail, NotesRefused};
-ghost use Rattle.bpf_answers.specs.Told.{IsQuiet, OutputFails};
+ghost use Rattle.bpf_answers.specs.Told.{IsQuiet};
 
 use crate::bytes::{BytesError, bytes_at};
-use crate::failure::{DONE, Failure, say};
-use crate::refusal::refuse_at;
-use bpf_follows::Mismatch;
-use bpf_follows_law::{Bounds, Place};
+use crate::failure::Failure;
+use bpf_follows_law::Place;
 use bpf_follows_notes::{NotesError, read};
 use bpf_insn::MAX_SLOTS;
 use bpf_places::Places;
-use std::alloc::{AllocError, Global};
-use std::io::Write;
+use std::alloc::Global;
 
 /// The greatest length of a text of notes that is read, in bytes: a line for each slot of a program, one for behind its last and the first
 /// line. None is longer than 3,072 bytes: a slot, three numbers, and 75 places of at most 40 bytes.
@@ -41,72 +34,4 @@ pub fn notes_at<'a, P: Places>(
         Err(BytesError::Unreadable | BytesError::TooLong) => Err(Failure::CannotRead(name)),
         Err(BytesError::Memory) => Err(Failure::NoMemory),
     }
-}
-
-/// Prints why a text is none of notes; where that fails, standard output has a beginning of the line.
-pub fn refuse_notes<'a, W: Write>(
-    alloc: Global,
-    out: &mut W,
-    error: NotesError,
-) -> Result<u8, Failure<'a>>
-    ensures ok { IfOk result (λ status. Says (NoNotes error) status (W.contents out.old) (W.contents out.new)) }
-    ensures err { IfErr result OutputFails }
-    ensures begun { IfErr result (λ _. AppendsBeginning (W.contents out.old) (W.contents out.new) (text_of (NoNotes error))) }
-{
-    let line = error.line() as u64;
-    refuse_at(alloc, out, "N", error.number(), " at line ", line)
-}
-
-/// Prints what of the notes fails; where that fails, standard output has a beginning of the line.
-pub fn refuse_match<'a, W: Write>(
-    alloc: Global,
-    out: &mut W,
-    mismatch: Mismatch,
-) -> Result<u8, Failure<'a>>
-    ensures ok { IfOk result (λ status. Says (NotFollowed mismatch) status (W.contents out.old) (W.contents out.new)) }
-    ensures err { IfErr result OutputFails }
-    ensures begun { IfErr result (λ _. AppendsBeginning (W.contents out.old) (W.contents out.new) (text_of (NotFollowed mismatch))) }
-{
-    let slot = u64::from(mismatch.slot());
-    refuse_at(alloc, out, "M", mismatch.number(), " at slot ", slot)
-}
-
-/// The end of the line of what notes show: where contexts are blocks it says so.
-fn end_of(padded: bool) -> &'static str
-    ensures { result.now ≡ follows_end padded }
-{
-    if padded { " padded\n" } else { "\n" }
-}
-
-/// The line of what notes show.
-fn line_of(alloc: Global, bounds: Bounds) -> Result<String, AllocError>
-    ensures { IfOk result (λ line. string_bytes line ≡ text_of (Follows bounds)) }
-{
-    let Bounds {
-        length,
-        padded,
-        turns,
-        untouched,
-    } = bounds;
-    let end = end_of(padded);
-    if untouched == 0 {
-        format!(in alloc; "yes length {length} turns {turns}{end}")
-    } else {
-        format!(in alloc; "yes length {length} turns {turns} untouched {untouched}{end}")
-    }
-}
-
-/// Prints for which contexts and runs notes show that a meaning is kept; where that fails, standard output has a beginning of the line.
-pub fn say_followed<'a, W: Write>(
-    alloc: Global,
-    out: &mut W,
-    bounds: Bounds,
-) -> Result<u8, Failure<'a>>
-    ensures ok { IfOk result (λ status. Says (Follows bounds) status (W.contents out.old) (W.contents out.new)) }
-    ensures err { IfErr result OutputFails }
-    ensures begun { IfErr result (λ _. AppendsBeginning (W.contents out.old) (W.contents out.new) (text_of (Follows bounds))) }
-{
-    let line = line_of(alloc, bounds)?;
-    say(out, line.as_str())?;
-    Ok(DONE)
 }

@@ -1,30 +1,75 @@
 //! The line of a refusal.
 
-ghost use Rattle.std.specs.Prelude.{◌≡◌, IfOk, IfErr};
+ghost use Rattle.std.specs.Prelude.{◌≡◌, OnOk, OnErr};
 ghost use Rattle.std.specs.Io.KnownBytes.{Appends};
 ghost use Rattle.bpf_insn.specs.Written.{AppendsBeginning};
-ghost use Rattle.bpf_answers.specs.Answer.{refusal_line};
-ghost use Rattle.bpf_answers.specs.Told.{OutputFails};
+ghost use Rattle.bpf_answers.specs.Answer.{at_whole, at_words, line_at, refusal_line, told_line};
 
-use crate::failure::{Failure, REFUSED, say};
-use std::alloc::Global;
-use std::io::Write;
+use crate::pieces::write_pieces;
+use bpf_refusals::{At, Letter, Told};
+use itoa::Buffer;
+use std::io::{self, Write};
 
-/// Prints the line of a refusal, by the letter of its kind, its number, and the slot or the line that it names: `no E4 at
-/// slot 0`. Where that fails, standard output has a beginning of the line.
-pub fn refuse_at<'a, W: Write>(
-    alloc: Global,
+/// Where a refusal is that names nothing: at the number 0 of what those of its letter name.
+fn at_whole(letter: Letter) -> &'static str
+    ensures { result.now ≡ at_whole letter }
+{
+    match letter {
+        Letter::Text | Letter::Certificate | Letter::Notes => " at line ",
+        Letter::Classic => " at instruction ",
+        Letter::Check | Letter::Image | Letter::Fault => " at slot ",
+        Letter::Hardening | Letter::Inference | Letter::Mismatch => " at slot ",
+    }
+}
+
+/// Where a refusal is, but for the number.
+fn at_words(letter: Letter, at: At) -> &'static str
+    ensures { result.now ≡ at_words letter at }
+{
+    match at {
+        At::Nowhere => at_whole(letter),
+        At::Slot(_) => " at slot ",
+        At::Line(_) => " at line ",
+        At::Instruction(_) => " at instruction ",
+    }
+}
+
+/// Writes a line of a letter, a number, a place and its number.
+fn write_line<W: Write>(
     out: &mut W,
-    kind: &str,
+    letter: &str,
     number: u8,
     place: &str,
     at: u64,
-) -> Result<u8, Failure<'a>>
-    ensures ok { IfOk result (λ status. (status ≡ 1) × Appends (W.contents out.old) (W.contents out.new) (refusal_line kind.now number place.now at)) }
-    ensures err { IfErr result OutputFails }
-    ensures begun { IfErr result (λ _. AppendsBeginning (W.contents out.old) (W.contents out.new) (refusal_line kind.now number place.now at)) }
+) -> io::Result<()>
+    ensures ok { OnOk result (Appends (W.contents out.old) (W.contents out.new) (refusal_line letter.now number place.now at)) }
+    ensures err { OnErr result (AppendsBeginning (W.contents out.old) (W.contents out.new) (refusal_line letter.now number place.now at)) }
 {
-    let line = format!(in alloc; "no {kind}{number}{place}{at}\n")?;
-    say(out, line.as_str())?;
-    Ok(REFUSED)
+    let mut first = Buffer::new();
+    let mut second = Buffer::new();
+    let number = first.format(number);
+    let at = second.format(at);
+    write_pieces(out, &["no ", letter, number, place, at, "\n"])
+}
+
+/// Writes the line of a refusal that is at this place: `no E4 of NEW at slot 0`.
+pub fn write_refusal_at<W: Write>(out: &mut W, told: Told, place: &str) -> io::Result<()>
+    ensures ok { OnOk result (Appends (W.contents out.old) (W.contents out.new) (line_at place.now told)) }
+    ensures err { OnErr result (AppendsBeginning (W.contents out.old) (W.contents out.new) (line_at place.now told)) }
+{
+    write_line(
+        out,
+        told.letter.name(),
+        told.number,
+        place,
+        told.at.number(),
+    )
+}
+
+/// Writes the line of a refusal: `no E4 at slot 0`.
+pub fn write_refusal<W: Write>(out: &mut W, told: Told) -> io::Result<()>
+    ensures ok { OnOk result (Appends (W.contents out.old) (W.contents out.new) (told_line told)) }
+    ensures err { OnErr result (AppendsBeginning (W.contents out.old) (W.contents out.new) (told_line told)) }
+{
+    write_refusal_at(out, told, at_words(told.letter, told.at))
 }

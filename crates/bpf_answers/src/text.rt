@@ -1,20 +1,15 @@
-//! Texts at a name, and why they are refused.
+//! Texts at a name.
 
 ghost use Rattle.std.specs.Prelude.{◌≡◌, ◌⊎◌, IfOk, IfErr};
 ghost use Rattle.std.specs.Str.{IsUtf8};
 ghost use Rattle.std.specs.String.{string_bytes};
-ghost use Rattle.bpf_insn.specs.Written.{AppendsBeginning};
-ghost use Rattle.bpf_answers.specs.Answer.{Says, text_of};
-ghost use Rattle.bpf_answers.specs.Answer.Answer.{NoText};
 ghost use Rattle.bpf_answers.specs.Loaded.{ReadableFails, ShortTextAt, TextAt, TextFails, Tried};
-ghost use Rattle.bpf_answers.specs.Told.{IsQuiet, OutputFails};
+ghost use Rattle.bpf_answers.specs.Told.{IsQuiet};
 
 use crate::bytes::{BytesError, bytes_at};
-use crate::failure::{Failure, REFUSED, say};
+use crate::failure::Failure;
 use bpf_places::Places;
-use bpf_text::TextError;
-use std::alloc::{AllocError, Global};
-use std::io::Write;
+use std::alloc::Global;
 
 /// The greatest length of a text that is read, in bytes.
 const MAX_TEXT: usize = 16_777_216;
@@ -69,38 +64,4 @@ pub fn readable_text_at<'a, P: Places>(
     ensures names { Tried P.opens places.old name.entry.now places.new }
 {
     text_or(alloc, places, name, Failure::NotText(name))
-}
-
-/// The line of a refusal.
-fn line_of(alloc: Global, error: TextError) -> Result<String, AllocError>
-    ensures { IfOk result (λ line. string_bytes line ≡ text_of (NoText error)) }
-{
-    match error {
-        TextError::Form { line } => format!(in alloc; "no A1 at line {line}\n"),
-        TextError::Range { line } => format!(in alloc; "no A2 at line {line}\n"),
-        TextError::DefinedAgain { line } => format!(in alloc; "no A3 at line {line}\n"),
-        TextError::Undefined { line } => format!(in alloc; "no A4 at line {line}\n"),
-        TextError::TooFar { line } => format!(in alloc; "no A5 at line {line}\n"),
-        TextError::Program { line, error } => {
-            let cause = error.number();
-            let slot = error.slot();
-            format!(in alloc; "no A6 at line {line} (E{cause} at slot {slot})\n")
-        }
-        TextError::Memory => String::from_str(alloc, "no A7 at line 0\n"),
-    }
-}
-
-/// Prints why a text is refused; where that fails, standard output has a beginning of the line.
-pub fn refuse_text<'a, W: Write>(
-    alloc: Global,
-    out: &mut W,
-    error: TextError,
-) -> Result<u8, Failure<'a>>
-    ensures ok { IfOk result (λ status. Says (NoText error) status (W.contents out.old) (W.contents out.new)) }
-    ensures err { IfErr result OutputFails }
-    ensures begun { IfErr result (λ _. AppendsBeginning (W.contents out.old) (W.contents out.new) (text_of (NoText error))) }
-{
-    let line = line_of(alloc, error)?;
-    say(out, line.as_str())?;
-    Ok(REFUSED)
 }

@@ -13,18 +13,21 @@ use Rattle.bpf_follows_law.specs.Matching.{Matches}
 use Rattle.bpf_follows_law.specs.Meaning.{KeepsMeaning}
 use Rattle.bpf_follows.specs.Mismatches.{IsMismatch, mismatch_slot}
 use Rattle.bpf_follows.specs.declared.mismatch.Mismatch.{Mismatch}
-use Rattle.bpf_harden_notes.specs.RefusalNumbers.{harden_number, harden_slot}
+use Rattle.bpf_harden_notes.specs.RefusalNumbers.{harden_slot}
+use Rattle.bpf_refusals.specs.Told.{told_hardening, told_not_shown, told_too_dear, told_uncertified}
+use Rattle.bpf_refusals.specs.declared.told.Told.{Told}
 use Rattle.bpf_certify.specs.declared.wish.Wish.{Wish}
 use Rattle.bpf_certify.specs.declared.certified.Certified.{Certified}
 use Rattle.bpf_certify.specs.declared.certified.Rewritten.{Rewritten}
 use Rattle.bpf_certify.specs.declared.error.CertifyError.{CertifyError}
 use Rattle.bpf_certify.specs.declared.error.CertifyError.TheVariants.{Unhardened, Unshown, TooDear, Uncertified}
 
-abbrev pub certify_number : CertifyError → ℕ
-certify_number (Unhardened e) = harden_number e
-certify_number (Unshown m) = 13
-certify_number (TooDear turns bound) = 14
-certify_number (Uncertified r) = 15
+-- H1 to H15
+abbrev pub told_certifying : CertifyError → Told
+told_certifying (Unhardened e) = told_hardening e
+told_certifying (Unshown m) = told_not_shown m
+told_certifying (TooDear turns bound) = told_too_dear bound
+told_certifying (Uncertified r) = told_uncertified r
 
 abbrev pub certify_slot : CertifyError → ℕ
 certify_slot (Unhardened e) = harden_slot e

@@ -1,11 +1,12 @@
 //! Why a program isn't certified.
 
 ghost use Rattle.std.specs.Prelude.{◌≡◌};
-ghost use Rattle.bpf_certify.specs.Certified.{certify_number, certify_slot};
+ghost use Rattle.bpf_certify.specs.Certified.{certify_slot};
 
 use bpf_check::Refusal;
 use bpf_follows::Mismatch;
 use bpf_harden::HardenError;
+use bpf_refusals::{Tells, Told};
 
 /// Why a program isn't certified within a bound, with a slot of it.
 #[derive(Clone, Copy, Debug, PartialEq, Eq)]
@@ -21,18 +22,6 @@ pub enum CertifyError {
 }
 
 impl CertifyError {
-    /// The number of the refusal, from 1 to 15.
-    pub fn number(&self) -> u8
-        ensures { result ≡ certify_number self.now }
-    {
-        match self {
-            CertifyError::Unhardened(error) => error.number(),
-            CertifyError::Unshown(_) => 13,
-            CertifyError::TooDear { .. } => 14,
-            CertifyError::Uncertified(_) => 15,
-        }
-    }
-
     /// The slot that is named, of the program that was given: 0 where none is.
     pub fn slot(&self) -> u32
         ensures { result ≡ certify_slot self.now }
@@ -41,6 +30,22 @@ impl CertifyError {
             CertifyError::Unhardened(error) => error.slot(),
             CertifyError::Unshown(mismatch) => mismatch.slot(),
             CertifyError::TooDear { .. } | CertifyError::Uncertified(_) => 0,
+        }
+    }
+}
+
+/// H1 to H15.
+impl Tells for CertifyError {
+    ghost use Rattle.bpf_certify.specs.Certified.{told_certifying};
+
+    ghost told_of = { told_certifying };
+
+    fn told(&self) -> Told {
+        match self {
+            CertifyError::Unhardened(error) => error.told(),
+            CertifyError::Unshown(mismatch) => Told::not_shown(*mismatch),
+            CertifyError::TooDear { bound, .. } => Told::too_dear(*bound),
+            CertifyError::Uncertified(refusal) => Told::uncertified(*refusal),
         }
     }
 }

@@ -1,6 +1,6 @@
 -- Which instruction a code tells: its class, and then its source and operation, or its mode and size (McCanne and Jacobson 1993, table 2;
 -- the header <net/bpf.h>).
-use Rattle.std.specs.Prelude.{ℕ, ◌/◌, ◌%◌, ◌==◌, nat_lt, Option, Some, None, option_map, if◌then◌else◌}
+use Rattle.std.specs.Prelude.{ℕ, ◌-◌, ◌/◌, ◌%◌, ◌^◌, ◌==◌, nat_lt, Option, Some, None, option_map, if◌then◌else◌}
 use Rattle.bpf_classic.specs.declared.instruction.Register.TheVariants.{A, X}
 use Rattle.bpf_classic.specs.declared.instruction.Source.{Source}
 use Rattle.bpf_classic.specs.declared.instruction.Source.TheVariants.{K, X as FromX}
@@ -11,7 +11,7 @@ use Rattle.bpf_classic.specs.declared.instruction.Op.TheVariants.{Add, Sub, Mul,
 use Rattle.bpf_classic.specs.declared.instruction.Test.{Test}
 use Rattle.bpf_classic.specs.declared.instruction.Test.TheVariants.{Eq, Gt, Ge, Set}
 use Rattle.bpf_classic.specs.declared.instruction.Classic.{Classic}
-use Rattle.bpf_classic.specs.declared.instruction.Classic.TheVariants.{Constant, Length, Cell, Store, At, Index, Header, Alu, Neg, Jump, JumpIf, Return, ReturnA, Tax, Txa}
+use Rattle.bpf_classic.specs.declared.instruction.Classic.TheVariants.{Constant, Length, Cell, Store, At, Index, Header, Alu, Neg, Jump, Back, JumpIf, Return, ReturnA, Tax, Txa}
 use Rattle.bpf_classic.specs.declared.raw.Raw.{Raw}
 
 -- an operation, a test, a size by the bits of a code
@@ -69,8 +69,12 @@ load_x_of r =
 abbrev pub alu_of : Raw → Option Classic
 alu_of r = if r.code == 0x84 then Some Neg else option_map (λ op. Alu op (source_of r)) (op_of r.code)
 
+-- the offset of `ja` is signed, as two's complement of 32 bits
+abbrev pub ja_of : ℕ → Classic
+ja_of k = if nat_lt k (2 ^ 31) then Jump k else Back (2 ^ 32 - k)
+
 abbrev pub jump_of : Raw → Option Classic
-jump_of r = if r.code == 0x05 then Some (Jump r.k) else option_map (λ test. JumpIf test (source_of r) r.jt r.jf) (test_of r.code)
+jump_of r = if r.code == 0x05 then Some (ja_of r.k) else option_map (λ test. JumpIf test (source_of r) r.jt r.jf) (test_of r.code)
 
 abbrev pub return_of : Raw → Option Classic
 return_of r = if r.code == 0x06 then Some (Return r.k) else if r.code == 0x16 then Some ReturnA else None

@@ -3,6 +3,8 @@
 pub mod Limits
 -- the codes of instructions
 pub mod Codes
+-- Linux's auxiliary data
+pub mod Auxiliary
 -- the machine, and what a filter answers
 pub mod Machine
 -- which instructions are filters

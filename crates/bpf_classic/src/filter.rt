@@ -1,11 +1,12 @@
 //! Filters: instructions of which each is without fault.
 
 ghost use Rattle.std.specs.Prelude.{◌≡◌, ◌⊎◌, IfOk, IfErr, filter_map};
-ghost use Rattle.bpf_classic.specs.Codes.{instruction_of};
+ghost use Rattle.bpf_classic.specs.Auxiliary.{instruction_in};
 
+use crate::auxiliary::instruction_in;
 use crate::faults::lowest_fault;
 use crate::instruction::Classic;
-use crate::raw::{Raw, instruction_of};
+use crate::raw::Raw;
 use crate::refusal::{Kind, Refusal};
 use std::alloc::{AllocError, Global};
 use std::marker::Model;
@@ -13,12 +14,12 @@ use std::marker::Model;
 /// The most instructions of a filter.
 pub const MAX_FILTER: usize = 4096;
 
-fn instructions(alloc: Global, raws: &[Raw]) -> Result<Vec<Classic>, AllocError>
-    ensures { IfOk result (λ v. v.items ≡ filter_map instruction_of raws.now) }
+fn instructions(alloc: Global, kind: Kind, raws: &[Raw]) -> Result<Vec<Classic>, AllocError>
+    ensures { IfOk result (λ v. v.items ≡ filter_map (instruction_in kind) raws.now) }
 {
     let mut list = Vec::with_capacity(alloc, raws.len())?;
     for raw in raws {
-        if let Some(i) = instruction_of(raw) {
+        if let Some(i) = instruction_in(kind, raw) {
             list.push(i)?;
         }
     }
@@ -48,7 +49,7 @@ impl Filter {
     /// The filter of these instructions, for packets or for seccomp: 1 to 4,096 of them, each without fault. The refusals
     /// come in this order: B1; of the lowest instruction with a fault the first of B2 to B7; B9 if memory runs out.
     pub fn new(alloc: Global, kind: Kind, raws: &[Raw]) -> Result<Filter, Refusal>
-        ensures ok { IfOk result (λ f. (f.kind ≡ kind) × (f.list ≡ filter_map instruction_of raws.now)) }
+        ensures ok { IfOk result (λ f. (f.kind ≡ kind) × (f.list ≡ filter_map (instruction_in kind) raws.now)) }
         ensures valid { IfOk result (λ f. IsFilter f.kind f.list) }
         ensures err { IfErr result (λ e. IsRefused kind raws.now e) }
     {
@@ -58,7 +59,7 @@ impl Filter {
         if let Some((at, fault)) = lowest_fault(kind, raws) {
             return Err(Refusal::Instruction { at, fault });
         }
-        match instructions(alloc, raws) {
+        match instructions(alloc, kind, raws) {
             Ok(list) => Ok(Filter { kind, list }),
             Err(_) => Err(Refusal::Memory),
         }

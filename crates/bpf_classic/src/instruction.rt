@@ -22,6 +22,23 @@ pub enum LoadSize {
     Word,
 }
 
+/// A word of Linux's auxiliary data (the header <linux/filter.h>, SKF_AD_PROTOCOL to SKF_AD_VLAN_TPID).
+#[derive(Clone, Copy, Debug, PartialEq, Eq)]
+pub enum Auxiliary {
+    Protocol,
+    PacketType,
+    Interface,
+    Mark,
+    Queue,
+    HardwareType,
+    Hash,
+    Processor,
+    VlanTag,
+    HasVlanTag,
+    Random,
+    VlanProtocol,
+}
+
 /// An operation on A and a second operand.
 #[derive(Clone, Copy, Debug, PartialEq, Eq)]
 pub enum Op {
@@ -107,6 +124,10 @@ pub enum Classic {
     Header {
         k: u32,
     },
+    /// `ld [0xfffff000 + ..]`: a word of Linux's auxiliary data.
+    Extension {
+        word: Auxiliary,
+    },
     /// `add`, `sub`, .. `xor`.
     Alu {
         op: Op,
@@ -116,6 +137,10 @@ pub enum Classic {
     Neg,
     /// `ja`.
     Jump {
+        k: u32,
+    },
+    /// `ja` with an offset below 0: back to the instruction that stands `k` in front of the next one.
+    Back {
         k: u32,
     },
     /// `jeq`, `jgt`, `jge`, `jset`.

@@ -1,7 +1,7 @@
 //! Instructions as the eight bytes of `struct sock_filter` tell them, and which instruction each is.
 
 ghost use Rattle.std.specs.Prelude.{◌≡◌};
-ghost use Rattle.bpf_classic.specs.Codes.{op_of, test_of, size_of, source_of, load_of, load_x_of, alu_of, jump_of, return_of, misc_of, instruction_of};
+ghost use Rattle.bpf_classic.specs.Codes.{op_of, test_of, size_of, source_of, load_of, load_x_of, alu_of, jump_of, return_of, misc_of, ja_of, instruction_of};
 
 use crate::instruction::{Classic, LoadSize, Op, Register, Source, Test};
 
@@ -114,11 +114,23 @@ fn alu_of(raw: &Raw) -> Option<Classic>
     })
 }
 
+/// An offset of 2^31 or more is one below 0, as two's complement.
+fn ja_of(k: u32) -> Classic
+    ensures { result ≡ ja_of k }
+{
+    if k < 0x8000_0000 {
+        return Classic::Jump { k };
+    }
+    Classic::Back {
+        k: u32::MAX - k + 1,
+    }
+}
+
 fn jump_of(raw: &Raw) -> Option<Classic>
     ensures { result ≡ jump_of raw.now }
 {
     if raw.code == 0x05 {
-        return Some(Classic::Jump { k: raw.k });
+        return Some(ja_of(raw.k));
     }
     Some(Classic::JumpIf {
         test: test_of(raw.code)?,

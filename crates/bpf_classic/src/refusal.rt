@@ -2,11 +2,12 @@
 
 use thiserror::Error;
 
-/// What a filter is for: packets, or the calls of a process (seccomp).
+/// What a filter is for: packets, the calls of a process (seccomp), or packets with Linux's extensions.
 #[derive(Clone, Copy, Debug, PartialEq, Eq)]
 pub enum Kind {
     Packets,
     Seccomp,
+    Extended,
 }
 
 /// What is wrong with one instruction of a filter.
@@ -21,15 +22,18 @@ pub enum Fault {
     /// B4: it divides by the constant 0, or shifts by a constant of 32 or more.
     #[error("it divides by the constant 0, or shifts by a constant of 32 or more")]
     Constant,
-    /// B5: it leads past the last instruction.
-    #[error("it leads past the last instruction, or back")]
+    /// B5: it leads past the last instruction, or back past the first.
+    #[error("it leads past the last instruction, or back past the first")]
     Target,
     /// B6: it isn't in seccomp's filters, which load aligned words of their 64 bytes alone.
-    #[error("a seccomp filter loads aligned words of its 64 bytes alone, by constant offsets, and has no mod")]
+    #[error("a seccomp filter loads aligned words of its 64 bytes alone, by constant offsets, and has no mod and no jump back")]
     Seccomp,
     /// B7: it loads one of Linux's extensions.
     #[error("it loads one of Linux's extensions, which a packet doesn't hold")]
     Extension,
+    /// B7: it loads what no word behind the length holds: one of Linux's other extensions, or from a header's offset.
+    #[error("it loads one of Linux's extensions, which a packet doesn't hold, and no word: nlattr, nlattr_nest, alu_xor_x, pay_offset, or from 0xffe00000 (ll_off, net_off) on")]
+    NoWord,
 }
 
 /// Why instructions are no filter.
@@ -62,7 +66,7 @@ impl Refusal {
                 Fault::Constant => 4,
                 Fault::Target => 5,
                 Fault::Seccomp => 6,
-                Fault::Extension => 7,
+                Fault::Extension | Fault::NoWord => 7,
             },
             Refusal::Memory => 9,
         }

@@ -1,5 +1,5 @@
 -- The instructions that the bytes of `struct sock_filter` are.
-use Rattle.std.specs.Prelude.{ℕ, ◌+◌, ◌*◌, ◌/◌, ◌%◌, ◌==◌, List, length, drop, map, slice_index, Result, Ok, Err, if◌then◌else◌}
+use Rattle.std.specs.Prelude.{ℕ, ◌*◌, ◌/◌, ◌%◌, ◌==◌, List, length, drop, map, slice_index, Result, Ok, Err, if◌then◌else◌}
 use Rattle.std.specs.List.{range_with_len}
 use Rattle.bpf_insn.specs.Order.{number_of}
 use Rattle.bpf_insn.specs.declared.order.Order.{Order}

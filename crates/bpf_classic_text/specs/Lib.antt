@@ -3,3 +3,5 @@
 pub mod Bytes
 -- the text of `tcpdump -ddd` and `tcpdump -dd`
 pub mod Text
+-- the text of `tcpdump -d`
+pub mod Listing

@@ -1,5 +1,5 @@
 -- What is said of the names of a certification, from what is said of each.
-use Rattle.std.proofs.Common.{◌≡◌, ◌⊎◌, ◌≤◌, Some, None, ℕ, List, true, false, Option, Result, Ok, Err, IfOk, IfErr, IfSome, IsTrue, refl, sym, subst, inl, inr}
+use Rattle.std.proofs.Common.{◌≡◌, ◌≤◌, Some, None, ℕ, List, false, Option, Result, Ok, Err, IfOk, IfErr, IfSome, IsTrue, refl, sym, subst, inl, inr}
 use Rattle.bpf_insn.specs.Instruction.{Instructions}
 use Rattle.bpf_insn.specs.Image.{image}
 use Rattle.bpf_insn.specs.Limits.{max_context}
@@ -9,22 +9,19 @@ use Rattle.bpf_follows_law.specs.declared.notes.Place.{Place}
 use Rattle.bpf_certify.specs.Certified.{Answers as IsAnswer, IsPaid, StandsFor}
 use Rattle.bpf_certify.specs.declared.certified.Certified.{Certified}
 use Rattle.bpf_certify.specs.declared.certified.Rewritten.{Rewritten}
-use Rattle.bpf_certify.specs.declared.error.CertifyError.{CertifyError}
-use Rattle.bpf_certify.specs.declared.error.CertifyError.TheVariants as errors
 use Rattle.bpf_request.specs.CommandLine.{hardening_of}
 use Rattle.bpf_request.specs.declared.certifying.Certifying.{Certifying}
 use Rattle.bpf_request.specs.declared.hardening.Hardening.{Hardening}
 use Rattle.bpf_places.specs.Opened.{Opening}
 use Rattle.bpf_places.specs.Made.{Making}
-use Rattle.bpf_answers.specs.Answer.{Answer, Answered, Says}
 use Rattle.bpf_answers.specs.Both.{Pairing}
 use Rattle.bpf_answers.specs.Both.Put.{Both}
-use Rattle.bpf_answers.specs.Loaded.{LoadsImage}
-use Rattle.bpf_answers.specs.Told.{OutputFails}
+use Rattle.bpf_answers.specs.Loaded.{ImageFails, LoadsImage}
+use Rattle.bpf_answers.specs.Told.{IsQuiet}
 use Rattle.bpf_answers.specs.declared.certified.Certification.{Certification}
 use Rattle.bpf_answers.specs.declared.failure.Failure.{Failure}
 use Rattle.bpf_answers.specs.declared.failure.Failure.TheVariants.{CannotRead, CannotWrite, NoMemory}
-use Rattle.bpf_command.specs.Certified.{AllPut, Behind, Certifies, CertifyFails, CertifySays, CertifyWithFails, CertifyWithSays, IsMadeOf, IsRefusedBy, NoPair, NotAllPut, NotAllStand, NotCertified, NotCertifiedWith, made_of, most_of, notes_of, program_of, refused_as, rewriting_of, told_of, wish_of}
+use Rattle.bpf_command.specs.Certified.{AllPut, Certifies, CertifyFails, CertifyWithFails, IsMadeOf, NoPair, NotAllPut, NotAllStand, NotCertified, NotCertifiedWith, made_of, most_of, notes_of, program_of, rewriting_of, told_of, wish_of}
 use Rattle.bpf_command.specs.Explained.{LinesAt}
 use Rattle.bpf_command.specs.Hardened.{BothStand, NotBothPut, NotBothStand}
 
@@ -58,14 +55,6 @@ pub certifies_as : {S : Type 0} (opening : Opening S) (old : S) (c : Certifying)
     → made ≡ other → told ≡ also → Certifies opening old c new other certificate notes also → Certifies opening old c new made certificate notes told
 certifies_as opening old c new made other certificate notes told also same_made same_told certifies =
     subst (λ m. Certifies opening old c new m certificate notes told) (sym same_made) (subst (λ t. Certifies opening old c new other certificate notes t) (sym same_told) certifies)
-
--- what is answered of a program that isn't certified
-pub refused_said : {S : Type 0} (o : Opening S) (m : Making S) (b : Pairing S) (old : S) (c : Certifying) (new : S) (error : CertifyError) → IsRefusedBy o old c new (refused_as error)
-    → CertifySays o m b old c new (refused_as error)
-refused_said o m b old c new (errors.Unhardened e) refused = refused
-refused_said o m b old c new (errors.Unshown d) refused = refused
-refused_said o m b old c new (errors.TooDear turns bound) refused = refused
-refused_said o m b old c new (errors.Uncertified r) refused = refused
 
 -- ---- what is put at the names
 
@@ -125,7 +114,7 @@ of_writing m b old c made certificate new f (inr fails) = no_texts m fails.0 (ha
 
 fails_of : {S : Type 0} (o : Opening S) (m : Making S) (b : Pairing S) (old : S) (c : Certifying) (between new : S) (made : Instructions) (certificate : CertificateView) (notes : List (Option Place)) (told : Certification) (f : Failure)
     → Certifies o old c between made certificate notes told → IsOfWriting f → NotAllPut m b between c made certificate new f → CertifyFails o m b old c new f
-fails_of o m b old c between new made certificate notes told (CannotWrite name) certifies writing fails = inr (between, made, certificate, notes, told, certifies, fails)
+fails_of o m b old c between new made certificate notes told (CannotWrite name) certifies writing fails = (between, made, certificate, notes, told, certifies, fails)
 fails_of o m b old c between new made certificate notes told NoMemory certifies writing fails = tt
 fails_of o m b old c between new made certificate notes told (CannotRead name) certifies writing fails = absurd writing
 fails_of o m b old c between new made certificate notes told failure certifies writing fails = absurd writing
@@ -139,24 +128,16 @@ puts_fail (Err f) o m b old c between new made certificate notes told certifies 
 pub puts_left : {S A : Type 0} (result : Result A Failure) (o : Opening S) (m : Making S) (b : Pairing S) (old : S) (c : Certifying) (between new : S) (made : Instructions) (certificate : CertificateView) (notes : List (Option Place)) (told : Certification)
     → Certifies o old c between made certificate notes told → IfErr result (λ _. NotAllStand m b between c made certificate new) → IfErr result (λ _. NotCertified o m b old c new)
 puts_left (Ok s) o m b old c between new made certificate notes told certifies left = tt
-puts_left (Err f) o m b old c between new made certificate notes told certifies left = inr (inl (between, made, certificate, notes, told, certifies, left))
+puts_left (Err f) o m b old c between new made certificate notes told certifies left = inr (between, made, certificate, notes, told, certifies, left)
 
-output_fails : {S : Type 0} (o : Opening S) (m : Making S) (b : Pairing S) (old : S) (c : Certifying) (new : S) (f : Failure) → OutputFails f → CertifyFails o m b old c new f
-output_fails o m b old c new (CannotWrite name) fails = inl fails
-output_fails o m b old c new (CannotRead name) fails = absurd fails
-output_fails o m b old c new failure fails = fails
-
--- standard output fails
-pub line_fails : {S A : Type 0} (result : Result A Failure) (o : Opening S) (m : Making S) (b : Pairing S) (old : S) (c : Certifying) (new : S) → IfErr result OutputFails → IfErr result (CertifyFails o m b old c new)
-line_fails (Ok s) o m b old c new fails = tt
-line_fails (Err f) o m b old c new fails = output_fails o m b old c new f fails
+-- the image can't be read
+pub unread : {S : Type 0} (o : Opening S) (m : Making S) (b : Pairing S) (old : S) (c : Certifying) (new : S) (f : Failure) → ImageFails o old c.input.now new f → IsQuiet f → CertifyFails o m b old c new f
+unread o m b old c new (CannotRead name) fails quiet = fails
+unread o m b old c new (CannotWrite name) fails quiet = absurd quiet
+unread o m b old c new NoMemory fails quiet = tt
+unread o m b old c new f fails quiet = absurd fails
 
 -- ---- behind the lines of the source
-
-pub with_answered : {S E : Type 0} (result : Result ℕ E) (before after : Option (List ℕ)) (o : Opening S) (m : Making S) (b : Pairing S) (old : S) (c : Certifying) (between new : S) → LinesAt o old c.lines between
-    → IfOk result (Answered (CertifySays o m b between c new) before after) → IfOk result (Answered (CertifyWithSays o m b old c new) before after)
-with_answered (Ok s) before after o m b old c between new lines answered = (answered.0, answered.1, (between, lines, answered.2))
-with_answered (Err e) before after o m b old c between new lines answered = tt
 
 pub with_fails : {S A : Type 0} (result : Result A Failure) (o : Opening S) (m : Making S) (b : Pairing S) (old : S) (c : Certifying) (between new : S) → LinesAt o old c.lines between
     → IfErr result (CertifyFails o m b between c new) → IfErr result (CertifyWithFails o m b old c new)

@@ -17,12 +17,13 @@ use Rattle.bpf_explain_harden.specs.declared.refusal.Unhardened.{Unhardened}
 use Rattle.bpf_explain_harden.specs.declared.refusal.Unhardened.TheVariants.{Refused, Unshown}
 use Rattle.bpf_places.specs.Opened.{Opening, Unreadable}
 use Rattle.bpf_answers.specs.Loaded.{LoadsImage, CertificateAt, TextAt, TextFails, Tried}
-use Rattle.bpf_answers.specs.Answer.{Answer, Says, status_of}
-use Rattle.bpf_answers.specs.Answer.Answer.{Yes, NoImage, NotCertified, NotHardened, NotShown, Written}
+use Rattle.bpf_answers.specs.Answer.{Says, status_of}
+use Rattle.bpf_answers.specs.declared.answer.Answer.{Answer}
+use Rattle.bpf_answers.specs.declared.answer.Answer.TheVariants.{Yes, NoImage, NotCertified, NotHardened, NotShown, Written}
 use Rattle.bpf_command_core.specs.Printed.{ImageSays, JudgedSays, LoadedSays, YesSays}
 use Rattle.bpf_command.specs.Inferred.{IsProposal}
 use Rattle.std.specs.Borrow.{Bor}
-use Rattle.bpf_request.specs.declared.subject.Subject.{Subject}
+use Rattle.bpf_request.specs.declared.asking.Explaining.{Explaining}
 use Rattle.bpf_answers.specs.declared.failure.Failure.{Failure}
 use Rattle.bpf_answers.specs.declared.failure.Failure.TheVariants.{CannotRead}
 use Rattle.bpf_command.specs.Explained.{Answers, ExplainFails, ExplainSays, ExplainWithFails, ExplainWithSays, HardenedSays, IsHardened, JudgesOf, LinesAt, LinesFail, SoughtSays, TaskSays}
@@ -101,15 +102,15 @@ made_so (Err e) opening order old input new task p image h = tt
 
 -- ---- with the lines of the source
 
-pub with_lines_so : {S E : Type 0} (result : Result ℕ E) (o : Opening S) (order : Order) (old : S) (input : List ℕ) (subject : Subject) (lines : Option (Bor (List ℕ))) (between new : S) → LinesAt o old lines between
-    → IfOk result (ExplainSays o order between input subject new) → IfOk result (ExplainWithSays o order old input subject lines new)
-with_lines_so (Ok s) o order old input subject lines between new read h = (between, read, h)
-with_lines_so (Err e) o order old input subject lines between new read h = tt
+pub with_lines_so : {S E : Type 0} (result : Result ℕ E) (o : Opening S) (old : S) (e : Explaining) (between new : S) → LinesAt o old e.lines between
+    → IfOk result (ExplainSays o e.order between e.input.now e.subject new) → IfOk result (ExplainWithSays o old e new)
+with_lines_so (Ok s) o old e between new read h = (between, read, h)
+with_lines_so (Err f) o old e between new read h = tt
 
-pub with_lines_fails : {S : Type 0} (result : Result ℕ Failure) (o : Opening S) (order : Order) (old : S) (input : List ℕ) (subject : Subject) (lines : Option (Bor (List ℕ))) (between new : S) → LinesAt o old lines between
-    → IfErr result (ExplainFails o order between input subject new) → IfErr result (ExplainWithFails o order old input subject lines new)
-with_lines_fails (Ok s) o order old input subject lines between new read h = tt
-with_lines_fails (Err e) o order old input subject lines between new read h = inr (between, read, h)
+pub with_lines_fails : {S : Type 0} (result : Result ℕ Failure) (o : Opening S) (old : S) (e : Explaining) (between new : S) → LinesAt o old e.lines between
+    → IfErr result (ExplainFails o e.order between e.input.now e.subject new) → IfErr result (ExplainWithFails o old e new)
+with_lines_fails (Ok s) o old e between new read h = tt
+with_lines_fails (Err f) o old e between new read h = inr (between, read, h)
 
 tried : {S : Type 0} {P : List ℕ → Type 0} (o : Opening S) (old : S) (name : List ℕ) (new : S) → Unreadable o old name new ⊎ TextAt o old name new P → Tried o old name new
 tried o old name new (inl (inl h)) = (None, h)

@@ -1,21 +1,23 @@
 -- What is said of the names of a hardening, from what is said of each.
-use Rattle.std.proofs.Common.{◌≡◌, ◌⊎◌, Some, None, ℕ, List, true, false, Option, Result, Ok, Err, IfOk, IfErr, IfSome, refl, sym, subst, inl, inr}
+use Rattle.std.proofs.Common.{◌≡◌, ◌⊎◌, Some, None, ℕ, List, true, false, Option, Result, Ok, Err, IfOk, IfErr, IfNone, IfSome, refl, sym, subst, inl, inr}
 use Rattle.std.specs.Borrow.{Bor}
 use Rattle.bpf_insn.specs.Instruction.{Instructions}
 use Rattle.bpf_insn.specs.Image.{IsProgram, image}
+use Rattle.bpf_follows.specs.declared.mismatch.Mismatch.{Mismatch}
+use Rattle.bpf_follows_law.specs.declared.notes.Bounds.{Bounds}
 use Rattle.bpf_follows_law.specs.declared.notes.Place.{Place}
 use Rattle.bpf_follows_law.specs.Laws.{MatchingKeepsMeaning}
-use Rattle.bpf_follows_law.specs.Matching.{Matches}
+use Rattle.bpf_follows_law.specs.Meaning.{KeepsMeaning}
 use Rattle.bpf_follows_notes.specs.NotesText.{notes_text}
 use Rattle.bpf_request.specs.declared.hardening.Hardening.{Hardening}
 use Rattle.bpf_places.specs.Opened.{Opening}
 use Rattle.bpf_places.specs.Made.{Making}
-use Rattle.bpf_answers.specs.Answer.{Answer, Answered, Says}
-use Rattle.bpf_answers.specs.Loaded.{LoadsImage}
-use Rattle.bpf_command.specs.Hardened.{AllStand, BothStand, HardenFails, HardenSays, Hardens, IsLeft, IsLeftSaid, NotAllMade, NotBothPut, NotBothStand, Stands, Unput, bounds_of, said_answer}
+use Rattle.bpf_answers.specs.Loaded.{ImageFails, LoadsImage}
+use Rattle.bpf_answers.specs.Told.{IsQuiet}
+use Rattle.bpf_command.specs.Hardened.{AllStand, AreLeft, BothStand, HardenFails, Hardens, IsKept, IsLeft, IsLeftSaid, NotBothPut, NotBothStand, Show, Stands, Unput, bounds_of}
+use Rattle.bpf_command.specs.declared.commands.harden.Kept.{Kept}
 use Rattle.bpf_answers.specs.declared.failure.Failure.{Failure}
 use Rattle.bpf_answers.specs.declared.failure.Failure.TheVariants.{CannotRead, CannotWrite, NoMemory}
-use Rattle.bpf_answers.specs.Told.{OutputFails}
 
 -- ---- one name
 
@@ -59,60 +61,65 @@ other_fault : {S : Type 0} (making : Making S) (old : S) (h : Hardening) (new : 
 other_fault making old h new name (inl never) = never
 other_fault making old h new name (inr never) = never.3
 
+-- ---- what is shown
+
+-- what is told of the notes is so, since it is what was found
+pub kept_of : (program made : Instructions) (h : Hardening) (notes : List (Option Place)) (kept : Kept) (untouched : ℕ) (mismatch : Option Mismatch) → kept.bounds ≡ bounds_of h untouched → kept.mismatch ≡ mismatch
+    → AreLeft h untouched → IsLeftSaid h untouched kept.said → Show program made notes (bounds_of h untouched) mismatch → (h.unproved ≡ false → mismatch ≡ None) → IsKept program made h notes kept
+kept_of program made h notes kept untouched mismatch runs found left said shown proved = record {
+  untouched = untouched;
+  left = left;
+  said = said;
+  bounds_are = runs;
+  shown = subst (λ b. Show program made notes b kept.mismatch) (sym runs) (subst (Show program made notes (bounds_of h untouched)) (sym found) shown);
+  proved = λ asked. subst (λ m. m ≡ None) (sym found) (proved asked);
+}
+
+kept_means : MatchingKeepsMeaning → (program made : Instructions) (notes : List (Option Place)) (bounds : Bounds) (mismatch : Option Mismatch) → IsProgram program.list → Show program made notes bounds mismatch
+    → IfNone mismatch (KeepsMeaning program made bounds)
+kept_means law program made notes bounds None is_program shown = law program made notes bounds is_program shown
+kept_means law program made notes bounds (Some m) is_program shown = tt
+
 -- ---- behind OUT
 
--- what was made of the program at the name, with notes that match where they are to
-pub made_of : {S : Type 0} (opening : Opening S) (old : S) (h : Hardening) (untouched : ℕ) (new : S) (program made : Instructions) (notes : List (Option Place)) → MatchingKeepsMeaning
-    → LoadsImage opening h.order old h.input.now new program → IsProgram made.list → (h.unproved ≡ false → Matches program made notes (bounds_of h untouched)) → Hardens opening old h untouched new made notes
-made_of opening old h untouched new program made notes law loads is_program matches =
-    record { program = program; loads = loads; is_program = is_program; matches = matches; keeps = λ asked. law program made notes (bounds_of h untouched) loads.is_image.program (matches asked) }
+-- what was made of the program at the name
+pub made_of : {S : Type 0} (opening : Opening S) (old : S) (h : Hardening) (new : S) (program made : Instructions) (notes : List (Option Place)) (kept : Kept) → MatchingKeepsMeaning
+    → LoadsImage opening h.order old h.input.now new program → IsProgram made.list → IsKept program made h notes kept → Hardens opening old h new made notes kept
+made_of opening old h new program made notes kept law loads is_program is_kept = record {
+  program = program;
+  loads = loads;
+  is_program = is_program;
+  is_kept = is_kept;
+  keeps = kept_means law program made notes kept.bounds kept.mismatch loads.is_image.program is_kept.shown;
+}
 
-pub all_stand : {S : Type 0} (opening : Opening S) (making : Making S) (old : S) (h : Hardening) (between put new : S) (made : Instructions) (notes : List (Option Place)) (untouched : ℕ) (said : Option ℕ) (text : List ℕ)
-    → IsLeftSaid h untouched said → Hardens opening old h untouched between made notes → making between h.output.now (image made.order made.list) true put → IfSome h.notes (λ _. text ≡ notes_text notes)
-    → BothStand making put h text new → AllStand opening making old h new said
-all_stand opening making old h between put new made notes untouched said text left hardens whole same both =
-    (between, put, made, notes, untouched, left, hardens, whole, (both.0, both.1, stands_as making put h.notes text (notes_text notes) both.0 same both.2, both.3))
+pub all_stand : {S : Type 0} (opening : Opening S) (making : Making S) (old : S) (h : Hardening) (between put new : S) (made : Instructions) (notes : List (Option Place)) (kept : Kept) (text : List ℕ)
+    → Hardens opening old h between made notes kept → making between h.output.now (image made.order made.list) true put → IfSome h.notes (λ _. text ≡ notes_text notes)
+    → BothStand making put h text new → AllStand opening making old h new kept
+all_stand opening making old h between put new made notes kept text hardens whole same both =
+    (between, put, made, notes, hardens, whole, (both.0, both.1, stands_as making put h.notes text (notes_text notes) both.0 same both.2, both.3))
 
--- so it is said
-pub all_said : {S : Type 0} (opening : Opening S) (making : Making S) (old : S) (h : Hardening) (new : S) (said : Option ℕ) → AllStand opening making old h new said → HardenSays opening making old h new (said_answer said)
-all_said opening making old h new None stands = stands
-all_said opening making old h new (Some untouched) stands = stands
+-- the image can't be read
+pub unread : {S : Type 0} (opening : Opening S) (making : Making S) (old : S) (h : Hardening) (new : S) (f : Failure) → ImageFails opening old h.input.now new f → IsQuiet f → HardenFails opening making old h new f
+unread opening making old h new (CannotRead name) fails quiet = fails
+unread opening making old h new (CannotWrite name) fails quiet = absurd quiet
+unread opening making old h new NoMemory fails quiet = tt
+unread opening making old h new f fails quiet = absurd fails
 
--- what is to be said isn't
-pub unsaid : {S A : Type 0} (result : Result A Failure) (opening : Opening S) (making : Making S) (old : S) (h : Hardening) (new : S) → IfErr result OutputFails → IfErr result (HardenFails opening making old h new)
-unsaid (Ok s) opening making old h new fails = tt
-unsaid (Err (CannotWrite name)) opening making old h new fails = inl fails
-unsaid (Err (CannotRead name)) opening making old h new fails = absurd fails
-unsaid (Err failure) opening making old h new fails = fails
-
-pub texts_fail : {S A : Type 0} (result : Result A Failure) (opening : Opening S) (making : Making S) (old : S) (h : Hardening) (between put new : S) (made : Instructions) (notes : List (Option Place)) (untouched : ℕ)
-    → Hardens opening old h untouched between made notes → making between h.output.now (image made.order made.list) true put
+pub texts_fail : {S A : Type 0} (result : Result A Failure) (opening : Opening S) (making : Making S) (old : S) (h : Hardening) (between put new : S) (made : Instructions) (notes : List (Option Place)) (kept : Kept)
+    → Hardens opening old h between made notes kept → making between h.output.now (image made.order made.list) true put
     → IfErr result (NotBothPut making put h new) → IfErr result (HardenFails opening making old h new)
-texts_fail (Ok s) opening making old h between put new made notes untouched hardens whole fails = tt
-texts_fail (Err (CannotWrite name)) opening making old h between put new made notes untouched hardens whole fails = inr (inr (between, put, made, notes, untouched, hardens, whole, fails))
-texts_fail (Err NoMemory) opening making old h between put new made notes untouched hardens whole fails = tt
-texts_fail (Err (CannotRead name)) opening making old h between put new made notes untouched hardens whole fails = absurd (other_fault making put h new name fails)
-texts_fail (Err failure) opening making old h between put new made notes untouched hardens whole (inl never) = absurd never
-texts_fail (Err failure) opening making old h between put new made notes untouched hardens whole (inr never) = absurd never.3
+texts_fail (Ok s) opening making old h between put new made notes kept hardens whole fails = tt
+texts_fail (Err (CannotWrite name)) opening making old h between put new made notes kept hardens whole fails = inr (between, put, made, notes, kept, hardens, whole, fails)
+texts_fail (Err NoMemory) opening making old h between put new made notes kept hardens whole fails = tt
+texts_fail (Err (CannotRead name)) opening making old h between put new made notes kept hardens whole fails = absurd (other_fault making put h new name fails)
+texts_fail (Err failure) opening making old h between put new made notes kept hardens whole (inl never) = absurd never
+texts_fail (Err failure) opening making old h between put new made notes kept hardens whole (inr never) = absurd never.3
 
-pub out_fails : {S A : Type 0} (result : Result A Failure) (opening : Opening S) (making : Making S) (old : S) (h : Hardening) (between new : S) (made : Instructions) (notes : List (Option Place)) (untouched : ℕ)
-    → Hardens opening old h untouched between made notes
+pub out_fails : {S A : Type 0} (result : Result A Failure) (opening : Opening S) (making : Making S) (old : S) (h : Hardening) (between new : S) (made : Instructions) (notes : List (Option Place)) (kept : Kept)
+    → Hardens opening old h between made notes kept
     → IfErr result (λ f. ((f ≡ CannotWrite h.output) ⊎ (f ≡ NoMemory)) × making between h.output.now (image made.order made.list) false new) → IfErr result (HardenFails opening making old h new)
-out_fails (Ok s) opening making old h between new made notes untouched hardens fails = tt
-out_fails (Err f) opening making old h between new made notes untouched hardens (inl is, left) =
-    subst (HardenFails opening making old h new) (sym is) (inr (inl (refl, (between, made, notes, untouched, hardens, left))))
-out_fails (Err f) opening making old h between new made notes untouched hardens (inr is, left) = subst (HardenFails opening making old h new) (sym is) tt
-
-pub texts_left : {S A : Type 0} (result : Result A Failure) (opening : Opening S) (making : Making S) (old : S) (h : Hardening) (between put new : S) (made : Instructions) (notes : List (Option Place)) (untouched : ℕ)
-    → Hardens opening old h untouched between made notes → making between h.output.now (image made.order made.list) true put
-    → IfErr result (λ _. NotBothStand making put h new) → IfErr result (λ _. NotAllMade opening making old h new)
-texts_left (Ok s) opening making old h between put new made notes untouched hardens whole left = tt
-texts_left (Err f) opening making old h between put new made notes untouched hardens whole left = inr (inr (inl (between, put, made, notes, untouched, hardens, whole, left)))
-
--- ---- what is answered
-
--- what was printed is an answer of which this is said
-pub answered : {E : Type 0} (result : Result ℕ E) (before after : Option (List ℕ)) (x : Answer) (says : Answer → Type 0) → IfOk result (λ status. Says x status before after) → says x
-    → IfOk result (Answered says before after)
-answered (Ok s) before after x says printed said = (x, printed, said)
-answered (Err e) before after x says printed said = tt
+out_fails (Ok s) opening making old h between new made notes kept hardens fails = tt
+out_fails (Err f) opening making old h between new made notes kept hardens (inl is, left) =
+    subst (HardenFails opening making old h new) (sym is) (inl (refl, (between, made, notes, kept, hardens, left)))
+out_fails (Err f) opening making old h between new made notes kept hardens (inr is, left) = subst (HardenFails opening making old h new) (sym is) tt

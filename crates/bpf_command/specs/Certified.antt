@@ -1,5 +1,5 @@
 -- What is certified, and what is put at the names of the answers.
-use Rattle.std.specs.Prelude.{◌≡◌, ◌⊎◌, ◌≤◌, ℕ, List, [], false, Option, Some, None, IsTrue, IfSome, is_some, unwrap_or}
+use Rattle.std.specs.Prelude.{◌≡◌, ◌⊎◌, ◌≤◌, ℕ, List, [], false, Option, Some, None, IsTrue, IfSome, is_some, unwrap_or, ⊤}
 use Rattle.bpf_insn.specs.Instruction.{Instructions}
 use Rattle.bpf_insn.specs.Image.{image}
 use Rattle.bpf_insn.specs.Limits.{max_context}
@@ -20,12 +20,14 @@ use Rattle.bpf_request.specs.CommandLine.{hardening_of}
 use Rattle.bpf_request.specs.declared.certifying.Certifying.{Certifying}
 use Rattle.bpf_places.specs.Opened.{Opening}
 use Rattle.bpf_places.specs.Made.{Making}
-use Rattle.bpf_answers.specs.Answer.{Answer}
-use Rattle.bpf_answers.specs.Answer.Answer.{NoImage, NotHardened, NotShown, TooDear, Uncertified, Certified as IsCertified}
+use Rattle.bpf_answers.specs.declared.answer.Answer.{Answer}
+use Rattle.bpf_answers.specs.declared.answer.Answer.TheVariants.{NoImage as ImageAnswer, NotHardened, NotShown, TooDear, Uncertified, Certified as IsCertified}
+use Rattle.bpf_command.specs.declared.commands.certify.Assessed.{Assessed}
+use Rattle.bpf_command.specs.declared.commands.certify.Assessment.{Assessment}
+use Rattle.bpf_command.specs.declared.commands.certify.Assessment.TheVariants.{NoImage, Refused, Passed}
 use Rattle.bpf_answers.specs.Both.{Pairing}
 use Rattle.bpf_answers.specs.Both.Put.{Both, Neither, FirstAlone}
 use Rattle.bpf_answers.specs.Loaded.{ImageFails, ImageRefused, LoadsImage, OpensFirst, Tried}
-use Rattle.bpf_answers.specs.Told.{OutputFails}
 use Rattle.bpf_answers.specs.declared.certified.Certification.{Certification}
 use Rattle.bpf_answers.specs.declared.certified.Rewriting.{Rewriting}
 use Rattle.bpf_answers.specs.declared.failure.Failure.{Failure}
@@ -139,11 +141,17 @@ refused_as (errors.Unshown m) = NotShown m
 refused_as (errors.TooDear turns bound) = TooDear
 refused_as (errors.Uncertified r) = Uncertified
 
--- The image is a program's, for which what is asked for is refused, and this is answered. Nothing is written.
-abbrev pub IsRefusedBy : {S : Type 0} → Opening S → S → Certifying → S → Answer → Type 0
-IsRefusedBy opening old c new answer =
-    (p : Instructions) × (length : ℕ) × (error : CertifyError) × LoadsImage opening c.order old c.input.now new p
-    × (c.length ≤ max_context → length ≡ c.length) × IsRefused p length (wish_of c) error × (answer ≡ refused_as error)
+-- what is answered of a certification
+abbrev pub assessment_answer : Assessment → Answer
+assessment_answer (NoImage e) = ImageAnswer e
+assessment_answer (Refused e) = refused_as e
+assessment_answer (Passed told) = IsCertified told
+
+-- The image is a program's, for which what is asked for is refused so. Nothing is written.
+abbrev pub IsRefusedBy : {S : Type 0} → Opening S → S → Certifying → S → CertifyError → Type 0
+IsRefusedBy opening old c new error =
+    (p : Instructions) × (length : ℕ) × LoadsImage opening c.order old c.input.now new p
+    × (c.length ≤ max_context → length ≡ c.length) × IsRefused p length (wish_of c) error
 
 -- what was certified is put at its names
 abbrev pub Stands : {S : Type 0} → Opening S → Making S → Pairing S → S → Certifying → S → Certification → Type 0
@@ -152,14 +160,10 @@ Stands {S} o m b old c new told =
     × Certifies o old c between made certificate notes told × IfSome c.notes (λ _. text ≡ notes_text notes) × AllPut m b between c made certificate text new
 
 -- OUT, CERT and the texts stand at their names; or none of them is opened
-abbrev pub CertifySays : {S : Type 0} → Opening S → Making S → Pairing S → S → Certifying → S → Answer → Type 0
+abbrev pub CertifySays : {S : Type 0} → Opening S → Making S → Pairing S → S → Certifying → S → Assessment → Type 0
 CertifySays o m b old c new (NoImage e) = ImageRefused o c.order old c.input.now new e
-CertifySays o m b old c new (NotHardened e) = IsRefusedBy o old c new (NotHardened e)
-CertifySays o m b old c new (NotShown d) = IsRefusedBy o old c new (NotShown d)
-CertifySays o m b old c new TooDear = IsRefusedBy o old c new TooDear
-CertifySays o m b old c new Uncertified = IsRefusedBy o old c new Uncertified
-CertifySays o m b old c new (IsCertified told) = Stands o m b old c new told
-CertifySays o m b old c new answer = ⊥
+CertifySays o m b old c new (Refused e) = IsRefusedBy o old c new e
+CertifySays o m b old c new (Passed told) = Stands o m b old c new told
 
 -- something was certified, of which this holds
 abbrev pub Behind : {S : Type 0} → Opening S → S → Certifying → (S → Instructions → CertificateView → Type 0) → Type 0
@@ -169,21 +173,18 @@ Behind {S} o old c holds =
 
 abbrev pub CertifyFails : {S : Type 0} → Opening S → Making S → Pairing S → S → Certifying → S → Failure → Type 0
 CertifyFails o m b old c new (CannotRead name) = ImageFails o old c.input.now new (CannotRead name)
-CertifyFails o m b old c new (CannotWrite name) =
-    OutputFails (CannotWrite name) ⊎ Behind o old c (λ between made certificate. NotAllPut m b between c made certificate new (CannotWrite name))
-CertifyFails o m b old c new failure = OutputFails failure
+CertifyFails o m b old c new (CannotWrite name) = Behind o old c (λ between made certificate. NotAllPut m b between c made certificate new (CannotWrite name))
+CertifyFails o m b old c new NoMemory = ⊤
+CertifyFails o m b old c new failure = ⊥
 
--- Where that fails, the input was opened, or couldn't be; or not all came to stand at their names; or all did, and the line couldn't be told.
+-- Where that fails, the input was opened, or couldn't be; or not all came to stand at their names.
 abbrev pub NotCertified : {S : Type 0} → Opening S → Making S → Pairing S → S → Certifying → S → Type 0
-NotCertified o m b old c new =
-    Tried o old c.input.now new
-    ⊎ Behind o old c (λ between made certificate. NotAllStand m b between c made certificate new)
-    ⊎ Behind o old c (λ between made certificate. (text : List ℕ) × AllPut m b between c made certificate text new)
+NotCertified o m b old c new = Tried o old c.input.now new ⊎ Behind o old c (λ between made certificate. NotAllStand m b between c made certificate new)
 
 -- ---- with the lines of the source at a name, which is opened first
 
-abbrev pub CertifyWithSays : {S : Type 0} → Opening S → Making S → Pairing S → S → Certifying → S → Answer → Type 0
-CertifyWithSays {S} o m b old c new answer = (between : S) × LinesAt o old c.lines between × CertifySays o m b between c new answer
+abbrev pub CertifyWithSays : {S : Type 0} → Opening S → Making S → Pairing S → S → Certifying → S → Assessed → Type 0
+CertifyWithSays {S} o m b old c new a = (between : S) × LinesAt o old c.lines between × CertifySays o m b between c new a.assessment
 
 abbrev pub CertifyWithFails : {S : Type 0} → Opening S → Making S → Pairing S → S → Certifying → S → Failure → Type 0
 CertifyWithFails {S} o m b old c new failure =

@@ -20,13 +20,15 @@ use Rattle.bpf_follows.specs.Mismatches.{IsMismatch}
 use Rattle.bpf_harden_notes.specs.RefusalNumbers.{harden_slot}
 use Rattle.bpf_places.specs.Opened.{Opening}
 use Rattle.bpf_answers.specs.Loaded.{ImageFails, ReadableFails, ShortTextAt, Tried}
-use Rattle.bpf_answers.specs.Answer.{Answer, status_of}
-use Rattle.bpf_answers.specs.Answer.Answer.{NoText, NotCertified, NotProposed, NotHardened, NotShown, Lists, Written}
+use Rattle.bpf_answers.specs.Answer.{status_of}
+use Rattle.bpf_answers.specs.declared.answer.Answer.{Answer}
+use Rattle.bpf_answers.specs.declared.answer.Answer.TheVariants.{NoText, NotCertified, NotProposed, NotHardened, NotShown, Lists, Written}
 use Rattle.bpf_answers.specs.Told.{OutputFails}
 use Rattle.bpf_command_core.specs.Printed.{ImageSays, ListSays, LoadedSays, LoadedFails, YesSays}
 use Rattle.bpf_command.specs.Inferred.{IsProposal}
 use Rattle.bpf_answers.specs.declared.failure.Failure.{Failure}
 use Rattle.bpf_answers.specs.declared.failure.Failure.TheVariants.{CannotRead, NotTogether}
+use Rattle.bpf_request.specs.declared.asking.Explaining.{Explaining}
 use Rattle.bpf_request.specs.declared.subject.Subject.{Subject}
 use Rattle.bpf_request.specs.declared.subject.Subject.TheVariants.{Image, Text, Certified, Slot, Inferred, Hardened, Graph, GraphAlone, Misfit}
 use Rattle.bpf_request.specs.CommandLine.{usual_turns}
@@ -40,7 +42,7 @@ Answers says status = (answer : Answer) × (status ≡ status_of answer) × says
 -- what is said of the text at a name: its program, or why it is none
 abbrev pub TextSays : {S : Type 0} → Opening S → S → List ℕ → S → Answer → Type 0
 TextSays opening old input new (NoText e) = ShortTextAt opening old input new (λ text. (e ≡ NoRoom) ⊎ IsRefused text e)
-TextSays opening old input new (Lists is) = ShortTextAt opening old input new (λ text. Assembles text is)
+TextSays opening old input new (Lists p) = ShortTextAt opening old input new (λ text. Assembles text p.list)
 TextSays opening old input new answer = ⊥
 
 -- the status of the checker's answer: 0 where it certifies, else 1
@@ -114,9 +116,9 @@ abbrev pub LinesFail : {S : Type 0} → Opening S → S → Option (Bor (List �
 LinesFail opening old (Some lines) new (CannotRead name) = (name.now ≡ lines.now) × Tried opening old lines.now new
 LinesFail opening old lines new failure = OutputFails failure
 
-abbrev pub ExplainWithSays : {S : Type 0} → Opening S → Order → S → List ℕ → Subject → Option (Bor (List ℕ)) → S → ℕ → Type 0
-ExplainWithSays {S} o order old input subject lines new status = (between : S) × LinesAt o old lines between × ExplainSays o order between input subject new status
+abbrev pub ExplainWithSays : {S : Type 0} → Opening S → S → Explaining → S → ℕ → Type 0
+ExplainWithSays {S} o old e new status = (between : S) × LinesAt o old e.lines between × ExplainSays o e.order between e.input.now e.subject new status
 
-abbrev pub ExplainWithFails : {S : Type 0} → Opening S → Order → S → List ℕ → Subject → Option (Bor (List ℕ)) → S → Failure → Type 0
-ExplainWithFails {S} o order old input subject lines new failure =
-    LinesFail o old lines new failure ⊎ ((between : S) × LinesAt o old lines between × ExplainFails o order between input subject new failure)
+abbrev pub ExplainWithFails : {S : Type 0} → Opening S → S → Explaining → S → Failure → Type 0
+ExplainWithFails {S} o old e new failure =
+    LinesFail o old e.lines new failure ⊎ ((between : S) × LinesAt o old e.lines between × ExplainFails o e.order between e.input.now e.subject new failure)

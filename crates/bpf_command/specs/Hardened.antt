@@ -1,5 +1,5 @@
 -- What is hardened, and what is put at the names of the answer.
-use Rattle.std.specs.Prelude.{◌≡◌, ◌⊎◌, ◌<◌, ℕ, List, true, false, Option, Some, None, IfSome, IsSomeAnd, unwrap_or, ⊤}
+use Rattle.std.specs.Prelude.{◌≡◌, ◌⊎◌, ◌<◌, ℕ, List, true, false, Option, Some, None, IfSome, IfNone, IsSomeAnd, MatchOption, unwrap_or, ⊤}
 use Rattle.std.specs.Borrow.{Bor}
 use Rattle.bpf_insn.specs.Instruction.{Instructions, slots}
 use Rattle.bpf_insn.specs.Image.{IsProgram, image}
@@ -7,6 +7,7 @@ use Rattle.bpf_follows_law.specs.declared.notes.Bounds.{Bounds}
 use Rattle.bpf_follows_law.specs.declared.notes.Place.{Place}
 use Rattle.bpf_follows_law.specs.Matching.{Matches}
 use Rattle.bpf_follows.specs.Mismatches.{IsMismatch}
+use Rattle.bpf_follows.specs.declared.mismatch.Mismatch.{Mismatch}
 use Rattle.bpf_follows_law.specs.Meaning.{KeepsMeaning}
 use Rattle.bpf_follows_notes.specs.NotesText.{notes_text}
 use Rattle.bpf_harden_notes.specs.RefusalNumbers.{harden_slot}
@@ -14,11 +15,13 @@ use Rattle.bpf_request.specs.declared.hardening.Hardening.{Hardening}
 use Rattle.bpf_places.specs.Opened.{Opening}
 use Rattle.bpf_answers.specs.Loaded.{ImageFails, ImageRefused, LoadsImage, Tried}
 use Rattle.bpf_places.specs.Made.{Making}
-use Rattle.bpf_answers.specs.Answer.{Answer}
-use Rattle.bpf_answers.specs.Answer.Answer.{NoImage, NotHardened, NotShown, Written, WrittenFor}
+use Rattle.bpf_answers.specs.declared.answer.Answer.{Answer}
+use Rattle.bpf_answers.specs.declared.answer.Answer.TheVariants.{NoImage as ImageAnswer, NotHardened as HardenAnswer, NotShown as ShowAnswer, Written, WrittenFor}
+use Rattle.bpf_command.specs.declared.commands.harden.Attempt.{Attempt}
+use Rattle.bpf_command.specs.declared.commands.harden.Attempt.TheVariants.{NoImage, NotHardened, NotShown, Hardened}
+use Rattle.bpf_command.specs.declared.commands.harden.Kept.{Kept}
 use Rattle.bpf_command.specs.declared.commands.harden.Unshown.{Unshown}
 use Rattle.bpf_command.specs.declared.commands.harden.Unshown.TheVariants.{Memory as NoSpace, Differs}
-use Rattle.bpf_answers.specs.Told.{OutputFails}
 use Rattle.bpf_answers.specs.declared.failure.Failure.{Failure}
 use Rattle.bpf_answers.specs.declared.failure.Failure.TheVariants.{CannotRead, CannotWrite, NoMemory}
 
@@ -77,62 +80,76 @@ abbrev pub said_answer : Option ℕ → Answer
 said_answer None = Written
 said_answer (Some untouched) = WrittenFor untouched
 
+-- what is answered of a hardening
+abbrev pub attempt_answer : Attempt → Answer
+attempt_answer (NoImage e) = ImageAnswer e
+attempt_answer (NotHardened e) = HardenAnswer e
+attempt_answer (NotShown m) = ShowAnswer m
+attempt_answer (Hardened kept) = said_answer kept.said
+
 -- What was made isn't shown to keep the meaning: for want of memory, or, without `--unproved`, since notes don't match.
 abbrev pub IsUnshown : Instructions → Instructions → Hardening → Unshown → Type 0
 IsUnshown program made h NoSpace = ⊤
 IsUnshown program made h (Differs m) = (h.unproved ≡ false) × ((notes : List (Option Place)) × IsMismatch program made notes (bounds_of h (asked_bytes h)) m)
 
--- The image is a program's, and what was made of it is a program; without `--unproved` it keeps the meaning, since the notes match: on the
--- contexts and for the turns that were asked for, where runs leave so many bytes to r10.
-pub record Hardens {S : Type 0} (opening : Opening S) (old : S) (h : Hardening) (untouched : ℕ) (new : S) (made : Instructions) (notes : List (Option Place)) : Type 0 where
+-- Notes show that what was made keeps the meaning, for these contexts and runs; or this fails of them.
+abbrev pub Show : Instructions → Instructions → List (Option Place) → Bounds → Option Mismatch → Type 0
+Show program made notes bounds mismatch = MatchOption mismatch (Matches program made notes bounds) (IsMismatch program made notes bounds)
+
+-- What is told of a hardened program is so: on the contexts and for the turns that were asked for, where runs leave so many bytes to r10, its notes
+-- match, or this fails of them. Without `--unproved` they match.
+pub record IsKept (program made : Instructions) (h : Hardening) (notes : List (Option Place)) (kept : Kept) : Type 0 where
+  pub untouched : ℕ
+  pub left : AreLeft h untouched
+  pub said : IsLeftSaid h untouched kept.said
+  pub bounds_are : kept.bounds ≡ bounds_of h untouched
+  pub shown : Show program made notes kept.bounds kept.mismatch
+  pub proved : h.unproved ≡ false → kept.mismatch ≡ None
+
+-- The image is a program's, and what was made of it is a program, of which what is told is so. Where its notes match it keeps the meaning.
+pub record Hardens {S : Type 0} (opening : Opening S) (old : S) (h : Hardening) (new : S) (made : Instructions) (notes : List (Option Place)) (kept : Kept) : Type 0 where
   pub program : Instructions
   pub loads : LoadsImage opening h.order old h.input.now new program
   pub is_program : IsProgram made.list
-  pub matches : h.unproved ≡ false → Matches program made notes (bounds_of h untouched)
-  pub keeps : h.unproved ≡ false → KeepsMeaning program made (bounds_of h untouched)
+  pub is_kept : IsKept program made h notes kept
+  pub keeps : IfNone kept.mismatch (KeepsMeaning program made kept.bounds)
 
 -- OUT holds the image of the program that was made, and the texts stand at their names
-abbrev pub AllStand : {S : Type 0} → Opening S → Making S → S → Hardening → S → Option ℕ → Type 0
-AllStand {S} opening making old h new said =
-    (between put : S) × (made : Instructions) × (notes : List (Option Place)) × (untouched : ℕ) × IsLeftSaid h untouched said × Hardens opening old h untouched between made notes
+abbrev pub AllStand : {S : Type 0} → Opening S → Making S → S → Hardening → S → Kept → Type 0
+AllStand {S} opening making old h new kept =
+    (between put : S) × (made : Instructions) × (notes : List (Option Place)) × Hardens opening old h between made notes kept
     × making between h.output.now (image made.order made.list) true put × BothStand making put h (notes_text notes) new
 
 -- all stand, or none of them is opened
-abbrev pub HardenSays : {S : Type 0} → Opening S → Making S → S → Hardening → S → Answer → Type 0
+abbrev pub HardenSays : {S : Type 0} → Opening S → Making S → S → Hardening → S → Attempt → Type 0
 HardenSays opening making old h new (NoImage e) = ImageRefused opening h.order old h.input.now new e
 HardenSays opening making old h new (NotHardened e) = (p : Instructions) × LoadsImage opening h.order old h.input.now new p × (harden_slot e < slots p.list)
 HardenSays opening making old h new (NotShown m) =
     (p : Instructions) × (made : Instructions) × LoadsImage opening h.order old h.input.now new p × IsProgram made.list × IsUnshown p made h (Differs m)
-HardenSays opening making old h new Written = AllStand opening making old h new None
-HardenSays opening making old h new (WrittenFor untouched) = AllStand opening making old h new (Some untouched)
-HardenSays opening making old h new answer = ⊥
+HardenSays opening making old h new (Hardened kept) = AllStand opening making old h new kept
 
 -- the image can't be put at OUT
 abbrev pub NoOut : {S : Type 0} → Opening S → Making S → S → Hardening → S → Type 0
 NoOut {S} opening making old h new =
-    (between : S) × (made : Instructions) × (notes : List (Option Place)) × (untouched : ℕ) × Hardens opening old h untouched between made notes
+    (between : S) × (made : Instructions) × (notes : List (Option Place)) × (kept : Kept) × Hardens opening old h between made notes kept
     × making between h.output.now (image made.order made.list) false new
 
 -- it stands at OUT, and of the texts this holds
 abbrev pub BehindOut : {S : Type 0} → Opening S → Making S → S → Hardening → (S → Type 0) → Type 0
 BehindOut {S} opening making old h holds =
-    (between put : S) × (made : Instructions) × (notes : List (Option Place)) × (untouched : ℕ) × Hardens opening old h untouched between made notes
+    (between put : S) × (made : Instructions) × (notes : List (Option Place)) × (kept : Kept) × Hardens opening old h between made notes kept
     × making between h.output.now (image made.order made.list) true put × holds put
 
 -- the texts are written when OUT stands
 abbrev pub HardenFails : {S : Type 0} → Opening S → Making S → S → Hardening → S → Failure → Type 0
 HardenFails opening making old h new (CannotRead name) = ImageFails opening old h.input.now new (CannotRead name)
 HardenFails opening making old h new (CannotWrite name) =
-    OutputFails (CannotWrite name)
-    ⊎ ((name.now ≡ h.output.now) × NoOut opening making old h new)
+    ((name.now ≡ h.output.now) × NoOut opening making old h new)
     ⊎ BehindOut opening making old h (λ put. NotBothPut making put h new (CannotWrite name))
-HardenFails opening making old h new failure = OutputFails failure
+HardenFails opening making old h new NoMemory = ⊤
+HardenFails opening making old h new failure = ⊥
 
--- where that fails, the input was opened, or couldn't be, and nothing came to stand at OUT; or OUT stands, and not both texts do; or all
--- stand, and what is to be said of them isn't
+-- where that fails, the input was opened, or couldn't be, and nothing came to stand at OUT; or OUT stands, and not both texts do
 abbrev pub NotAllMade : {S : Type 0} → Opening S → Making S → S → Hardening → S → Type 0
 NotAllMade opening making old h new =
-    Tried opening old h.input.now new
-    ⊎ NoOut opening making old h new
-    ⊎ BehindOut opening making old h (λ put. NotBothStand making put h new)
-    ⊎ ((said : Option ℕ) × AllStand opening making old h new said)
+    Tried opening old h.input.now new ⊎ NoOut opening making old h new ⊎ BehindOut opening making old h (λ put. NotBothStand making put h new)

@@ -4,6 +4,8 @@ pub mod Hardened
 pub mod Names
 pub mod Explained
 pub mod Certified
-pub mod Conversion
-pub mod Emission
 pub mod Response
+pub mod Conflicts
+pub mod Obstacles
+pub mod Found
+pub mod Remarks

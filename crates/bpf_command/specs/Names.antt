@@ -1,6 +1,7 @@
 -- Which names `explain` opens, in which order.
 use Rattle.std.specs.Prelude.{ℕ, List, [], ◌∷◌, Option, Some, None}
 use Rattle.std.specs.Borrow.{Bor}
+use Rattle.bpf_request.specs.declared.asking.Explaining.{Explaining}
 use Rattle.bpf_request.specs.declared.subject.Subject.{Subject}
 use Rattle.bpf_request.specs.declared.subject.Subject.TheVariants.{Image, Text, Certified, Slot, Inferred, Hardened, Graph, GraphAlone, Misfit}
 
@@ -20,3 +21,6 @@ names_explained input (Misfit clash) = []
 abbrev pub behind_lines : Option (Bor (List ℕ)) → List (List ℕ) → List (List ℕ)
 behind_lines None names = names
 behind_lines (Some lines) names = lines.now ∷ names
+
+abbrev pub names_opened : Explaining → List (List ℕ)
+names_opened e = behind_lines e.lines (names_explained e.input.now e.subject)

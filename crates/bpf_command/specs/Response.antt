@@ -1,287 +1,177 @@
 -- What the command answers to its words, whatever they ask for.
-use Rattle.std.specs.Prelude.{◌≡◌, ◌≢◌, ◌⊎◌, ◌&&◌, ◌||◌, ⊤, Bool, true, false, List, [], ◌∷◌, ℕ, Option, Some, None, nat_lt, codes, option_map, unwrap_or, if◌then◌else◌}
-use Rattle.std.specs.Option.{option_or}
-use Rattle.std.specs.Borrow.{Bor}
+use Rattle.std.specs.Prelude.{◌≡◌, ◌≢◌, ◌⊎◌, ⊤, Bool, true, false, List, [], ◌∷◌, ℕ, Option, Some, None, Result, Ok, Err, MatchResult}
 use Rattle.std.specs.Io.KnownBytes.{Keeps}
 use Rattle.clap.specs.Words.{Text, subcommand_of}
-use Rattle.bpf_request.specs.CommandLine.{IsAsked, bpf, faults_in, hardening_of, name_of}
-use Rattle.bpf_places.specs.Opened.{Opening}
-use Rattle.bpf_places.specs.Made.{Making}
-use Rattle.bpf_answers.specs.Loaded.{ImageFails, OpensFirst}
-use Rattle.bpf_answers.specs.Answer.{Answered, Unfinished}
-use Rattle.bpf_command_core.specs.Printed.{LoadedFails, ImageSays, GroupsSay, ListSays, notes_of, AsmSays, AsmFails, NotAssembled, MigrateSays, MigrateFails, NotMigrated, CheckSays}
-use Rattle.bpf_command.specs.Inferred.{InferSays, InferFails, NotInferred}
-use Rattle.bpf_command.specs.Hardened.{HardenFails, HardenSays, NotAllMade}
-use Rattle.bpf_answers.specs.Both.{Pairing}
-use Rattle.bpf_command.specs.Certified.{CertifyWithFails, CertifyWithSays, NotCertifiedWith}
-use Rattle.bpf_command.specs.Conversion.{IsConversionInTheWay, conversion_conflict}
-use Rattle.bpf_command.specs.Emission.{emission_conflict}
-use Rattle.bpf_command_c.specs.Emitted.{EmitFails, EmitSays, NotEmitted}
-use Rattle.bpf_command_convert.specs.Converted.{ConvertFails, ConvertSays, NotConverted}
-use Rattle.bpf_command_core.specs.Followed.{FollowsFails, FollowsSays}
-use Rattle.bpf_command_core.specs.Given.{CheckedFails, CheckedLeaves, CheckedSays, RunFails, RunLeaves, RunSays}
-use Rattle.bpf_command_core.specs.Names.{names_checked, names_run}
-use Rattle.bpf_command_core.specs.Replayed.{ReplayedFails, ReplayedLeaves, ReplayedSays, names_replayed}
-use Rattle.bpf_command.specs.Names.{behind_lines, names_explained}
-use Rattle.bpf_command.specs.Explained.{ExplainWithFails, ExplainWithSays}
-use Rattle.bpf_answers.specs.Told.{IsTold}
-use Rattle.std.specs.Str.{bytes_eq}
-use Rattle.bpf_request.specs.declared.certifying.Certifying.{Certifying}
-use Rattle.bpf_request.specs.declared.hardening.Hardening.{Hardening}
+use Rattle.bpf_request.specs.CommandLine.{IsAsked, bpf, faults_in}
 use Rattle.bpf_request.specs.declared.words.Request.{Request}
 use Rattle.bpf_request.specs.declared.words.Request.TheVariants.{Groups, Asm, List as ListOf, Run, Check, RunChecked, Replay, Infer, Harden, Certify, Convert, ToC, Follows, Migrate, Explain}
-use Rattle.bpf_request.specs.declared.subject.Aspect.{Aspect}
-use Rattle.bpf_request.specs.declared.subject.Aspect.TheVariants.{Listing, Slot as OneSlot, Graph as Drawn}
-use Rattle.bpf_request.specs.declared.subject.Subject.{Subject}
-use Rattle.bpf_request.specs.declared.subject.Subject.TheVariants.{Image, Text as TextAlone, Certified, Slot, Inferred, Hardened, Graph, GraphAlone, Misfit}
+use Rattle.bpf_places.specs.Opened.{Opening}
+use Rattle.bpf_places.specs.Made.{Making, making}
+use Rattle.bpf_answers.specs.Both.{Pairing, pairing}
+use Rattle.bpf_answers.specs.Loaded.{ImageFails, OpensFirst}
+use Rattle.bpf_answers.specs.Told.{IsTold}
 use Rattle.bpf_answers.specs.declared.failure.Failure.{Failure}
-use Rattle.bpf_answers.specs.declared.failure.Failure.TheVariants.{NoMemory, MostBelowLeast, InputTwice, NotTogether}
+use Rattle.bpf_answers.specs.declared.failure.Failure.TheVariants.{NoMemory, NotTogether}
+use Rattle.bpf_command_c.specs.Emitted.{EmitFails, EmitSays, NotEmitted}
+use Rattle.bpf_command_convert.specs.Converted.{ConvertFails, ConvertSays, NotConverted}
+use Rattle.bpf_command_convert.specs.Standing.{Placing, placing}
+use Rattle.bpf_command_core.specs.Followed.{FollowsFails, FollowsSays}
+use Rattle.bpf_command_core.specs.Given.{CheckedFails, CheckedLeaves, CheckedSays, Replies, RepliesEach, RunFails, RunLeaves, RunSays}
+use Rattle.bpf_command_core.specs.Names.{names_checked, names_run}
+use Rattle.bpf_command_core.specs.Printed.{AsmFails, AsmSays, CheckSays, GroupsSay, ImageSays, ListSays, LoadedFails, MigrateFails, MigrateSays, NotAssembled, NotMigrated, notes_of}
+use Rattle.bpf_command_core.specs.Replayed.{ReplayedFails, ReplayedLeaves, ReplayedSays, names_replayed}
+use Rattle.bpf_command.specs.Certified.{CertifyWithFails, CertifyWithSays, NotCertifiedWith}
+use Rattle.bpf_command.specs.Conflicts.{conflict_of}
+use Rattle.bpf_command.specs.Explained.{ExplainWithFails, ExplainWithSays}
+use Rattle.bpf_command.specs.Found.{Assesses, Converts, Finding, Gives, HardensTo, Infers, Prints, reply_of}
+use Rattle.bpf_command.specs.Hardened.{HardenFails, HardenSays, NotAllMade}
+use Rattle.bpf_command.specs.Inferred.{InferFails, InferSays, NotInferred}
+use Rattle.bpf_command.specs.Names.{names_opened}
+use Rattle.bpf_command.specs.Obstacles.{Meeting, Obstructs}
 
--- ---- words that can't stand together
+-- ---- names
 
--- standard input for both names
-abbrev pub twice : List ℕ → List ℕ → Option Failure
-twice first second = if bytes_eq first (codes "-") && bytes_eq second (codes "-") then Some InputTwice else None
+-- What may be done at names, and the places that a command came to and those that it left.
+pub record AtNames (S : Type 0) : Type 1 where
+  pub meets : Meeting S
+  pub opens : Opening S
+  pub makes : Making S
+  pub pairs : Pairing S
+  pub places : Placing S
+  pub old : S
+  pub new : S
 
--- standard input for two of three names
-abbrev pub thrice : List ℕ → List ℕ → List ℕ → Option Failure
-thrice first second third = option_or (option_or (twice first second) (twice first third)) (twice second third)
+abbrev pub at_names : {S W : Type 0} → Meeting S → Opening S → (S → List ℕ → Option W → S → Type 0) → (S → W → Bool → S → Type 0) → (W → Option (List ℕ)) → S → S → AtNames S
+at_names meets opens creates ends contents old new =
+    record {
+      meets = meets;
+      opens = opens;
+      makes = making creates ends contents;
+      pairs = pairing creates ends contents;
+      places = placing creates ends contents;
+      old = old;
+      new = new;
+    }
 
--- the name that is given, if one is
-abbrev pub name_given : Option (Bor (List ℕ)) → List ℕ
-name_given name = unwrap_or (option_map (λ s. s.now) name) []
+-- no name was touched, and nothing was printed
+abbrev pub Untouched : {S : Type 0} → AtNames S → Option (List ℕ) → Option (List ℕ) → Type 0
+Untouched n before after = (n.new ≡ n.old) × Keeps before after
 
--- source lines where none are shown
-abbrev pub misplaced : Option (Bor (List ℕ)) → Option Failure
-misplaced None = None
-misplaced (Some lines) = Some NotTogether
+-- ---- what is found, and why not
 
--- source lines to a graph
-abbrev pub misplaced_in : Option (Bor (List ℕ)) → Aspect → Option Failure
-misplaced_in lines Listing = None
-misplaced_in lines (OneSlot slot) = None
-misplaced_in lines Drawn = misplaced lines
+-- What was found for a request; what stood at the names that were read, and what was put at OUT. Contexts and packets are answered as they are
+-- read, and `explain` prints words; nothing else is printed.
+abbrev pub Does : {S : Type 0} → AtNames S → Option (List ℕ) → Option (List ℕ) → Request → Finding → Type 0
+Does n before after (Groups g) found = Gives (Replies (ImageSays n.opens g.order n.old g.input.now n.new GroupsSay) before after) found
+Does n before after (Asm a) found = Gives (Replies (AsmSays n.opens n.makes a.order n.old a.input.now a.output.now n.new) before after) found
+Does n before after (ListOf l) found = Gives (Replies (ImageSays n.opens l.order n.old l.input.now n.new (ListSays (notes_of l.slots l.bytes))) before after) found
+Does n before after (Run r) found = Gives (RunSays n.opens n.old r r.contexts n.new before after) found
+Does n before after (Check c) found = Gives (Replies (CheckSays n.opens c.order n.old c.input.now c.certificate.now n.new c.work) before after) found
+Does n before after (RunChecked r) found = Gives (CheckedSays n.opens n.old r r.contexts n.new before after) found
+Does n before after (Replay r) found = Gives (ReplayedSays n.opens n.old r n.new before after) found
+Does n before after (Infer i) found = Infers (InferSays n.opens n.makes n.old i n.new) found × Keeps before after
+Does n before after (Harden h) found = HardensTo (HardenSays n.opens n.makes n.old h n.new) found × Keeps before after
+Does n before after (Certify c) found = Assesses (CertifyWithSays n.opens n.makes n.pairs n.old c n.new) found × Keeps before after
+Does n before after (Convert c) found = Converts (ConvertSays n.opens n.places n.old c n.new) found × Keeps before after
+Does n before after (ToC e) found = Gives (Replies (EmitSays n.opens n.makes n.old e n.new) before after) found
+Does n before after (Follows f) found = Gives (Replies (FollowsSays n.opens n.old f n.new) before after) found
+Does n before after (Explain e) found = Gives (RepliesEach (λ before after. ExplainWithSays n.opens n.old e n.new) before after) found
+Does n before after (Migrate t) found = Gives (Replies (MigrateSays n.opens n.makes n.old t.certificate.now t.output.now n.new) before after) found
 
--- the greatest length below the least
-abbrev pub out_of_order : ℕ → ℕ → Option Failure
-out_of_order least most = if nat_lt most least then Some MostBelowLeast else None
+-- What failed of a request without a conflict.
+abbrev pub Misses : {S : Type 0} → AtNames S → Option (List ℕ) → Option (List ℕ) → Request → Failure → Type 0
+Misses n before after (Groups g) = ImageFails n.opens n.old g.input.now n.new
+Misses n before after (Asm a) = AsmFails n.opens n.makes a.order n.old a.input.now a.output.now n.new
+Misses n before after (ListOf l) = ImageFails n.opens n.old l.input.now n.new
+Misses n before after (Run r) = RunFails n.opens n.old r r.contexts n.new before after
+Misses n before after (Check c) = LoadedFails n.opens c.order n.old c.input.now c.certificate.now n.new
+Misses n before after (RunChecked r) = CheckedFails n.opens n.old r r.contexts n.new before after
+Misses n before after (Replay r) = ReplayedFails n.opens n.old r n.new before after
+Misses n before after (Infer i) = InferFails n.opens n.makes n.old i n.new
+Misses n before after (Harden h) = HardenFails n.opens n.makes n.old h n.new
+Misses n before after (Certify c) = CertifyWithFails n.opens n.makes n.pairs n.old c n.new
+Misses n before after (Convert c) = ConvertFails n.opens n.places n.old c n.new
+Misses n before after (ToC e) = EmitFails n.opens n.makes n.old e n.new
+Misses n before after (Follows f) = FollowsFails n.opens n.old f n.new
+Misses n before after (Explain e) = ExplainWithFails n.opens n.old e n.new
+Misses n before after (Migrate t) = MigrateFails n.opens n.makes n.old t.certificate.now t.output.now n.new
 
--- one name for two things that are written
-abbrev pub same_name : List ℕ → Option (Bor (List ℕ)) → Option Failure
-same_name first None = None
-same_name first (Some second) = if bytes_eq first second.now then Some NotTogether else None
+-- What stands on standard output then: nothing new; of contexts and packets a beginning of the answers to the first ones. Of the words of `explain`
+-- nothing is said.
+abbrev pub Leaves : {S : Type 0} → AtNames S → Option (List ℕ) → Option (List ℕ) → Request → Type 0
+Leaves n before after (Groups g) = Keeps before after
+Leaves n before after (Asm a) = Keeps before after
+Leaves n before after (ListOf l) = Keeps before after
+Leaves n before after (Run r) = RunLeaves n.opens n.old r r.contexts n.new before after
+Leaves n before after (Check c) = Keeps before after
+Leaves n before after (RunChecked r) = CheckedLeaves n.opens n.old r r.contexts n.new before after
+Leaves n before after (Replay r) = ReplayedLeaves n.opens n.old r n.new before after
+Leaves n before after (Infer i) = Keeps before after
+Leaves n before after (Harden h) = Keeps before after
+Leaves n before after (Certify c) = Keeps before after
+Leaves n before after (Convert c) = Keeps before after
+Leaves n before after (ToC e) = Keeps before after
+Leaves n before after (Follows f) = Keeps before after
+Leaves n before after (Explain e) = ⊤
+Leaves n before after (Migrate t) = Keeps before after
 
-abbrev pub same_names : (first second : Option (Bor (List ℕ))) → Option Failure
-same_names None second = None
-same_names (Some first) second = same_name first.now second
+-- What was done at the names then: those that it reads were opened in their order, up to one; what it makes isn't there.
+abbrev pub NotMade : {S : Type 0} → AtNames S → Request → Type 0
+NotMade n (Groups g) = OpensFirst n.opens (g.input.now ∷ []) n.old n.new
+NotMade n (Asm a) = NotAssembled n.opens n.makes a.order n.old a.input.now a.output.now n.new
+NotMade n (ListOf l) = OpensFirst n.opens (l.input.now ∷ []) n.old n.new
+NotMade n (Run r) = OpensFirst n.opens (names_run r.input.now r.contexts) n.old n.new
+NotMade n (Check c) = OpensFirst n.opens (c.input.now ∷ c.certificate.now ∷ []) n.old n.new
+NotMade n (RunChecked r) = OpensFirst n.opens (names_checked r.input.now r.certificate.now r.contexts) n.old n.new
+NotMade n (Replay r) = OpensFirst n.opens (names_replayed r) n.old n.new
+NotMade n (Infer i) = NotInferred n.opens n.makes n.old i n.new
+NotMade n (Harden h) = NotAllMade n.opens n.makes n.old h n.new
+NotMade n (Certify c) = NotCertifiedWith n.opens n.makes n.pairs n.old c n.new
+NotMade n (Convert c) = NotConverted n.opens n.places n.old c n.new
+NotMade n (ToC e) = NotEmitted n.opens n.makes n.old e n.new
+NotMade n (Follows f) = OpensFirst n.opens (f.original.now ∷ f.rewritten.now ∷ f.notes.now ∷ []) n.old n.new
+NotMade n (Explain e) = OpensFirst n.opens (names_opened e) n.old n.new
+NotMade n (Migrate t) = NotMigrated n.opens n.makes n.old t.certificate.now t.output.now n.new
 
--- of OUT, the notes and the changes
-abbrev pub written_twice : List ℕ → (notes changes : Option (Bor (List ℕ))) → Option Failure
-written_twice output notes changes = option_or (option_or (same_name output notes) (same_name output changes)) (same_names notes changes)
+-- so of a failure
+abbrev pub IsMissed : {S : Type 0} → AtNames S → Option (List ℕ) → Option (List ℕ) → Request → Failure → Type 0
+IsMissed n before after request failure = Misses n before after request failure × Leaves n before after request × NotMade n request
 
--- standard output for a file, where it takes the line
-abbrev pub dashed : List ℕ → Option Failure
-dashed name = if bytes_eq name (codes "-") then Some NotTogether else None
-
-abbrev pub dashed_if : Option (Bor (List ℕ)) → Option Failure
-dashed_if None = None
-dashed_if (Some name) = dashed name.now
-
--- of what is certified: standard output or one name for two things that are written, or standard input for two that are read
-abbrev pub certify_conflict : Certifying → Option Failure
-certify_conflict c =
-    option_or
-    (option_or (option_or (option_or (option_or (dashed c.output.now) (dashed c.certificate.now)) (dashed_if c.notes)) (dashed_if c.changes))
-    (option_or (option_or (written_twice c.output.now c.notes c.changes) (written_twice c.certificate.now c.notes c.changes)) (same_name c.output.now (Some c.certificate))))
-    (twice c.input.now (name_given c.lines))
-
--- what can't be explained of this input
-abbrev pub conflict_with : List ℕ → Option (Bor (List ℕ)) → Subject → Option Failure
-conflict_with input lines Image = misplaced lines
-conflict_with input lines TextAlone = misplaced lines
-conflict_with input lines (Certified certificate) = thrice input certificate.now (name_given lines)
-conflict_with input lines (Slot certificate slot) = thrice input certificate.now (name_given lines)
-conflict_with input lines (Inferred least most deep aspect) = option_or (out_of_order least most) (option_or (misplaced_in lines aspect) (twice input (name_given lines)))
-conflict_with input lines (Hardened length padded aspect) = option_or (misplaced_in lines aspect) (twice input (name_given lines))
-conflict_with input lines (Graph certificate) = option_or (misplaced lines) (twice input certificate.now)
-conflict_with input lines GraphAlone = misplaced lines
-conflict_with input lines (Misfit clash) = Some NotTogether
-
-abbrev pub conflict_of : Request → Option Failure
-conflict_of (Groups input order) = None
-conflict_of (Asm input output order) = None
-conflict_of (ListOf input slots bytes order) = None
-conflict_of (Run input contexts steps trace order) = twice input.now (name_of contexts)
-conflict_of (Check input certificate work order) = twice input.now certificate.now
-conflict_of (RunChecked input certificate contexts order) = thrice input.now certificate.now (name_of contexts)
-conflict_of (Replay r) = thrice r.input.now r.certificate.now (name_given r.packets)
-conflict_of (Infer input least most deep output order) = out_of_order least most
-conflict_of (Harden h) = written_twice h.output.now h.notes h.changes
-conflict_of (Certify c) = certify_conflict c
-conflict_of (Convert c) = conversion_conflict c
-conflict_of (ToC e) = emission_conflict e
-conflict_of (Follows f) = thrice f.original.now f.rewritten.now f.notes.now
-conflict_of (Migrate certificate output) = None
-conflict_of (Explain input subject lines order) = conflict_with input.now lines subject
-
--- ---- names that lead to one file
-
--- From places and two names to whether what is written for the one comes to stand in the place of what is written for the other.
-abbrev pub Meeting : Type 0 → Type 1
-Meeting S = S → List ℕ → List ℕ → Bool → Type 0
-
--- the same of a name that may be left out
-abbrev pub MeetsOne : {S : Type 0} → Meeting S → S → List ℕ → Option (Bor (List ℕ)) → Bool → Type 0
-MeetsOne meets s first None one = one ≡ false
-MeetsOne meets s first (Some second) one = meets s first second.now one
-
-abbrev pub MeetEither : {S : Type 0} → Meeting S → S → (first second : Option (Bor (List ℕ))) → Bool → Type 0
-MeetEither meets s None second one = one ≡ false
-MeetEither meets s (Some first) second one = MeetsOne meets s first.now second one
-
--- What a hardening writes has places of its own, and its notes and changes don't come in the place of the image that is hardened; or some
--- of this isn't so.
-abbrev pub IsInTheWay : {S : Type 0} → Meeting S → S → Hardening → Bool → Type 0
-IsInTheWay meets s h one =
-    (notes changes both image source : Bool)
-    × MeetsOne meets s h.output.now h.notes notes × MeetsOne meets s h.output.now h.changes changes × MeetEither meets s h.notes h.changes both
-    × MeetsOne meets s h.input.now h.notes image × MeetsOne meets s h.input.now h.changes source × (one ≡ (notes || changes || both || image || source))
-
--- a certificate doesn't come in the place of other things that are written, or of the image; or some of this isn't so
-abbrev pub IsCertificateInTheWay : {S : Type 0} → Meeting S → S → Certifying → Bool → Type 0
-IsCertificateInTheWay meets s c one =
-    (output notes changes image : Bool)
-    × meets s c.certificate.now c.output.now output × MeetsOne meets s c.certificate.now c.notes notes × MeetsOne meets s c.certificate.now c.changes changes
-    × meets s c.input.now c.certificate.now image × (one ≡ (output || notes || changes || image))
-
--- nothing that is written comes in the place of the lines of the source; or something does
-abbrev pub AreLinesInTheWay : {S : Type 0} → Meeting S → S → Certifying → Bool → Type 0
-AreLinesInTheWay meets s c one =
-    (output certificate notes changes : Bool)
-    × MeetsOne meets s c.output.now c.lines output × MeetsOne meets s c.certificate.now c.lines certificate
-    × MeetEither meets s c.notes c.lines notes × MeetEither meets s c.changes c.lines changes × (one ≡ (output || certificate || notes || changes))
-
--- what a certification writes has places of its own, as what a hardening writes has
-abbrev pub IsAnyInTheWay : {S : Type 0} → Meeting S → S → Certifying → Bool → Type 0
-IsAnyInTheWay meets s c one =
-    (hardened certificate lines : Bool)
-    × IsInTheWay meets s (hardening_of c) hardened × IsCertificateInTheWay meets s c certificate × AreLinesInTheWay meets s c lines
-    × (one ≡ (hardened || certificate || lines))
-
-abbrev pub Obstructs : {S : Type 0} → Meeting S → S → Request → Bool → Type 0
-Obstructs meets s (Groups input order) one = one ≡ false
-Obstructs meets s (Asm input output order) one = one ≡ false
-Obstructs meets s (ListOf input slots bytes order) one = one ≡ false
-Obstructs meets s (Run input contexts steps trace order) one = one ≡ false
-Obstructs meets s (Check input certificate work order) one = one ≡ false
-Obstructs meets s (RunChecked input certificate contexts order) one = one ≡ false
-Obstructs meets s (Replay r) one = one ≡ false
-Obstructs meets s (Infer input least most deep output order) one = one ≡ false
-Obstructs meets s (Explain input subject lines order) one = one ≡ false
-Obstructs meets s (Harden h) one = IsInTheWay meets s h one
-Obstructs meets s (Certify c) one = IsAnyInTheWay meets s c one
-Obstructs meets s (Convert c) one = IsConversionInTheWay meets s c one
-Obstructs meets s (ToC e) one = one ≡ false
-Obstructs meets s (Follows f) one = one ≡ false
-Obstructs meets s (Migrate certificate output) one = one ≡ false
-
--- ---- what is done, and why not
-
--- The answer to a request, which was printed with its status; what stood at the names that were read, and what was put at OUT.
-abbrev pub Does : {S : Type 0} → Opening S → Making S → Pairing S → S → S → Option (List ℕ) → Option (List ℕ) → Request → ℕ → Type 0
-Does o m b old new before after (Groups input order) = Answered (ImageSays o order old input.now new GroupsSay) before after
-Does o m b old new before after (Asm input output order) = Answered (AsmSays o m order old input.now output.now new) before after
-Does o m b old new before after (ListOf input slots bytes order) = Answered (ImageSays o order old input.now new (ListSays (notes_of slots bytes))) before after
-Does o m b old new before after (Run input contexts steps trace order) = λ status. RunSays o order old input.now contexts steps new before after status
-Does o m b old new before after (Check input certificate work order) = Answered (CheckSays o order old input.now certificate.now new work) before after
-Does o m b old new before after (RunChecked input certificate contexts order) = λ status. CheckedSays o order old input.now certificate.now contexts new before after status
-Does o m b old new before after (Replay r) = λ status. ReplayedSays o old r new before after status
-Does o m b old new before after (Infer input least most deep output order) = Answered (InferSays o m order old input.now least most output.now new) before after
-Does o m b old new before after (Explain input subject lines order) = ExplainWithSays o order old input.now subject lines new
-Does o m b old new before after (Harden h) = Answered (HardenSays o m old h new) before after
-Does o m b old new before after (Certify c) = Answered (CertifyWithSays o m b old c new) before after
-Does o m b old new before after (Convert c) = Answered (ConvertSays o b old c new) before after
-Does o m b old new before after (ToC e) = Answered (EmitSays o m old e new) before after
-Does o m b old new before after (Follows f) = Answered (FollowsSays o old f new) before after
-Does o m b old new before after (Migrate certificate output) = Answered (MigrateSays o m old certificate.now output.now new) before after
-
--- What failed of a request without a conflict; what was answered before stands on standard output.
-abbrev pub Misses : {S : Type 0} → Opening S → Making S → Pairing S → S → S → Option (List ℕ) → Option (List ℕ) → Request → Failure → Type 0
-Misses o m b old new before after (Groups input order) = ImageFails o old input.now new
-Misses o m b old new before after (Asm input output order) = AsmFails o m order old input.now output.now new
-Misses o m b old new before after (ListOf input slots bytes order) = ImageFails o old input.now new
-Misses o m b old new before after (Run input contexts steps trace order) = RunFails o order old input.now contexts steps new before after
-Misses o m b old new before after (Check input certificate work order) = LoadedFails o order old input.now certificate.now new
-Misses o m b old new before after (RunChecked input certificate contexts order) = CheckedFails o order old input.now certificate.now contexts new before after
-Misses o m b old new before after (Replay r) = ReplayedFails o old r new before after
-Misses o m b old new before after (Infer input least most deep output order) = InferFails o m order old input.now least most output.now new
-Misses o m b old new before after (Explain input subject lines order) = ExplainWithFails o order old input.now subject lines new
-Misses o m b old new before after (Harden h) = HardenFails o m old h new
-Misses o m b old new before after (Certify c) = CertifyWithFails o m b old c new
-Misses o m b old new before after (Convert c) = ConvertFails o b old c new
-Misses o m b old new before after (ToC e) = EmitFails o m old e new
-Misses o m b old new before after (Follows f) = FollowsFails o old f new
-Misses o m b old new before after (Migrate certificate output) = MigrateFails o m old certificate.now output.now new
-
--- What stands on standard output where a request without a conflict failed: nothing new, or a beginning of its answer; behind the answers to
--- the lines before, where contexts are in lines, and of packets a beginning of the answers to the first ones. Of the words of `explain` nothing is said.
-abbrev pub Leaves : {S : Type 0} → Opening S → Making S → Pairing S → S → S → Option (List ℕ) → Option (List ℕ) → Request → Type 0
-Leaves o m b old new before after (Groups input order) = Unfinished (ImageSays o order old input.now new GroupsSay) before after
-Leaves o m b old new before after (Asm input output order) = Unfinished (AsmSays o m order old input.now output.now new) before after
-Leaves o m b old new before after (ListOf input slots bytes order) = Unfinished (ImageSays o order old input.now new (ListSays (notes_of slots bytes))) before after
-Leaves o m b old new before after (Run input contexts steps trace order) = RunLeaves o order old input.now contexts steps new before after
-Leaves o m b old new before after (Check input certificate work order) = Unfinished (CheckSays o order old input.now certificate.now new work) before after
-Leaves o m b old new before after (RunChecked input certificate contexts order) = CheckedLeaves o order old input.now certificate.now contexts new before after
-Leaves o m b old new before after (Replay r) = ReplayedLeaves o old r new before after
-Leaves o m b old new before after (Infer input least most deep output order) = Unfinished (InferSays o m order old input.now least most output.now new) before after
-Leaves o m b old new before after (Explain input subject lines order) = ⊤
-Leaves o m b old new before after (Harden h) = Unfinished (HardenSays o m old h new) before after
-Leaves o m b old new before after (Certify c) = Unfinished (CertifyWithSays o m b old c new) before after
-Leaves o m b old new before after (Convert c) = Unfinished (ConvertSays o b old c new) before after
-Leaves o m b old new before after (ToC e) = Unfinished (EmitSays o m old e new) before after
-Leaves o m b old new before after (Follows f) = Unfinished (FollowsSays o old f new) before after
-Leaves o m b old new before after (Migrate certificate output) = Unfinished (MigrateSays o m old certificate.now output.now new) before after
-
--- What was done at the names of a request that failed: those that it reads were opened in their order, up to one; what it makes isn't there.
-abbrev pub NotMade : {S : Type 0} → Opening S → Making S → Pairing S → S → S → Request → Type 0
-NotMade o m b old new (Groups input order) = OpensFirst o (input.now ∷ []) old new
-NotMade o m b old new (Asm input output order) = NotAssembled o m order old input.now output.now new
-NotMade o m b old new (ListOf input slots bytes order) = OpensFirst o (input.now ∷ []) old new
-NotMade o m b old new (Run input contexts steps trace order) = OpensFirst o (names_run input.now contexts) old new
-NotMade o m b old new (Check input certificate work order) = OpensFirst o (input.now ∷ certificate.now ∷ []) old new
-NotMade o m b old new (RunChecked input certificate contexts order) = OpensFirst o (names_checked input.now certificate.now contexts) old new
-NotMade o m b old new (Replay r) = OpensFirst o (names_replayed r) old new
-NotMade o m b old new (Infer input least most deep output order) = NotInferred o m order old input.now least most output.now new
-NotMade o m b old new (Explain input subject lines order) = OpensFirst o (behind_lines lines (names_explained input.now subject)) old new
-NotMade o m b old new (Harden h) = NotAllMade o m old h new
-NotMade o m b old new (Certify c) = NotCertifiedWith o m b old c new
-NotMade o m b old new (Convert c) = NotConverted o b old c new
-NotMade o m b old new (ToC e) = NotEmitted o m old e new
-NotMade o m b old new (Follows f) = OpensFirst o (f.original.now ∷ f.rewritten.now ∷ f.notes.now ∷ []) old new
-NotMade o m b old new (Migrate certificate output) = NotMigrated o m old certificate.now output.now new
+abbrev pub Carries : {S : Type 0} → AtNames S → Option (List ℕ) → Option (List ℕ) → Request → Result Finding Failure → Type 0
+Carries n before after request result = MatchResult result (Does n before after request) (IsMissed n before after request)
 
 -- why nothing is tried: words that can't stand together, names that lead to one file, or no memory to tell that
-abbrev pub IsStopped : {S : Type 0} → Meeting S → S → Request → Failure → Type 0
-IsStopped meets s request failure =
-    (conflict_of request ≡ Some failure) ⊎ ((failure ≡ NotTogether) × Obstructs meets s request true) ⊎ (failure ≡ NoMemory)
+abbrev pub IsStopped : {S : Type 0} → AtNames S → Request → Failure → Type 0
+IsStopped n request failure = (conflict_of request ≡ Some failure) ⊎ ((failure ≡ NotTogether) × Obstructs n.meets n.old request true) ⊎ (failure ≡ NoMemory)
 
--- A request is stopped, before any name is opened or anything is printed; or something of it failed.
-abbrev pub Fails : {S : Type 0} → Meeting S → Opening S → Making S → Pairing S → S → S → Option (List ℕ) → Option (List ℕ) → Request → Failure → Type 0
-Fails meets o m b old new before after request failure =
-    (IsStopped meets old request failure × (new ≡ old) × Keeps before after)
-    ⊎ ((conflict_of request ≡ None) × Misses o m b old new before after request failure × Leaves o m b old new before after request × NotMade o m b old new request)
+-- Something was found for a request with nothing in its way; or it was stopped, before any name was opened or anything was printed; or something of
+-- it failed.
+abbrev pub Performs : {S : Type 0} → AtNames S → Option (List ℕ) → Option (List ℕ) → Request → Result Finding Failure → Type 0
+Performs n before after request (Ok found) = (conflict_of request ≡ None) × Obstructs n.meets n.old request false × Does n before after request found
+Performs n before after request (Err failure) =
+    (IsStopped n request failure × Untouched n before after) ⊎ ((conflict_of request ≡ None) × IsMissed n before after request failure)
 
--- what is done of a request with nothing in its way
-abbrev pub Serves : {S : Type 0} → Meeting S → Opening S → Making S → Pairing S → S → S → Option (List ℕ) → Option (List ℕ) → Request → ℕ → Type 0
-Serves meets o m b old new before after request status = Obstructs meets old request false × Does o m b old new before after request status
+-- ---- what is printed, and the status
 
--- ---- the answer and its status
+-- what was found was printed, or couldn't be: then the names are as it says, and standard output has a beginning of its text
+abbrev pub Replied : {S : Type 0} → AtNames S → Option (List ℕ) → Option (List ℕ) → Request → Result ℕ Failure → Type 0
+Replied n before after request result =
+    (found : Finding) × (between : Option (List ℕ)) × Performs n before between request (Ok found) × Prints (reply_of found) between after result
 
--- Of words with nothing wrong in them, what they ask for is done, with its status, or it fails, which is told with its status; words
--- with something wrong have status 2; or there is no memory for the words, which is told. In the last two nothing is touched.
-abbrev pub Responds : (Request → ℕ → Type 0) → (Request → Failure → Type 0) → Type 0 → List Text → ℕ → Option (List ℕ) → Option (List ℕ) → Type 0
-Responds does fails untouched words status old new =
-    ((request : Request) × (faults_in words ≡ []) × IsAsked (subcommand_of bpf words) request × (conflict_of request ≡ None) × does request status × Keeps old new)
-    ⊎ ((request : Request) × (failure : Failure) × (faults_in words ≡ []) × IsAsked (subcommand_of bpf words) request × fails request failure × IsTold failure status old new)
-    ⊎ (IsTold NoMemory status old new × untouched)
-    ⊎ ((faults_in words ≢ []) × (status ≡ 2) × untouched)
+-- nothing was found, and nothing more was printed; or printing it failed
+abbrev pub Fails : {S : Type 0} → AtNames S → Option (List ℕ) → Option (List ℕ) → Request → Failure → Type 0
+Fails n before after request failure = Performs n before after request (Err failure) ⊎ Replied n before after request (Err failure)
+
+-- A request is done, and what was found is printed, with its status; or it fails, which is told with its status.
+abbrev pub Serves : {S : Type 0} → AtNames S → Option (List ℕ) → Option (List ℕ) → Request → ℕ → Option (List ℕ) → Option (List ℕ) → Type 0
+Serves n before after request status old new =
+    (Replied n before after request (Ok status) × Keeps old new)
+    ⊎ ((failure : Failure) × Fails n before after request failure × IsTold failure status old new)
+
+-- Of words with nothing wrong in them, what they ask for is served; words with something wrong have status 2; or there is no memory for the words,
+-- which is told. In the last two nothing is touched.
+abbrev pub Responds : {S : Type 0} → AtNames S → Option (List ℕ) → Option (List ℕ) → List Text → ℕ → Option (List ℕ) → Option (List ℕ) → Type 0
+Responds n before after words status old new =
+    ((request : Request) × (faults_in words ≡ []) × IsAsked (subcommand_of bpf words) request × Serves n before after request status old new)
+    ⊎ ((faults_in words ≢ []) × (status ≡ 2) × Untouched n before after)
+    ⊎ (IsTold NoMemory status old new × Untouched n before after)

@@ -2,21 +2,20 @@
 
 ghost use Rattle.std.specs.Prelude.{◌≡◌, IfOk};
 ghost use Rattle.std.specs.String.{string_bytes};
-ghost use Rattle.bpf_follows_law.specs.Matching.{Matches};
-ghost use Rattle.bpf_follows.specs.Mismatches.{IsMismatch};
 ghost use Rattle.bpf_command.specs.Advice.{kept_text};
+ghost use Rattle.bpf_command.specs.declared.remark.Remark.TheVariants.{Shown};
 
 use crate::aside::Terminal;
+use crate::remark::Remark;
 use crate::shown::Line;
 use bpf_answers::{ContextError, Failure};
-use bpf_explain::may_be_found;
 use bpf_explain_harden::Unshown;
 use bpf_follows::Mismatch;
-use bpf_follows_law::{Bounds, Place};
+use bpf_follows_law::Bounds;
 use bpf_harden::HardenError;
-use bpf_infer::{Condition, InferError, Wanted};
-use bpf_insn::{Order, Program};
-use bpf_request::{Clash, Contexts, Hardening, Request, Subject};
+use bpf_infer::{Condition, InferError};
+use bpf_insn::Order;
+use bpf_request::{Clash, Contexts, Hardening, Inferring, Request, Subject};
 use std::alloc::{AllocError, Global};
 use std::fmt::{self, Display};
 use std::io::Write;
@@ -49,16 +48,10 @@ fn order_word(order: Order) -> &'static str {
 /// Names the command that tells why a request was refused, if one tells it of all its refusals. A search tells of its own.
 pub(crate) fn after_refusal<H: Terminal>(aside: &H, request: Request<'_>) {
     let (flags, order, input, certificate) = match request {
-        Request::Groups { input, order } | Request::List { input, order, .. } => {
-            ("", order, input, None)
-        }
-        Request::Asm { input, order, .. } => ("--text ", order, input, None),
-        Request::Check {
-            input,
-            certificate,
-            order,
-            ..
-        } => ("", order, input, Some(certificate)),
+        Request::Groups(asked) => ("", asked.order, asked.input, None),
+        Request::List(asked) => ("", asked.order, asked.input, None),
+        Request::Asm(asked) => ("--text ", asked.order, asked.input, None),
+        Request::Check(asked) => ("", asked.order, asked.input, Some(asked.certificate)),
         Request::ToC(asked) => ("", asked.order, asked.input, Some(asked.certificate)),
         _ => return,
     };
@@ -80,32 +73,25 @@ pub(crate) fn after_image<H: Terminal>(aside: &H, input: &str, order: Order) {
 
 // ---- a refusal of a search
 
-/// What a search was asked for.
-#[derive(Clone, Copy)]
-pub(crate) struct Sought<'a> {
-    pub input: &'a str,
-    pub wanted: Wanted,
-    pub order: Order,
-}
-
 /// The command that explains the search.
 #[derive(Clone, Copy)]
-struct Explaining<'a>(Sought<'a>);
+struct Explaining<'a>(Inferring<'a>);
 
 impl<'a> Display for Explaining<'a> {
     fn fmt<W: fmt::Write>(&self, f: &mut fmt::Formatter<W>) -> fmt::Result {
-        let Sought {
+        let Inferring {
             input,
-            wanted,
+            least,
+            most,
             order,
+            ..
         } = self.0;
-        let Wanted { least, most, .. } = wanted;
         let order = order_word(order);
         write!(f, "`bpf explain {order}{input} --infer {least}")?;
         if most != least {
             write!(f, " --most {most}")?;
         }
-        if wanted.deep {
+        if self.0.deep {
             f.write_str(" --deep")?;
         }
         f.write_str("`")
@@ -132,18 +118,21 @@ fn may_be_hardened(error: InferError) -> bool {
 /// length are hardened for.
 pub(crate) fn after_search<H: Terminal>(
     aside: &H,
-    program: &Program,
-    sought: Sought<'_>,
+    asked: Inferring<'_>,
     error: InferError,
+    may_deepen: bool,
 ) {
     if let InferError::Memory = error {
         return;
     }
-    let Sought { input, wanted, .. } = sought;
-    let Wanted { least, most, deep } = wanted;
-    let explaining = Explaining(sought);
-    let order = order_word(sought.order);
-    let may_deepen = !deep && may_be_found(program, error);
+    let Inferring {
+        input,
+        least,
+        most,
+        ..
+    } = asked;
+    let explaining = Explaining(asked);
+    let order = order_word(asked.order);
     let may_harden = least == most && may_be_hardened(error);
     match (may_deepen, may_harden) {
         (true, true) => tell!(
@@ -196,17 +185,9 @@ pub(crate) fn after_unshown<H: Terminal>(aside: &H, asked: Hardening<'_>, mismat
 
 // ---- what a hardened program is shown to keep
 
-/// Notes of a hardened program, and the contexts and runs for which they were judged.
-#[derive(Clone, Copy)]
-pub(crate) struct Judged<'a> {
-    pub old: &'a Program,
-    pub new: &'a Program,
-    pub notes: &'a [Option<Place>],
-    pub bounds: Bounds,
-}
-
-/// What is told of runs whose meaning is kept.
-fn kept_line(alloc: Global, bounds: Bounds) -> Result<String, AllocError>
+/// What is told of runs whose meaning is kept: those of the remark.
+fn kept_line(alloc: Global, _remark: Remark<'_>, bounds: Bounds) -> Result<String, AllocError>
+    requires { _remark ≡ Shown bounds }
     ensures { IfOk result (λ line. string_bytes line ≡ kept_text bounds) }
 {
     let Bounds {
@@ -225,20 +206,17 @@ fn kept_line(alloc: Global, bounds: Bounds) -> Result<String, AllocError>
     }
 }
 
-/// Tells that notes show that a hardened program keeps the meaning, and of which runs.
-pub(crate) fn after_proof<H: Terminal>(alloc: Global, aside: &H, judged: Judged<'_>)
-    requires { Matches judged.old.now judged.new.now judged.notes.now judged.bounds }
+/// Tells of which runs a hardened program is shown to keep the meaning.
+pub(crate) fn after_proof<H: Terminal>(alloc: Global, aside: &H, remark: Remark<'_>, bounds: Bounds)
+    requires { remark ≡ Shown bounds }
 {
-    if let Ok(line) = kept_line(alloc, judged.bounds) {
+    if let Ok(line) = kept_line(alloc, remark, bounds) {
         tell_line(aside, line);
     }
 }
 
 /// Tells what of the notes of a hardened program fails.
-pub(crate) fn after_mismatch<H: Terminal>(aside: &H, judged: Judged<'_>, mismatch: Mismatch)
-    requires { IsMismatch judged.old.now judged.new.now judged.notes.now judged.bounds mismatch }
-{
-    let _bounds = judged.bounds;
+pub(crate) fn after_mismatch<H: Terminal>(aside: &H, mismatch: Mismatch) {
     let (number, slot) = (mismatch.number(), mismatch.slot());
     tell!(
         aside,
@@ -270,19 +248,17 @@ fn clash_text(clash: Clash) -> &'static str {
 /// Which words of a request don't go together.
 fn misfit_text(request: Request<'_>) -> Option<&'static str> {
     match request {
-        Request::Explain {
-            subject: Subject::Misfit(clash),
-            ..
-        } => Some(clash_text(clash)),
-        Request::Explain { lines: Some(_), .. } => Some(
-            "--lines goes with CERT, --infer or --harden, and not with --dot",
-        ),
+        Request::Explain(asked) => match (asked.subject, asked.lines) {
+            (Subject::Misfit(clash), _) => Some(clash_text(clash)),
+            (_, Some(_)) => Some("--lines goes with CERT, --infer or --harden, and not with --dot"),
+            (_, None) => None,
+        },
         Request::Replay(_) => Some("--counts goes with --packets FILE"),
         Request::Certify(_) => Some(
             "OUT, CERT, --notes and --changes lead to files of their own; CERT, --notes and --changes not to IN, and none of them to --lines",
         ),
         Request::Convert(_) => Some(
-            "OUT and CERT lead to files of their own, not to IN; LEN is at least 8 for blocks, and 64 with --seccomp, which doesn't go with --plain",
+            "OUT, CERT and --listing lead to files of their own, not to IN; LEN is at least 8 for blocks, 72 with --extensions, and 64 with --seccomp; at most one of --plain, --seccomp and --extensions is given",
         ),
         Request::ToC(_) => Some(
             "--name is a letter, then up to 24 letters, digits and `_`, no keyword of C, and not `main`",
@@ -296,15 +272,13 @@ fn misfit_text(request: Request<'_>) -> Option<&'static str> {
 
 /// The word that was to spell a context.
 fn context_word<'a>(request: Request<'a>) -> Option<&'a str> {
-    match request {
-        Request::Run {
-            contexts: Contexts::Word(word),
-            ..
-        }
-        | Request::RunChecked {
-            contexts: Contexts::Word(word),
-            ..
-        } => Some(word),
+    let contexts = match request {
+        Request::Run(asked) => asked.contexts,
+        Request::RunChecked(asked) => asked.contexts,
+        _ => return None,
+    };
+    match contexts {
+        Contexts::Word(word) => Some(word),
         _ => None,
     }
 }

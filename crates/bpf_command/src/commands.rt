@@ -1,20 +1,14 @@
-//! The commands that search, harden, certify and explain, each a function from places to a status; and what is told of runs.
+//! The commands that search, harden, certify and explain, each a function from places to what it found; and what is told of runs.
 
 mod certify;
 mod changes;
-mod convert;
 mod explain;
 mod harden;
 mod infer;
-mod packets;
-mod to_c;
 mod trace;
 
-pub use certify::certified;
-pub use convert::{conversion_conflict, converted, is_conversion_in_the_way};
+pub use certify::{Assessed, Assessment, certified};
 pub use explain::explained;
-pub use harden::hardened;
-pub use infer::inferred;
-pub use packets::replay;
-pub use to_c::emission_conflict;
+pub use harden::{Attempt, Kept, hardened};
+pub use infer::{Inference, inferred};
 pub use trace::Trace;

@@ -4,7 +4,12 @@
 mod advice;
 mod aside;
 mod commands;
+mod conflicts;
+mod finding;
+mod found;
+mod obstacles;
 mod progress;
+mod remark;
 mod response;
 mod sentences;
 mod shown;

@@ -1,19 +1,21 @@
 //! A line that says how far long work is.
 
-ghost use Rattle.std.specs.Prelude.{◌≡◌, false};
+ghost use Rattle.std.specs.Prelude.{◌≡◌, IfSome, false, true};
 
 use crate::aside::{Aside, Terminal};
 use bpf_infer::Watch;
-use std::io::{IsTerminal, Write};
+use std::io::Write;
 use std::rt::Clock;
 use std::time::{Duration, Instant};
 
 /// Shows on a terminal how far a search is: after a second, and then at most four times a second, in one line that is rewritten.
 /// Elsewhere nothing is shown.
 #[derive(Drop)]
-pub struct Progress<'a, C: Clock, E: Write + IsTerminal + Drop> {
+pub struct Progress<'a, C: Clock, E: Write + Drop> {
     clock: &'a C,
-    terminal: E,
+    stream: E,
+    /// Whether that is a terminal.
+    is_terminal: bool,
     /// When the work began; None where nothing is to be shown.
     start: Option<Instant>,
     /// After how long the next line is due.
@@ -22,21 +24,24 @@ pub struct Progress<'a, C: Clock, E: Write + IsTerminal + Drop> {
     is_shown: bool,
 }
 
-impl<'a, C: Clock, E: Write + IsTerminal + Drop> Progress<'a, C, E> {
+impl<'a, C: Clock, E: Write + Drop> Progress<'a, C, E> {
     /// The work begins, and is shown on this stream if that is a terminal.
-    pub fn new(clock: &'a C, terminal: E) -> Self
-        ensures stream { result.terminal ≡ terminal }
+    pub fn new(clock: &'a C, stream: E, is_terminal: bool) -> Self
+        ensures stream { result.stream ≡ stream }
+        ensures read { result.is_terminal ≡ is_terminal }
+        ensures elsewhere { IfSome result.start (λ _. is_terminal ≡ true) }
         ensures labels { result.labels ≡ 0 }
         ensures shown { result.is_shown ≡ false }
     {
-        let start = if terminal.is_terminal() {
+        let start = if is_terminal {
             Instant::now(clock).ok()
         } else {
             None
         };
         Progress {
             clock,
-            terminal,
+            stream,
+            is_terminal,
             start,
             due: Duration::from_secs(1),
             labels: 0,
@@ -45,7 +50,7 @@ impl<'a, C: Clock, E: Write + IsTerminal + Drop> Progress<'a, C, E> {
     }
 }
 
-impl<'a, C: Clock, E: Write + IsTerminal + Drop> Watch for Progress<'a, C, E> {
+impl<'a, C: Clock, E: Write + Drop> Watch for Progress<'a, C, E> {
     // Whether the line can be written makes no difference to what is found.
     fn tell(&mut self, labels: usize) {
         let Some(start) = self.start else {
@@ -62,33 +67,35 @@ impl<'a, C: Clock, E: Write + IsTerminal + Drop> Watch for Progress<'a, C, E> {
         self.is_shown = true;
         let (labels, seconds) = (self.labels, elapsed.as_secs());
         let _ = write!(
-            self.terminal,
+            self.stream,
             "\rbpf: searching, {labels} labels gone over, {seconds} s"
         );
     }
 
     fn end(&mut self) {
         if self.is_shown {
-            let _ = write!(self.terminal, "\r\x1b[K");
+            let _ = write!(self.stream, "\r\x1b[K");
         }
         self.is_shown = false;
     }
 }
 
-impl<'a, C: Clock, E: Write + IsTerminal + Copy + Drop> Terminal for Progress<'a, C, E> {
+impl<'a, C: Clock, E: Write + Copy + Drop> Terminal for Progress<'a, C, E> {
     type Stream = E;
 
+    ghost is_read = { λ p. p.is_terminal };
+
     fn terminal(&self) -> Option<E> {
-        if self.terminal.is_terminal() {
-            Some(self.terminal)
+        if self.is_terminal {
+            Some(self.stream)
         } else {
             None
         }
     }
 }
 
-impl<'a, C: Clock, E: Write + IsTerminal + Copy + Drop> Aside for Progress<'a, C, E> {
+impl<'a, C: Clock, E: Write + Copy + Drop> Aside for Progress<'a, C, E> {
     fn stream(&self) -> E {
-        self.terminal
+        self.stream
     }
 }

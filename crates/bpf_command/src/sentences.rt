@@ -1,27 +1,31 @@
-//! Why an image isn't certified, in a sentence: on standard error, whether or not people read there.
+//! What is told beside an answer: sentences on standard error, whether or not people read there, and what helps, on a terminal.
 
-use crate::advice::{after_hardening, after_unshown};
+use crate::advice::{
+    after_hardening, after_image, after_mismatch, after_proof, after_refusal, after_search,
+    after_unshown,
+};
 use crate::aside::Aside;
+use crate::remark::Remark;
 use crate::shown::Line;
 use bpf_certify::{CertifyError, MOST_BOUND};
 use bpf_check::Refusal;
 use bpf_explain_harden::Unshown;
 use bpf_explain_program::source_at;
-use bpf_insn::DecodeError;
 use bpf_request::Certifying;
+use std::alloc::Global;
 use std::fmt::{self, Display};
 use std::io::Write;
 
 /// What was asked for, and the table of the lines of the program's source, which may be empty.
 #[derive(Clone, Copy)]
-pub(crate) struct Source<'a, 'b> {
-    pub asked: Certifying<'a>,
-    pub lines: &'b [u8],
+struct Source<'a, 'b> {
+    asked: Certifying<'a>,
+    lines: &'b [u8],
 }
 
 /// Tells a sentence in a line of its own, with the line of the source at a slot, if it is known. Whether it can be written makes no
 /// difference.
-pub(crate) fn tell_sentence<H: Aside, D: Display + Drop>(aside: &H, sentence: D, source: &str) {
+fn tell_sentence<H: Aside, D: Display + Drop>(aside: &H, sentence: D, source: &str) {
     let mut stream = aside.stream();
     let _ = write!(Line::new(&mut stream), "{sentence}");
     if !source.is_empty() {
@@ -68,13 +72,8 @@ impl Display for Unsound {
     }
 }
 
-/// Tells why bytes are no image.
-pub(crate) fn tell_image<H: Aside>(aside: &H, error: DecodeError) {
-    tell_sentence(aside, error, "");
-}
-
 /// Tells why a program isn't certified, with its slot and the line of its source, if that is known.
-pub(crate) fn tell_refusal<H: Aside>(aside: &H, source: Source<'_, '_>, error: CertifyError) {
+fn tell_refusal<H: Aside>(aside: &H, source: Source<'_, '_>, error: CertifyError) {
     let Source { asked, lines } = source;
     match error {
         CertifyError::Unhardened(error) => {
@@ -95,5 +94,27 @@ pub(crate) fn tell_refusal<H: Aside>(aside: &H, source: Source<'_, '_>, error: C
             tell_sentence(aside, dear, "");
         }
         CertifyError::Uncertified(refusal) => tell_sentence(aside, Unsound(refusal), ""),
+    }
+}
+
+/// Tells it; where the source is known, with the line of a slot. Whether it can be written makes no difference.
+pub fn tell_remark<H: Aside>(alloc: Global, aside: &H, remark: Remark<'_>, lines: &[u8]) {
+    match remark {
+        Remark::Nothing => {}
+        Remark::Why(request) => after_refusal(aside, request),
+        Remark::Image { input, order } => after_image(aside, input, order),
+        Remark::Search {
+            asked,
+            error,
+            may_deepen,
+        } => after_search(aside, asked, error, may_deepen),
+        Remark::Unhardened { asked, error } => after_hardening(aside, asked, error),
+        Remark::Unshown { asked, mismatch } => after_unshown(aside, asked, mismatch),
+        Remark::Shown(bounds) => after_proof(alloc, aside, remark, bounds),
+        Remark::Unproved(mismatch) => after_mismatch(aside, mismatch),
+        Remark::NoImage(error) => tell_sentence(aside, error, ""),
+        Remark::Uncertified { asked, error } => tell_refusal(aside, Source { asked, lines }, error),
+        Remark::Capture(refusal) => tell_sentence(aside, refusal, ""),
+        Remark::Filter(why) => tell_sentence(aside, why, ""),
     }
 }

@@ -1,5 +1,5 @@
 -- Which text is written, what is answered, and what is put at OUT.
-use Rattle.std.specs.Prelude.{◌≡◌, ◌⊎◌, Bool, true, false, List, ℕ}
+use Rattle.std.specs.Prelude.{◌≡◌, ◌⊎◌, Bool, true, false, ⊤, List, ℕ}
 use Rattle.bpf_insn.specs.Instruction.{Instructions}
 use Rattle.bpf_cert.specs.View.{CertificateView}
 use Rattle.bpf_safety.specs.Certified.{IsLeastFlaw}
@@ -10,12 +10,11 @@ use Rattle.bpf_c.specs.declared.bounds.Promise.{Promise}
 use Rattle.bpf_request.specs.declared.emitting.Emitting.{Emitting}
 use Rattle.bpf_places.specs.Opened.{Opening}
 use Rattle.bpf_places.specs.Made.{Making}
-use Rattle.bpf_answers.specs.Answer.{Answer}
-use Rattle.bpf_answers.specs.Answer.Answer.{NoImage, NoCertificate, NotCertified, Written}
+use Rattle.bpf_answers.specs.declared.answer.Answer.{Answer}
+use Rattle.bpf_answers.specs.declared.answer.Answer.TheVariants.{NoImage, NoCertificate, NotCertified, Written}
 use Rattle.bpf_answers.specs.Loaded.{LoadsImage, ImageFails, ImageRefused, CertificateAt, CertificateFails, CertificateRefused, Tried}
-use Rattle.bpf_answers.specs.Told.{OutputFails}
 use Rattle.bpf_answers.specs.declared.failure.Failure.{Failure}
-use Rattle.bpf_answers.specs.declared.failure.Failure.TheVariants.{CannotRead, CannotWrite}
+use Rattle.bpf_answers.specs.declared.failure.Failure.TheVariants.{CannotRead, CannotWrite, NoMemory}
 
 -- ---- the text
 
@@ -47,8 +46,9 @@ JudgedSays o m old p e new answer = ⊥
 
 abbrev pub JudgedFails : {S : Type 0} → Opening S → Making S → S → Instructions → Emitting → S → Failure → Type 0
 JudgedFails o m old p e new (CannotRead name) = CertificateFails o old e.certificate.now new (CannotRead name)
-JudgedFails o m old p e new (CannotWrite name) = OutputFails (CannotWrite name) ⊎ ((name.now ≡ e.output.now) × Puts o m old p e false new)
-JudgedFails o m old p e new failure = OutputFails failure
+JudgedFails o m old p e new (CannotWrite name) = (name.now ≡ e.output.now) × Puts o m old p e false new
+JudgedFails o m old p e new NoMemory = ⊤
+JudgedFails o m old p e new failure = ⊥
 
 -- where that fails, CERT was opened, or couldn't be, and nothing came to stand at OUT
 abbrev pub NotJudged : {S : Type 0} → Opening S → Making S → S → Instructions → Emitting → S → Type 0
@@ -68,8 +68,9 @@ EmitSays o m old e new answer = Behind o old e (λ between p. JudgedSays o m bet
 abbrev pub EmitFails : {S : Type 0} → Opening S → Making S → S → Emitting → S → Failure → Type 0
 EmitFails o m old e new (CannotRead name) =
     ImageFails o old e.input.now new (CannotRead name) ⊎ Behind o old e (λ between p. JudgedFails o m between p e new (CannotRead name))
-EmitFails o m old e new (CannotWrite name) = OutputFails (CannotWrite name) ⊎ Behind o old e (λ between p. JudgedFails o m between p e new (CannotWrite name))
-EmitFails o m old e new failure = OutputFails failure
+EmitFails o m old e new (CannotWrite name) = Behind o old e (λ between p. JudgedFails o m between p e new (CannotWrite name))
+EmitFails o m old e new NoMemory = ⊤
+EmitFails o m old e new failure = ⊥
 
 -- where that fails, IN was opened, or couldn't be; or CERT was, too; and nothing came to stand at OUT
 abbrev pub NotEmitted : {S : Type 0} → Opening S → Making S → S → Emitting → S → Type 0

@@ -1,96 +1,69 @@
 -- What is said of the names of a conversion, from what is said of each.
-use Rattle.std.proofs.Common.{◌≡◌, ◌⊎◌, ◌≤◌, ℕ, List, Option, Result, Ok, Err, IfOk, IfErr, refl, sym, subst, inl, inr}
-use Rattle.bpf_insn.specs.Instruction.{Instructions}
-use Rattle.bpf_insn.specs.Image.{image}
+use Rattle.std.proofs.Common.{◌≡◌, ◌≤◌, ℕ, List, Option, Some, None, refl, sym, subst, inl, inr}
+use Rattle.std.specs.Borrow.{Bor}
 use Rattle.bpf_insn.specs.Limits.{max_context}
-use Rattle.bpf_cert.specs.Spelling.{certificate_text}
-use Rattle.bpf_cert.specs.View.{CertificateView}
+use Rattle.bpf_classic.specs.declared.raw.Raw.{Raw}
 use Rattle.bpf_convert_checked.specs.declared.made.Made.{Made}
 use Rattle.bpf_request.specs.declared.converting.Converting.{Converting}
 use Rattle.bpf_places.specs.Opened.{Opening}
-use Rattle.bpf_answers.specs.Answer.{Answer, Answered, Says}
-use Rattle.bpf_answers.specs.Both.{Pairing, Put}
-use Rattle.bpf_answers.specs.Both.Put.{Neither, FirstAlone}
 use Rattle.bpf_answers.specs.Loaded.{BytesAt}
-use Rattle.bpf_answers.specs.Told.{OutputFails}
 use Rattle.bpf_answers.specs.declared.certified.Certification.{Certification}
 use Rattle.bpf_answers.specs.declared.failure.Failure.{Failure}
 use Rattle.bpf_answers.specs.declared.failure.Failure.TheVariants.{CannotRead, CannotWrite, NoMemory}
-use Rattle.bpf_command_convert.specs.Converted.{ConvertFails, Converts, FilterUnread, IsMadeOf, NotBoth, NotConverted, Stand, max_filter_text, told_of}
-
--- an answer that was printed, of which this holds
-pub answered : {E : Type 0} (result : Result ℕ E) (before after : Option (List ℕ)) (answer : Answer) (says : Answer → Type 0)
-    → IfOk result (λ status. Says answer status before after) → says answer → IfOk result (Answered says before after)
-answered (Ok s) before after answer says said holds = (answer, said, holds)
-answered (Err e) before after answer says said holds = tt
+use Rattle.bpf_command_convert.specs.Converted.{ConvertFails, Converts, FilterUnread, IsMadeOf, IsOfListing, Missing, NotAll, NotConverted, Placing, max_filter_text, told_of}
 
 -- ---- what is made
 
 -- what was made of the bytes at the name is told
-pub converts_of : {S : Type 0} (o : Opening S) (old : S) (c : Converting) (new : S) (bytes : List ℕ) (made : Made) (length : ℕ) (told : Certification)
-    → (c.length ≤ max_context → length ≡ c.length) → BytesAt max_filter_text o old c.input.now new bytes → IsMadeOf c length bytes made → told ≡ told_of length made
-    → Converts o old c new made told
-converts_of o old c new bytes made length told short read is_made same =
-    subst (Converts o old c new made) (sym same) (record { bytes = bytes; read = read; is_made = is_made; length_is = short; told_is = refl })
+pub converts_of : {S : Type 0} (o : Opening S) (old : S) (c : Converting) (new : S) (bytes : List ℕ) (raws : List Raw) (made : Made) (length : ℕ) (told : Certification)
+    → (c.length ≤ max_context → length ≡ c.length) → BytesAt max_filter_text o old c.input.now new bytes → IsMadeOf c length bytes raws made
+    → told ≡ told_of length made → Converts o old c new raws made told
+converts_of o old c new bytes raws made length told short read is_made same =
+    subst (Converts o old c new raws made) (sym same) (record { bytes = bytes; read = read; is_made = is_made; length_is = short; told_is = refl })
 
--- ---- what stands at the names
-
--- what is put there is the program's image
-pub stands_as : {S : Type 0} (b : Pairing S) (old : S) (c : Converting) (made : Made) (p : Instructions) (which : Put) (new : S) → p ≡ made.converted.program
-    → b old c.output.now (image p.order p.list) c.certificate.now (certificate_text made.certificate) which new → Stand b old c made which new
-stands_as b old c made p which new same put = subst (λ q. b old c.output.now (image q.order q.list) c.certificate.now (certificate_text made.certificate) which new) same put
-
--- neither stands of a program and a certificate, or CERT couldn't be finished
-abbrev pub NotBothOf : {S : Type 0} → Pairing S → S → Converting → Instructions → CertificateView → S → Failure → Type 0
-NotBothOf b old c p certificate new failure =
-    (((failure ≡ CannotWrite c.output) ⊎ ((failure ≡ CannotWrite c.certificate) ⊎ (failure ≡ NoMemory)))
-    × b old c.output.now (image p.order p.list) c.certificate.now (certificate_text certificate) Neither new)
-    ⊎ ((failure ≡ CannotWrite c.certificate) × b old c.output.now (image p.order p.list) c.certificate.now (certificate_text certificate) FirstAlone new)
-
-pub both_as : {S A : Type 0} (result : Result A Failure) (b : Pairing S) (old : S) (c : Converting) (made : Made) (p : Instructions) (new : S) → p ≡ made.converted.program
-    → IfErr result (NotBothOf b old c p made.certificate new) → IfErr result (NotBoth b old c made new)
-both_as result b old c made p new same fails = subst (λ q. IfErr result (NotBothOf b old c q made.certificate new)) same fails
-
-fails_by : {S : Type 0} (o : Opening S) (b : Pairing S) (old : S) (c : Converting) (between new : S) (made : Made) (told : Certification) (f : Failure)
-    → Converts o old c between made told → NotBoth b between c made new f → ConvertFails o b old c new f
-fails_by o b old c between new made told f converts (inl (inl is, left)) = subst (ConvertFails o b old c new) (sym is) (inr (between, made, told, converts, inl (inl refl, left)))
-fails_by o b old c between new made told f converts (inl (inr (inl is), left)) = subst (ConvertFails o b old c new) (sym is) (inr (between, made, told, converts, inl (inr (inl refl), left)))
-fails_by o b old c between new made told f converts (inl (inr (inr is), left)) = subst (ConvertFails o b old c new) (sym is) tt
-fails_by o b old c between new made told f converts (inr (is, left)) = subst (ConvertFails o b old c new) (sym is) (inr (between, made, told, converts, inr (refl, left)))
-
-pub puts_fail : {S A : Type 0} (result : Result A Failure) (o : Opening S) (b : Pairing S) (old : S) (c : Converting) (between new : S) (made : Made) (told : Certification)
-    → Converts o old c between made told → IfErr result (NotBoth b between c made new) → IfErr result (ConvertFails o b old c new)
-puts_fail (Ok x) o b old c between new made told converts fails = tt
-puts_fail (Err f) o b old c between new made told converts fails = fails_by o b old c between new made told f converts fails
-
-left_by : {S : Type 0} (o : Opening S) (b : Pairing S) (old : S) (c : Converting) (between new : S) (made : Made) (told : Certification) (f : Failure)
-    → Converts o old c between made told → NotBoth b between c made new f → NotConverted o b old c new
-left_by o b old c between new made told f converts (inl (is, left)) = inr (between, made, told, converts, (Neither, left))
-left_by o b old c between new made told f converts (inr (is, left)) = inr (between, made, told, converts, (FirstAlone, left))
-
-pub puts_left : {S A : Type 0} (result : Result A Failure) (o : Opening S) (b : Pairing S) (old : S) (c : Converting) (between new : S) (made : Made) (told : Certification)
-    → Converts o old c between made told → IfErr result (NotBoth b between c made new) → IfErr result (λ _. NotConverted o b old c new)
-puts_left (Ok x) o b old c between new made told converts fails = tt
-puts_left (Err f) o b old c between new made told converts fails = left_by o b old c between new made told f converts fails
-
--- ---- other failures
-
-output_fails : {S : Type 0} (o : Opening S) (b : Pairing S) (old : S) (c : Converting) (new : S) (f : Failure) → OutputFails f → ConvertFails o b old c new f
-output_fails o b old c new (CannotWrite name) fails = inl fails
-output_fails o b old c new (CannotRead name) fails = absurd fails
-output_fails o b old c new failure fails = fails
-
--- standard output fails
-pub line_fails : {S A : Type 0} (result : Result A Failure) (o : Opening S) (b : Pairing S) (old : S) (c : Converting) (new : S) → IfErr result OutputFails → IfErr result (ConvertFails o b old c new)
-line_fails (Ok x) o b old c new fails = tt
-line_fails (Err f) o b old c new fails = output_fails o b old c new f fails
-
-unread : {S : Type 0} (o : Opening S) (b : Pairing S) (old : S) (c : Converting) (new : S) (f : Failure) → FilterUnread o old c.input.now new f → ConvertFails o b old c new f
-unread o b old c new (CannotRead name) fails = fails
-unread o b old c new (CannotWrite name) fails = inl fails
-unread o b old c new failure fails = fails
+-- ---- failures
 
 -- the filter can't be read
-pub input_fails : {S A : Type 0} (result : Result A Failure) (o : Opening S) (b : Pairing S) (old : S) (c : Converting) (new : S) → IfErr result (FilterUnread o old c.input.now new) → IfErr result (ConvertFails o b old c new)
-input_fails (Ok x) o b old c new fails = tt
-input_fails (Err f) o b old c new fails = unread o b old c new f fails
+pub unread : {S : Type 0} (o : Opening S) (p : Placing S) (old : S) (c : Converting) (new : S) (f : Failure) → FilterUnread o old c.input.now new f → ConvertFails o p old c new f
+unread o p old c new (CannotRead name) fails = fails
+unread o p old c new NoMemory fails = tt
+unread o p old c new (CannotWrite name) fails = absurd fails
+unread o p old c new f fails = fails
+
+name_of : (listing : Option (Bor (List ℕ))) (f : Failure) → IsOfListing listing f → (name : Bor (List ℕ)) × (f ≡ CannotWrite name)
+name_of None f is = absurd is
+name_of (Some name) f is = (name, is)
+
+-- not all stands, for a name that can't be written or for want of memory
+by_name : {S : Type 0} (o : Opening S) (p : Placing S) (old : S) (c : Converting) (between new : S) (raws : List Raw) (made : Made) (told : Certification) (f : Failure)
+    (name : Bor (List ℕ)) → f ≡ CannotWrite name → Converts o old c between raws made told → NotAll p between c raws made new f → ConvertFails o p old c new f
+by_name o p old c between new raws made told f name is converts all =
+    subst (λ g. NotAll p between c raws made new g → ConvertFails o p old c new g) (sym is) (λ known. (between, raws, made, told, converts, known)) all
+
+by_memory : {S : Type 0} (o : Opening S) (p : Placing S) (old : S) (c : Converting) (new : S) (f : Failure) → f ≡ NoMemory → ConvertFails o p old c new f
+by_memory o p old c new f is = subst (ConvertFails o p old c new) (sym is) tt
+
+pub fails_by : {S : Type 0} (o : Opening S) (p : Placing S) (old : S) (c : Converting) (between new : S) (raws : List Raw) (made : Made) (told : Certification) (f : Failure)
+    → Converts o old c between raws made told → NotAll p between c raws made new f → ConvertFails o p old c new f
+fails_by o p old c between new raws made told f converts (inl (is, same)) = by_memory o p old c new f is
+fails_by o p old c between new raws made told f converts (inr (inl (inl is, stand))) =
+    by_name o p old c between new raws made told f c.output is converts (inr (inl (inl is, stand)))
+fails_by o p old c between new raws made told f converts (inr (inl (inr (inl is), stand))) =
+    by_name o p old c between new raws made told f c.certificate is converts (inr (inl (inr (inl is), stand)))
+fails_by o p old c between new raws made told f converts (inr (inl (inr (inr (inl is)), stand))) = by_memory o p old c new f is
+fails_by o p old c between new raws made told f converts (inr (inl (inr (inr (inr is)), stand))) =
+    let n = name_of c.listing f is in by_name o p old c between new raws made told f n.0 n.1 converts (inr (inl (inr (inr (inr is)), stand)))
+fails_by o p old c between new raws made told f converts (inr (inr (inl (is, stand)))) =
+    by_name o p old c between new raws made told f c.certificate is converts (inr (inr (inl (is, stand))))
+fails_by o p old c between new raws made told f converts (inr (inr (inr (is, stand)))) =
+    let n = name_of c.listing f is in by_name o p old c between new raws made told f n.0 n.1 converts (inr (inr (inr (is, stand))))
+
+missing_of : {S : Type 0} (p : Placing S) (old : S) (c : Converting) (raws : List Raw) (made : Made) (new : S) (f : Failure) → NotAll p old c raws made new f → Missing p old c raws made new
+missing_of p old c raws made new f (inl (is, same)) = inl same
+missing_of p old c raws made new f (inr (inl (is, stand))) = inr (inl stand)
+missing_of p old c raws made new f (inr (inr (inl (is, stand)))) = inr (inr (inl stand))
+missing_of p old c raws made new f (inr (inr (inr (is, stand)))) = inr (inr (inr stand))
+
+pub left_by : {S : Type 0} (o : Opening S) (p : Placing S) (old : S) (c : Converting) (between new : S) (raws : List Raw) (made : Made) (told : Certification) (f : Failure)
+    → Converts o old c between raws made told → NotAll p between c raws made new f → NotConverted o p old c new
+left_by o p old c between new raws made told f converts all = inr (between, raws, made, told, converts, missing_of p between c raws made new f all)

@@ -1,1 +1,2 @@
 pub mod ConvertedLemmas
+pub mod StandingLemmas

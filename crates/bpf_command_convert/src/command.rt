@@ -2,24 +2,18 @@
 
 ghost use Rattle.std.specs.Prelude.{◌≡◌, ◌≤◌, IfOk, IfErr};
 ghost use Rattle.bpf_insn.specs.Limits.{max_context};
-ghost use Rattle.bpf_answers.specs.Answer.{Answered, Unfinished};
-ghost use Rattle.bpf_answers.specs.Both.{pairing};
-ghost use Rattle.bpf_command_convert.specs.Converted.{ConvertFails, ConvertSays, NotConverted, told_of};
+ghost use Rattle.bpf_command_convert.specs.Converted.{ConvertFails, ConvertSays, NotConverted, placing, told_of};
 
+use crate::conversion::Conversion;
+use crate::placed::put_all;
 use crate::reading::{filter_at, made_of};
-use crate::unconvertible::Unconvertible;
-use bpf_answers::{Certification, Failure, put_both, refuse_conversion, say_certified};
+use bpf_answers::{Certification, Failure};
 use bpf_convert_checked::Made;
 use bpf_insn::MAX_CONTEXT;
 use bpf_places::Places;
+use bpf_refusals::Tells;
 use bpf_request::Converting;
 use std::alloc::Global;
-use std::io::Write;
-
-/// Is told why what is at a name isn't converted. No answer depends on what it makes of that.
-pub trait Teller {
-    fn tell(&self, why: Unconvertible);
-}
 
 /// The length of the contexts; the words' parser has seen that it is at most the greatest.
 fn length_of(asked: Converting<'_>) -> u32
@@ -40,40 +34,29 @@ fn told_of(length: u32, made: &Made) -> Certification
     }
 }
 
-/// Writes the image of a filter of classic BPF and its certificate, both or neither, once the checker has taken it. The places for them are made
-/// only then. Of a refusal the teller is told, too.
-pub fn converted<'a, P: Places, W: Write, T: Teller>(
+/// Writes the image of a filter of classic BPF, its certificate, and a listing where one is asked for, once the checker has taken the certificate.
+/// The places for them are made only then.
+pub fn converted<'a, P: Places>(
     alloc: Global,
     places: &mut P,
-    out: &mut W,
-    teller: &T,
     asked: Converting<'a>,
-) -> Result<u8, Failure<'a>>
-    ensures ok { IfOk result (Answered (ConvertSays P.opens (pairing P.creates P.ends P.Writer.contents) places.old asked.entry places.new)
-        (W.contents out.old) (W.contents out.new)) }
-    ensures err { IfErr result (ConvertFails P.opens (pairing P.creates P.ends P.Writer.contents) places.old asked.entry places.new) }
-    ensures begun { IfErr result (λ _. Unfinished (ConvertSays P.opens (pairing P.creates P.ends P.Writer.contents) places.old asked.entry places.new)
-        (W.contents out.old) (W.contents out.new)) }
-    ensures names { IfErr result (λ _. NotConverted P.opens (pairing P.creates P.ends P.Writer.contents) places.old asked.entry places.new) }
+) -> Result<Conversion, Failure<'a>>
+    ensures ok { IfOk result (ConvertSays P.opens (placing P.creates P.ends P.Writer.contents) places.old asked.entry places.new) }
+    ensures err { IfErr result (ConvertFails P.opens (placing P.creates P.ends P.Writer.contents) places.old asked.entry places.new) }
+    ensures names { IfErr result (λ _. NotConverted P.opens (placing P.creates P.ends P.Writer.contents) places.old asked.entry places.new) }
 {
-    let bytes = filter_at(alloc, places, asked.input)?;
+    let bytes = match filter_at(alloc, places, asked.input) {
+        Ok(bytes) => bytes,
+        Err(failure) => return Err(failure),
+    };
     let length = length_of(asked);
-    let made = match made_of(alloc, &bytes, asked, length) {
-        Ok(made) => made,
-        Err(error) => {
-            let answer = refuse_conversion(alloc, out, error.answer());
-            teller.tell(error);
-            return answer;
-        }
+    let (raws, made) = match made_of(alloc, &bytes, asked, length) {
+        Ok(found) => found,
+        Err(error) => return Ok(Conversion::Refused(error)),
     };
     let told = told_of(length, &made);
-    let program = made.converted.program();
-    put_both(
-        places,
-        asked.output,
-        program,
-        asked.certificate,
-        &made.certificate,
-    )?;
-    say_certified(alloc, out, told)
+    match put_all(alloc, places, asked, &raws, &made) {
+        Ok(()) => Ok(Conversion::Made(told)),
+        Err(failure) => Err(failure),
+    }
 }

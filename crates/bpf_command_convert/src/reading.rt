@@ -4,15 +4,15 @@ ghost use Rattle.std.specs.Prelude.{◌≡◌, ◌⊎◌, ◌≤◌, Ok, Err, If
 ghost use Rattle.bpf_insn.specs.Limits.{max_context};
 ghost use Rattle.bpf_classic_text.specs.declared.fault.TextFault.TheVariants.{Memory};
 ghost use Rattle.bpf_answers.specs.Loaded.{BytesAt, Tried};
-ghost use Rattle.bpf_answers.specs.Told.{IsQuiet};
 ghost use Rattle.bpf_command_convert.specs.Converted.{FilterUnread, IsUnconvertible, form_of, max_filter_text, spelled};
-ghost use Rattle.bpf_command_convert.specs.Spelled.{IsMadeOf};
+ghost use Rattle.bpf_convert.specs.Template.{usual_turns};
+ghost use Rattle.bpf_command_convert.specs.Spelled.{IsMadeOf, turns_or, wanted_of};
 
 use crate::unconvertible::Unconvertible;
 use bpf_answers::{BytesError, Failure, bytes_at};
 use bpf_classic::Raw;
 use bpf_classic_text::{TextFault, raws_in, raws_of};
-use bpf_convert::Form;
+use bpf_convert::{Form, Wanted, usual_turns};
 use bpf_convert_checked::{Made, converted};
 use bpf_places::Places;
 use bpf_request::Converting;
@@ -29,7 +29,6 @@ pub(crate) fn filter_at<'a, P: Places>(
 ) -> Result<Vec<u8>, Failure<'a>>
     ensures ok { IfOk result (λ v. BytesAt max_filter_text P.opens places.old name.entry.now places.new v.items) }
     ensures err { IfErr result (FilterUnread P.opens places.old name.entry.now places.new) }
-    ensures quiet { IfErr result IsQuiet }
     ensures names { Tried P.opens places.old name.entry.now places.new }
 {
     match bytes_at(alloc, places, name, MAX_FILTER_TEXT) {
@@ -57,6 +56,8 @@ fn form_of(asked: Converting<'_>) -> Form
 {
     if asked.seccomp {
         Form::Seccomp
+    } else if asked.extensions {
+        Form::Extended
     } else if asked.plain {
         Form::Plain
     } else {
@@ -64,23 +65,51 @@ fn form_of(asked: Converting<'_>) -> Form
     }
 }
 
-/// The program of the filter that bytes spell, for contexts of this length, with its certificate.
+/// The most turns that a program counts.
+const MAX_TURNS: u32 = 65_535;
+
+/// How often a run may jump back.
+fn turns_of(asked: Converting<'_>, form: Form, length: u32) -> u16
+    requires { length ≤ max_context }
+    ensures { result ≡ turns_or asked.entry.turns (usual_turns form length) }
+{
+    match asked.turns {
+        Some(turns) => turns.min(MAX_TURNS) as u16,
+        None => usual_turns(form, length),
+    }
+}
+
+/// What is wanted, for contexts of this length.
+fn wanted_of(asked: Converting<'_>, length: u32) -> Wanted
+    requires { length ≤ max_context }
+    ensures { result ≡ wanted_of asked.entry length }
+{
+    let form = form_of(asked);
+    Wanted {
+        form,
+        length,
+        order: asked.order,
+        turns: turns_of(asked, form, length),
+    }
+}
+
+/// The instructions that bytes spell, and the program of this filter for contexts of this length, with its certificate.
 pub(crate) fn made_of(
     alloc: Global,
     bytes: &[u8],
     asked: Converting<'_>,
     length: u32,
-) -> Result<Made, Unconvertible>
+) -> Result<(Vec<Raw>, Made), Unconvertible>
     requires { length ≤ max_context }
-    ensures ok { IfOk result (IsMadeOf asked.entry length bytes.now) }
+    ensures ok { IfOk result (λ found. IsMadeOf asked.entry length bytes.now found.0.items found.1) }
     ensures err { IfErr result (IsUnconvertible asked.entry bytes.now) }
 {
     let raws = match spelled(alloc, bytes, asked) {
         Ok(raws) => raws,
         Err(fault) => return Err(Unconvertible::Text(fault)),
     };
-    match converted(alloc, &raws, form_of(asked), length, asked.order) {
-        Ok(made) => Ok(made),
+    match converted(alloc, &raws, wanted_of(asked, length)) {
+        Ok(made) => Ok((raws, made)),
         Err(error) => Err(Unconvertible::Filter(error)),
     }
 }

@@ -1,11 +1,8 @@
 //! Why what is at a name isn't converted.
 
-ghost use Rattle.std.specs.Prelude.{◌≡◌};
-ghost use Rattle.bpf_command_convert.specs.Converted.{unconverted_in, unconverted_of};
-
-use bpf_answers::Unconverted;
 use bpf_classic_text::TextFault;
 use bpf_convert_checked::ConvertError;
+use bpf_refusals::{Tells, Told};
 use thiserror::Error;
 
 /// Why what is at a name isn't converted.
@@ -19,43 +16,15 @@ pub enum Unconvertible {
     Filter(ConvertError),
 }
 
-/// The number of the refusal of what spells no instructions.
-const NO_INSTRUCTIONS: u8 = 8;
+impl Tells for Unconvertible {
+    ghost use Rattle.bpf_command_convert.specs.Spelled.{told_unconvertible};
 
-/// The number of the refusal where memory ran out.
-const NO_MEMORY: u8 = 9;
+    ghost told_of = { told_unconvertible };
 
-fn unconverted_in(fault: TextFault) -> Unconverted
-    ensures { result ≡ unconverted_in fault }
-{
-    let number = NO_INSTRUCTIONS;
-    match fault {
-        TextFault::Row { line } | TextFault::Count { line, .. } => {
-            let line = line as u64;
-            Unconverted::InLine { number, line }
-        }
-        TextFault::Part { at } => {
-            let at = at as u64;
-            Unconverted::InFilter { number, at }
-        }
-        TextFault::Memory => Unconverted::InFilter {
-            number: NO_MEMORY,
-            at: 0,
-        },
-    }
-}
-
-impl Unconvertible {
-    /// What is answered of it.
-    pub fn answer(self) -> Unconverted
-        ensures { result ≡ unconverted_of self }
-    {
+    fn told(&self) -> Told {
         match self {
-            Unconvertible::Text(fault) => unconverted_in(fault),
-            Unconvertible::Filter(error) => Unconverted::InFilter {
-                number: error.number(),
-                at: u64::from(error.place()),
-            },
+            Unconvertible::Text(fault) => fault.told(),
+            Unconvertible::Filter(error) => error.told(),
         }
     }
 }

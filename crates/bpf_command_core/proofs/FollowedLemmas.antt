@@ -5,8 +5,8 @@ use Rattle.bpf_request.specs.declared.following.Following.{Following}
 use Rattle.bpf_places.specs.Opened.{Opening}
 use Rattle.bpf_answers.specs.Loaded.{LoadsImage}
 use Rattle.bpf_answers.specs.Notes.{NotesFail}
-use Rattle.bpf_answers.specs.Answer.{Answer}
-use Rattle.bpf_answers.specs.Answer.Answer.{NoNew, NoOld}
+use Rattle.bpf_answers.specs.declared.answer.Answer.{Answer}
+use Rattle.bpf_answers.specs.declared.answer.Answer.TheVariants.{NoNew, NoOld}
 use Rattle.bpf_answers.specs.declared.failure.Failure.{Failure}
 use Rattle.bpf_answers.specs.declared.failure.Failure.TheVariants.{CannotRead}
 use Rattle.bpf_command_core.specs.Followed.{FollowsFails, FollowsSays, NotedSays, RewrittenFails, RewrittenSays}

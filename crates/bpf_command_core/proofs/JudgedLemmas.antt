@@ -1,5 +1,5 @@
 -- What `check` and `run-checked` say, from what is said of the program that was loaded.
-use Rattle.std.proofs.Common.{◌≡◌, ℕ, Bool, List, Option, Result, Ok, Err, IfOk, ap, sym, subst, ◌∙◌}
+use Rattle.std.proofs.Common.{◌≡◌, ℕ, Bool, List, Result, Ok, Err, IfOk, ap, sym, subst, ◌∙◌}
 use Rattle.bpf_insn.specs.Instruction.{Instructions}
 use Rattle.bpf_insn.specs.Laws.{ImageIsInjective, IsImageOfProgram}
 use Rattle.bpf_insn.specs.declared.order.Order.{Order}
@@ -11,8 +11,8 @@ use Rattle.bpf_check.specs.Verdicts.{Verified, program_in}
 use Rattle.bpf_check.proofs.CertificateFacts.{range_is_one, most_fits}
 use Rattle.bpf_places.specs.Opened.{Opening}
 use Rattle.bpf_answers.specs.Loaded.{CertificateAt, LoadsImage}
-use Rattle.bpf_answers.specs.Answer.{Answer, Says}
-use Rattle.bpf_answers.specs.Answer.Answer.{Yes, NoImage, NoCertificate, NotCertified}
+use Rattle.bpf_answers.specs.declared.answer.Answer.{Answer}
+use Rattle.bpf_answers.specs.declared.answer.Answer.TheVariants.{Yes, NoImage, NoCertificate, NotCertified}
 use Rattle.bpf_command_core.specs.declared.judged.Wish.{Wish}
 use Rattle.bpf_command_core.specs.declared.judged.Wish.TheVariants.{Promise, Run}
 use Rattle.bpf_command_core.specs.Printed.{JudgedSays, LoadedSays, WishSays, YesSays, IsPromised}
@@ -51,9 +51,10 @@ pub loaded_says : {S : Type 0} (opening : Opening S) (order : Order) (old : S) (
 loaded_says opening order old input certificate between new p image says none (NoImage e) h = absurd (none (checked p h.0) e h.3)
 loaded_says opening order old input certificate between new p image says none x h = (between, p, image, h)
 
-pub says_so : {E : Type 0} (result : Result ℕ E) (old new : Option (List ℕ)) (P Q : Answer → Type 0) → ((x : Answer) → P x → Q x) → IfOk result (λ status. (x : Answer) × Says x status old new × P x) → IfOk result (λ status. (x : Answer) × Says x status old new × Q x)
-says_so (Ok s) old new P Q f h = (h.0, h.1, f h.0 h.2)
-says_so (Err e) old new P Q f h = tt
+-- what is said of one answer, said of it in another way
+pub says_so : {E : Type 0} (result : Result Answer E) (P Q : Answer → Type 0) → ((x : Answer) → P x → Q x) → IfOk result P → IfOk result Q
+says_so (Ok x) P Q f h = f x h
+says_so (Err e) P Q f h = tt
 
 -- what is wanted of a checked program is said of the certificate
 pub granted : {S : Type 0} (opening : Opening S) (old : S) (certificate : List ℕ) (new : S) (p : Instructions) (c : CertificateView) (k : CheckedProgram)

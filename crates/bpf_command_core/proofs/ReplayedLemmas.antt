@@ -1,93 +1,50 @@
 -- What is said of the packets of a capture where answering stops.
-use Rattle.std.proofs.Common.{ℕ, List, [], ◌++◌, Option, Some, None, Result, Ok, Err, IfOk, IfErr, refl, sym, ap, subst, ◌∙◌, inl, append-nil, append_assoc}
-use Rattle.std.specs.Io.KnownBytes.{Appends, Keeps}
-use Rattle.std.proofs.KnownBytes.{Appends-trans}
-use Rattle.bpf_insn.specs.Written.{AppendsBeginning}
-use Rattle.bpf_check.specs.CheckedProgram.{CheckedProgram}
+use Rattle.std.proofs.Common.{◌≡◌, ℕ, List, Option, Result, Ok, Err, IfOk, IfErr, inr, refl, subst, sym}
+use Rattle.std.specs.Io.KnownBytes.{Appends}
+use Rattle.bpf_insn.specs.Instruction.{Instructions}
+use Rattle.bpf_cert.specs.View.{CertificateView}
+use Rattle.bpf_check.specs.CheckedProgram.{CheckedProgram, IsCertifiedBy, checked}
+use Rattle.bpf_places.specs.Opened.{Opening}
+use Rattle.bpf_answers.specs.Loaded.{CertificateAt}
 use Rattle.bpf_replay.specs.Lines.{IsTold}
 use Rattle.bpf_replay.specs.Stops.{Replayed}
 use Rattle.bpf_replay.specs.declared.turn.Stop.{Stop}
-use Rattle.bpf_replay.specs.declared.turn.Stop.TheVariants.{End, Refused, Failed}
-use Rattle.bpf_answers.specs.Told.{OutputFails}
+use Rattle.bpf_replay.specs.declared.turn.Stop.TheVariants.{Failed}
+use Rattle.bpf_answers.proofs.MadeLemmas.{whole}
+use Rattle.bpf_answers.specs.declared.reply.Reply.{Reply}
 use Rattle.bpf_answers.specs.declared.failure.Failure.{Failure}
 use Rattle.bpf_answers.specs.declared.failure.Failure.TheVariants.{CannotRead}
-use Rattle.bpf_command_core.specs.Replayed.{EndsBy, FailsBy, Gives, IsUnread, LineOf, ReplayFails, ReplayLeft, ReplaySays, blocks_of}
+use Rattle.bpf_command_core.specs.Replayed.{EndsBy, Gives, JudgedPacketsFail, PacketsFail, ReplayFails, ReplayLeft, ReplaySays, blocks_of}
 use Rattle.bpf_command_core.specs.declared.packets.Packets.{Packets}
-
--- ---- bytes behind one another
-
-keeps_appended : (a b c : Option (List ℕ)) (x : List ℕ) → Appends a b x → Keeps b c → Appends a c x
-keeps_appended None b c x h k = tt
-keeps_appended (Some a) None c x h k = absurd h
-keeps_appended (Some a) (Some b) None x h k = absurd k
-keeps_appended (Some a) (Some b) (Some c) x h k = k ∙ h
-
-begins_behind : (a b c : Option (List ℕ)) (x y : List ℕ) → Appends a b x → AppendsBeginning b c y → AppendsBeginning a c (x ++ y)
-begins_behind a b c x y h k = record { begun = x ++ k.begun; left = k.left; is_whole = ap (λ z. x ++ z) k.is_whole ∙ sym (append_assoc x k.begun k.left); appends = Appends-trans a b c x k.begun h k.appends }
-
--- ---- where it stops
 
 -- what `replay` gives where it stops
 abbrev pub Stopped : Packets → CheckedProgram → Option (List ℕ) → Option (List ℕ) → Option (List ℕ) → Stop → Type 0
-Stopped packets k known before mid stop =
-    (values : List ℕ) × (text : List ℕ) × Replayed (Gives k) (blocks_of packets.order k) known stop values × IsTold packets.counts values text × Appends before mid text
+Stopped packets k known before after stop =
+    (values : List ℕ) × (text : List ℕ) × Replayed (Gives k) (blocks_of packets.order k) known stop values × IsTold packets.counts values text × Appends before after text
 
-pub replay_says : {E : Type 0} (packets : Packets) (k : CheckedProgram) (known before mid after : Option (List ℕ)) (stop : Stop) (result : Result ℕ E) → Stopped packets k known before mid stop
-    → IfOk result (λ status. (line : List ℕ) × EndsBy stop line status × Appends mid after line) → IfOk result (ReplaySays packets k known before after)
-replay_says packets k known before mid after stop (Ok status) h e = record {
-  stop = stop;
-  values = h.0;
-  text = h.1;
-  line = e.0;
-  replayed = h.2;
-  told = h.3;
-  ends = e.1;
-  printed = Appends-trans before mid after h.1 e.0 h.4 e.2;
-}
-replay_says packets k known before mid after stop (Err f) h e = tt
+pub replay_says : {E : Type 0} (packets : Packets) (k : CheckedProgram) (known before after : Option (List ℕ)) (stop : Stop) (result : Result Reply E) → Stopped packets k known before after stop
+    → IfOk result (EndsBy stop) → IfOk result (ReplaySays packets k known before after)
+replay_says packets k known before after stop (Ok reply) h e = record { stop = stop; values = h.0; text = h.1; replayed = h.2; told = h.3; ends = e; printed = h.4 }
+replay_says packets k known before after stop (Err f) h e = tt
 
-pub output_fails : (packets : Packets) (k : CheckedProgram) (known before after : Option (List ℕ)) (failure : Failure) → OutputFails failure → ReplayFails packets k known before after failure
-output_fails packets k known before after (CannotRead name) h = absurd h
-output_fails packets k known before after failure h = h
+pub replay_fails : (packets : Packets) (k : CheckedProgram) (known before after : Option (List ℕ)) (stop : Stop) (result : Result Reply Failure) → Stopped packets k known before after stop
+    → IfErr result (λ failure. (stop ≡ Failed) × (failure ≡ CannotRead packets.name)) → IfErr result (ReplayFails packets k known before after)
+replay_fails packets k known before after stop (Ok reply) h e = tt
+replay_fails packets k known before after stop (Err failure) h e =
+    subst (ReplayFails packets k known before after) (sym e.1) (refl, subst (Stopped packets k known before after) e.0 h)
 
-unread : (packets : Packets) (k : CheckedProgram) (known before mid after : Option (List ℕ)) (failure : Failure) → Stopped packets k known before mid Failed → Keeps mid after → IsUnread packets.name.now failure → ReplayFails packets k known before after failure
-unread packets k known before mid after (CannotRead name) h kept is = (is, (h.0, h.1, h.2, h.3, keeps_appended before mid after h.1 h.4 kept))
-unread packets k known before mid after failure h kept is = absurd is
+pub replay_leaves : (packets : Packets) (k : CheckedProgram) (known before after : Option (List ℕ)) (stop : Stop) (result : Result Reply Failure) → Stopped packets k known before after stop
+    → IfErr result (λ failure. (stop ≡ Failed) × (failure ≡ CannotRead packets.name)) → IfErr result (λ _. ReplayLeft packets k known before after)
+replay_leaves packets k known before after stop (Ok reply) h e = tt
+replay_leaves packets k known before after stop (Err failure) h e =
+    let stopped : Stopped packets k known before after Failed = subst (Stopped packets k known before after) e.0 h in
+    (stopped.0, stopped.1, stopped.2, stopped.3, whole before after stopped.1 stopped.4)
 
-fails : (packets : Packets) (k : CheckedProgram) (known before mid after : Option (List ℕ)) (stop : Stop) (failure : Failure) → Stopped packets k known before mid stop → FailsBy stop mid after packets.name.now failure → ReplayFails packets k known before after failure
-fails packets k known before mid after End failure h e = output_fails packets k known before after failure e
-fails packets k known before mid after (Refused refusal) failure h e = output_fails packets k known before after failure e
-fails packets k known before mid after Failed failure h e = unread packets k known before mid after failure h e.0 e.1
+-- ---- behind a certificate
 
-pub replay_fails : (packets : Packets) (k : CheckedProgram) (known before mid after : Option (List ℕ)) (stop : Stop) (result : Result ℕ Failure) → Stopped packets k known before mid stop
-    → IfErr result (λ failure. FailsBy stop mid after packets.name.now failure) → IfErr result (ReplayFails packets k known before after)
-replay_fails packets k known before mid after stop (Ok status) h e = tt
-replay_fails packets k known before mid after stop (Err failure) h e = fails packets k known before mid after stop failure h e
-
-pub replay_leaves : (packets : Packets) (k : CheckedProgram) (known before mid after : Option (List ℕ)) (stop : Stop) (result : Result ℕ Failure) → Stopped packets k known before mid stop
-    → IfErr result (λ _. (line : List ℕ) × LineOf stop line × AppendsBeginning mid after line) → IfErr result (λ _. ReplayLeft packets k known before after)
-replay_leaves packets k known before mid after stop (Ok status) h e = tt
-replay_leaves packets k known before mid after stop (Err failure) h e = record {
-  stop = stop;
-  values = h.0;
-  text = h.1;
-  line = e.0;
-  replayed = h.2;
-  told = h.3;
-  behind = e.1;
-  printed = begins_behind before mid after h.1 e.0 h.4 e.2;
-}
-
--- where answers end before the packets do
-pub left_early : (packets : Packets) (k : CheckedProgram) (known before after : Option (List ℕ))
-    → (values : List ℕ) × (text : List ℕ) × Replayed (Gives k) (blocks_of packets.order k) known Failed values × IsTold packets.counts values text × AppendsBeginning before after text → ReplayLeft packets k known before after
-left_early packets k known before after h = record {
-  stop = Failed;
-  values = h.0;
-  text = h.1;
-  line = [];
-  replayed = h.2;
-  told = h.3;
-  behind = inl refl;
-  printed = subst (AppendsBeginning before after) (sym (append-nil h.1)) h.4;
-}
+pub judged_packets_fail : {S A : Type 0} (result : Result A Failure) (opening : Opening S) (old : S) (packets : Packets) (between new : S) (p : Instructions) (c : CertificateView) (k : CheckedProgram) (before after : Option (List ℕ))
+    → CertificateAt opening old packets.certificate.now between c → IsCertifiedBy p c → k ≡ checked p c
+    → IfErr result (PacketsFail opening between packets new k before after) → IfErr result (JudgedPacketsFail opening old packets new p before after)
+judged_packets_fail (Ok x) opening old packets between new p c k before after read by same h = tt
+judged_packets_fail (Err f) opening old packets between new p c k before after read by same h =
+    inr (between, c, read, by, subst (λ q. PacketsFail opening between packets new q before after f) same h)

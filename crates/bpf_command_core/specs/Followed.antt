@@ -10,8 +10,8 @@ use Rattle.bpf_request.specs.declared.following.Following.{Following}
 use Rattle.bpf_places.specs.Opened.{Opening}
 use Rattle.bpf_answers.specs.Loaded.{ImageFails, ImageRefused, LoadsImage}
 use Rattle.bpf_answers.specs.Notes.{LoadsNotes, NotesFail, NotesRefused}
-use Rattle.bpf_answers.specs.Answer.{Answer}
-use Rattle.bpf_answers.specs.Answer.Answer.{Follows, NoNew, NoNotes, NoOld, NotFollowed}
+use Rattle.bpf_answers.specs.declared.answer.Answer.{Answer}
+use Rattle.bpf_answers.specs.declared.answer.Answer.TheVariants.{Follows, NoNew, NoNotes, NoOld, NotFollowed}
 use Rattle.bpf_answers.specs.Told.{OutputFails}
 use Rattle.bpf_answers.specs.declared.failure.Failure.{Failure}
 use Rattle.bpf_answers.specs.declared.failure.Failure.TheVariants.{CannotRead}

@@ -23,11 +23,11 @@ use Rattle.bpf_answers.specs.declared.context.ContextError.TheVariants.{Memory a
 use Rattle.bpf_places.specs.Opened.{Opening}
 use Rattle.bpf_answers.specs.Loaded.{ImageRefused, LoadsImage, ImageFails, ShortTextAt, TextFails, CertificateAt, CertificateRefused, CertificateUnread, CertificateFails, Tried}
 use Rattle.bpf_places.specs.Made.{Making}
-use Rattle.bpf_answers.specs.Answer.{Answer}
-use Rattle.bpf_answers.specs.Answer.Answer.{Yes, NoImage, NoText, NoCertificate, NotCertified, NoContext, Ends, Ran, Occur, Lists, Annotates, Written}
+use Rattle.bpf_answers.specs.declared.answer.Answer.{Answer}
+use Rattle.bpf_answers.specs.declared.answer.Answer.TheVariants.{Yes, NoImage, NoText, NoCertificate, NotCertified, NoContext, Ends, Ran, Occur, Lists, Annotates, Written}
 use Rattle.bpf_answers.specs.Told.{OutputFails}
 use Rattle.bpf_answers.specs.declared.failure.Failure.{Failure}
-use Rattle.bpf_answers.specs.declared.failure.Failure.TheVariants.{CannotRead, CannotWrite, BadContext}
+use Rattle.bpf_answers.specs.declared.failure.Failure.TheVariants.{CannotRead, CannotWrite, NoMemory, BadContext}
 use Rattle.bpf_command_core.specs.declared.judged.Wish.{Wish}
 use Rattle.bpf_command_core.specs.declared.judged.Wish.TheVariants.{Promise, Run}
 
@@ -67,8 +67,8 @@ notes_of false false = None
 
 -- the program is listed with these comments, or with none
 abbrev pub ListSays : Option Notes → Instructions → Answer → Type 0
-ListSays asked p (Lists is) = (asked ≡ None) × (is ≡ p.list)
-ListSays asked p (Annotates notes order is) = (asked ≡ Some notes) × (order ≡ p.order) × (is ≡ p.list)
+ListSays asked p (Lists q) = (asked ≡ None) × (q ≡ p)
+ListSays asked p (Annotates a) = (asked ≡ Some a.notes) × (a.program ≡ p)
 ListSays asked p answer = ⊥
 
 abbrev pub OutcomeSays : List ℕ → ℕ → Instructions → Answer → Type 0
@@ -144,9 +144,9 @@ AsmSays opening making order old input output new answer = ⊥
 abbrev pub AsmFails : {S : Type 0} → Opening S → Making S → Order → S → List ℕ → List ℕ → S → Failure → Type 0
 AsmFails opening making order old input output new (CannotRead name) = TextFails opening old input new (CannotRead name)
 AsmFails {S} opening making order old input output new (CannotWrite name) =
-    OutputFails (CannotWrite name)
-    ⊎ ((name.now ≡ output) × ((between : S) × (p : Instructions) × LoadsText opening order old input between p × making between output (image p.order p.list) false new))
-AsmFails opening making order old input output new failure = OutputFails failure
+    (name.now ≡ output) × ((between : S) × (p : Instructions) × LoadsText opening order old input between p × making between output (image p.order p.list) false new)
+AsmFails opening making order old input output new NoMemory = ⊤
+AsmFails opening making order old input output new failure = ⊥
 
 -- where that fails, the input was opened, or couldn't be, and nothing came to stand at OUT
 abbrev pub NotAssembled : {S : Type 0} → Opening S → Making S → Order → S → List ℕ → List ℕ → S → Type 0
@@ -168,9 +168,9 @@ MigrateSays opening making old certificate output new answer = ⊥
 abbrev pub MigrateFails : {S : Type 0} → Opening S → Making S → S → List ℕ → List ℕ → S → Failure → Type 0
 MigrateFails opening making old certificate output new (CannotRead name) = CertificateFails opening old certificate new (CannotRead name)
 MigrateFails {S} opening making old certificate output new (CannotWrite name) =
-    OutputFails (CannotWrite name)
-    ⊎ ((name.now ≡ output) × ((between : S) × (c : CertificateView) × CertificateAt opening old certificate between c × making between output (certificate_text (migrated c)) false new))
-MigrateFails opening making old certificate output new failure = OutputFails failure
+    (name.now ≡ output) × ((between : S) × (c : CertificateView) × CertificateAt opening old certificate between c × making between output (certificate_text (migrated c)) false new)
+MigrateFails opening making old certificate output new NoMemory = ⊤
+MigrateFails opening making old certificate output new failure = ⊥
 
 -- where that fails, the certificate was opened, or couldn't be, and nothing came to stand at OUT
 abbrev pub NotMigrated : {S : Type 0} → Opening S → Making S → S → List ℕ → List ℕ → S → Type 0

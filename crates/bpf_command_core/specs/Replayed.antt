@@ -1,6 +1,5 @@
 -- What `run-checked --packets` answers, by what the names hold.
-use Rattle.std.specs.Prelude.{◌≡◌, ◌⊎◌, ℕ, ◌<◌, ◌≤◌, Bool, List, [], ◌∷◌, ◌++◌, Option, Some, None, codes, decimal}
-use Rattle.std.specs.List.{concat}
+use Rattle.std.specs.Prelude.{◌≡◌, ◌⊎◌, ℕ, ◌<◌, ◌≤◌, List, [], ◌∷◌, Option, Some, None}
 use Rattle.std.specs.Io.KnownBytes.{Appends, Keeps}
 use Rattle.bpf_insn.specs.Instruction.{Instructions}
 use Rattle.bpf_insn.specs.Written.{AppendsBeginning}
@@ -9,8 +8,6 @@ use Rattle.bpf_cert.specs.View.{CertificateView}
 use Rattle.bpf_check.specs.CheckedProgram.{CheckedProgram, IsCertifiedBy, checked}
 use Rattle.bpf_flat.specs.Runs.{RunsTo}
 use Rattle.bpf_packets.specs.Blocks.{head_bytes}
-use Rattle.bpf_pcap.specs.Refused.{refusal_number}
-use Rattle.bpf_pcap.specs.declared.error.CaptureRefusal.{CaptureRefusal}
 use Rattle.bpf_replay.specs.Lines.{IsTold}
 use Rattle.bpf_replay.specs.Stops.{Replayed}
 use Rattle.bpf_replay.specs.declared.answerer.Blocks.{Blocks}
@@ -21,23 +18,17 @@ use Rattle.bpf_places.specs.Opened.{Opening}
 use Rattle.bpf_request.specs.declared.contexts.Contexts.{Contexts}
 use Rattle.bpf_request.specs.declared.contexts.Contexts.TheVariants.{Word, Bytes, Lines, Nothing, Several}
 use Rattle.bpf_request.specs.declared.replaying.Replaying.{Replaying}
-use Rattle.bpf_answers.specs.Answer.{Answer, Answered, Unfinished, refusal_line}
-use Rattle.bpf_answers.specs.Answer.Answer.{NoContext}
+use Rattle.bpf_answers.specs.declared.answer.Answer.{Answer}
+use Rattle.bpf_answers.specs.declared.answer.Answer.TheVariants.{NoCapture, NoContext}
+use Rattle.bpf_answers.specs.declared.reply.Reply.{Reply}
+use Rattle.bpf_answers.specs.declared.reply.Reply.TheVariants.{One, Each}
 use Rattle.bpf_answers.specs.Loaded.{CertificateAt, CertificateFails, ImageFails, LoadsImage}
 use Rattle.bpf_answers.specs.Told.{OutputFails}
 use Rattle.bpf_answers.specs.declared.failure.Failure.{Failure}
 use Rattle.bpf_answers.specs.declared.failure.Failure.TheVariants.{CannotRead, ContextTwice, NotTogether}
+use Rattle.bpf_command_core.specs.Given.{Replies}
 use Rattle.bpf_command_core.specs.Printed.{ImageSays, JudgedSays}
 use Rattle.bpf_command_core.specs.declared.packets.Packets.{Packets}
-
--- ---- the line of a refusal
-
-abbrev pub at_packet : ℕ → List ℕ
-at_packet n = concat (codes " at packet " ∷ decimal n ∷ codes " byte " ∷ [])
-
--- `no P4 at packet 3 byte 1060`: the file ends within the record of this packet, which begins at this byte; both are 0 where it has no header
-abbrev pub capture_line : CaptureRefusal → List ℕ
-capture_line r = refusal_line (codes "P") (refusal_number r.error) (at_packet r.packet) r.byte
 
 -- ---- the answers to packets
 
@@ -49,31 +40,21 @@ blocks_of order k = record { order = order; size = k.certificate.most }
 abbrev pub Gives : CheckedProgram → List ℕ → ℕ → Type 0
 Gives k block value = RunsTo k.program k.certificate.steps block value
 
--- what is printed behind the answers, and the status
-abbrev pub EndsBy : Stop → List ℕ → ℕ → Type 0
-EndsBy End line status = (line ≡ []) × (status ≡ 0)
-EndsBy (Refused refusal) line status = (line ≡ capture_line refusal) × (status ≡ 1)
-EndsBy Failed line status = ⊥
+-- what is answered behind the packets: nothing more, or why the capture is refused
+abbrev pub EndsBy : Stop → Reply → Type 0
+EndsBy End reply = reply ≡ Each 0
+EndsBy (Refused refusal) reply = reply ≡ One (NoCapture refusal)
+EndsBy Failed reply = ⊥
 
-abbrev pub IsUnread : List ℕ → Failure → Type 0
-IsUnread packets (CannotRead name) = name.now ≡ packets
-IsUnread packets failure = ⊥
-
--- the reader failed, and nothing is printed behind the answers; or the output did, behind a refusal
-abbrev pub FailsBy : Stop → Option (List ℕ) → Option (List ℕ) → List ℕ → Failure → Type 0
-FailsBy Failed before after packets failure = Keeps before after × IsUnread packets failure
-FailsBy stop before after packets failure = OutputFails failure
-
--- The packets before the file's end, or before its refusal, which is told behind them, were answered.
-pub record ReplaySays (packets : Packets) (k : CheckedProgram) (known before after : Option (List ℕ)) (status : ℕ) : Type 0 where
+-- The packets before the file's end, or before its refusal, were answered, and the refusal is answered behind them.
+pub record ReplaySays (packets : Packets) (k : CheckedProgram) (known before after : Option (List ℕ)) (reply : Reply) : Type 0 where
   pub stop : Stop
   pub values : List ℕ
   pub text : List ℕ
-  pub line : List ℕ
   pub replayed : Replayed (Gives k) (blocks_of packets.order k) known stop values
   pub told : IsTold packets.counts values text
-  pub ends : EndsBy stop line status
-  pub printed : Appends before after (text ++ line)
+  pub ends : EndsBy stop reply
+  pub printed : Appends before after text
 
 -- The reader failed, and the packets before were answered; or the output did.
 abbrev pub ReplayFails : Packets → CheckedProgram → Option (List ℕ) → Option (List ℕ) → Option (List ℕ) → Failure → Type 0
@@ -81,26 +62,16 @@ ReplayFails packets k known before after (CannotRead name) =
     (name.now ≡ packets.name.now) × ((values text : List ℕ) × Replayed (Gives k) (blocks_of packets.order k) known Failed values × IsTold packets.counts values text × Appends before after text)
 ReplayFails packets k known before after failure = OutputFails failure
 
--- what may stand behind the answers
-abbrev pub LineOf : Stop → List ℕ → Type 0
-LineOf stop line = (line ≡ []) ⊎ ((refusal : CaptureRefusal) × (stop ≡ Refused refusal) × (line ≡ capture_line refusal))
-
--- where that fails, a beginning was printed of the answers to the first packets, and perhaps of the refusal behind them
-pub record ReplayLeft (packets : Packets) (k : CheckedProgram) (known before after : Option (List ℕ)) : Type 0 where
-  pub stop : Stop
-  pub values : List ℕ
-  pub text : List ℕ
-  pub line : List ℕ
-  pub replayed : Replayed (Gives k) (blocks_of packets.order k) known stop values
-  pub told : IsTold packets.counts values text
-  pub behind : LineOf stop line
-  pub printed : AppendsBeginning before after (text ++ line)
+-- where that fails, a beginning was printed of the answers to the first packets
+abbrev pub ReplayLeft : Packets → CheckedProgram → Option (List ℕ) → Option (List ℕ) → Option (List ℕ) → Type 0
+ReplayLeft packets k known before after =
+    (values text : List ℕ) × Replayed (Gives k) (blocks_of packets.order k) known Failed values × IsTold packets.counts values text × AppendsBeginning before after text
 
 -- ---- at a name
 
 -- the name is opened, and its packets are answered
-abbrev pub PacketsSay : {S : Type 0} → Opening S → S → Packets → S → CheckedProgram → Option (List ℕ) → Option (List ℕ) → ℕ → Type 0
-PacketsSay opening old packets new k before after status = (known : Option (List ℕ)) × opening old packets.name.now (Some known) new × ReplaySays packets k known before after status
+abbrev pub PacketsSay : {S : Type 0} → Opening S → S → Packets → S → CheckedProgram → Option (List ℕ) → Option (List ℕ) → Reply → Type 0
+PacketsSay opening old packets new k before after reply = (known : Option (List ℕ)) × opening old packets.name.now (Some known) new × ReplaySays packets k known before after reply
 
 -- the name can't be opened, or something of it fails
 abbrev pub PacketsFail : {S : Type 0} → Opening S → S → Packets → S → CheckedProgram → Option (List ℕ) → Option (List ℕ) → Failure → Type 0
@@ -121,61 +92,62 @@ NoBlock k (NoContext count least most) = (count ≡ head_bytes) × (least ≡ k.
 NoBlock k answer = ⊥
 
 -- the certificate is refused, or its contexts have no room for a block, or the packets are answered
-abbrev pub JudgedPacketsSay : {S : Type 0} → Opening S → S → List ℕ → Packets → S → Instructions → Option (List ℕ) → Option (List ℕ) → ℕ → Type 0
-JudgedPacketsSay {S} opening old certificate packets new p before after status =
-    Answered (JudgedSays opening old certificate new p NoBlock) before after status
-    ⊎ ((between : S) × (c : CertificateView) × CertificateAt opening old certificate between c × IsCertifiedBy p c × (head_bytes ≤ c.most)
-    × PacketsSay opening between packets new (checked p c) before after status)
+abbrev pub JudgedPacketsSay : {S : Type 0} → Opening S → S → Packets → S → Instructions → Option (List ℕ) → Option (List ℕ) → Reply → Type 0
+JudgedPacketsSay {S} opening old packets new p before after reply =
+    Replies (JudgedSays opening old packets.certificate.now new p NoBlock) before after reply
+    ⊎ ((between : S) × (c : CertificateView) × CertificateAt opening old packets.certificate.now between c × IsCertifiedBy p c × (head_bytes ≤ c.most)
+    × PacketsSay opening between packets new (checked p c) before after reply)
 
-abbrev pub JudgedPacketsFail : {S : Type 0} → Opening S → S → List ℕ → Packets → S → Instructions → Option (List ℕ) → Option (List ℕ) → Failure → Type 0
-JudgedPacketsFail {S} opening old certificate packets new p before after failure =
-    CertificateFails opening old certificate new failure
-    ⊎ ((between : S) × (c : CertificateView) × CertificateAt opening old certificate between c × IsCertifiedBy p c
+abbrev pub JudgedPacketsFail : {S : Type 0} → Opening S → S → Packets → S → Instructions → Option (List ℕ) → Option (List ℕ) → Failure → Type 0
+JudgedPacketsFail {S} opening old packets new p before after failure =
+    CertificateFails opening old packets.certificate.now new failure
+    ⊎ ((between : S) × (c : CertificateView) × CertificateAt opening old packets.certificate.now between c × IsCertifiedBy p c
     × PacketsFail opening between packets new (checked p c) before after failure)
 
-abbrev pub JudgedPacketsLeave : {S : Type 0} → Opening S → S → List ℕ → Packets → S → Instructions → Option (List ℕ) → Option (List ℕ) → Type 0
-JudgedPacketsLeave {S} opening old certificate packets new p before after =
-    Unfinished (JudgedSays opening old certificate new p NoBlock) before after
-    ⊎ ((between : S) × (c : CertificateView) × CertificateAt opening old certificate between c × IsCertifiedBy p c
+-- where that fails nothing was printed, or a beginning of the answers
+abbrev pub JudgedPacketsLeave : {S : Type 0} → Opening S → S → Packets → S → Instructions → Option (List ℕ) → Option (List ℕ) → Type 0
+JudgedPacketsLeave {S} opening old packets new p before after =
+    Keeps before after
+    ⊎ ((between : S) × (c : CertificateView) × CertificateAt opening old packets.certificate.now between c × IsCertifiedBy p c
     × PacketsLeave opening between packets new (checked p c) before after)
 
 -- ---- behind an image
 
-abbrev pub PacketsCheckedSay : {S : Type 0} → Opening S → S → (input certificate : List ℕ) → Packets → S → Option (List ℕ) → Option (List ℕ) → ℕ → Type 0
-PacketsCheckedSay {S} opening old input certificate packets new before after status =
-    Answered (ImageSays opening packets.order old input new (λ p x. ⊥)) before after status
-    ⊎ ((between : S) × (p : Instructions) × LoadsImage opening packets.order old input between p
-    × JudgedPacketsSay opening between certificate packets new p before after status)
+abbrev pub PacketsCheckedSay : {S : Type 0} → Opening S → S → Packets → S → Option (List ℕ) → Option (List ℕ) → Reply → Type 0
+PacketsCheckedSay {S} opening old packets new before after reply =
+    Replies (ImageSays opening packets.order old packets.input.now new (λ p x. ⊥)) before after reply
+    ⊎ ((between : S) × (p : Instructions) × LoadsImage opening packets.order old packets.input.now between p
+    × JudgedPacketsSay opening between packets new p before after reply)
 
-abbrev pub PacketsCheckedFail : {S : Type 0} → Opening S → S → (input certificate : List ℕ) → Packets → S → Option (List ℕ) → Option (List ℕ) → Failure → Type 0
-PacketsCheckedFail {S} opening old input certificate packets new before after failure =
-    ImageFails opening old input new failure
-    ⊎ ((between : S) × (p : Instructions) × LoadsImage opening packets.order old input between p
-    × JudgedPacketsFail opening between certificate packets new p before after failure)
+abbrev pub PacketsCheckedFail : {S : Type 0} → Opening S → S → Packets → S → Option (List ℕ) → Option (List ℕ) → Failure → Type 0
+PacketsCheckedFail {S} opening old packets new before after failure =
+    ImageFails opening old packets.input.now new failure
+    ⊎ ((between : S) × (p : Instructions) × LoadsImage opening packets.order old packets.input.now between p
+    × JudgedPacketsFail opening between packets new p before after failure)
 
-abbrev pub PacketsCheckedLeave : {S : Type 0} → Opening S → S → (input certificate : List ℕ) → Packets → S → Option (List ℕ) → Option (List ℕ) → Type 0
-PacketsCheckedLeave {S} opening old input certificate packets new before after =
-    Unfinished (ImageSays opening packets.order old input new (λ p x. ⊥)) before after
-    ⊎ ((between : S) × (p : Instructions) × LoadsImage opening packets.order old input between p
-    × JudgedPacketsLeave opening between certificate packets new p before after)
+abbrev pub PacketsCheckedLeave : {S : Type 0} → Opening S → S → Packets → S → Option (List ℕ) → Option (List ℕ) → Type 0
+PacketsCheckedLeave {S} opening old packets new before after =
+    Keeps before after
+    ⊎ ((between : S) × (p : Instructions) × LoadsImage opening packets.order old packets.input.now between p
+    × JudgedPacketsLeave opening between packets new p before after)
 
 -- ---- by what is given
 
 -- the capture with this name, as it is asked for
 abbrev pub packets_of : Replaying → Bor (List ℕ) → Packets
-packets_of r name = record { name = name; counts = r.counts; order = r.order }
+packets_of r name = record { input = r.input; certificate = r.certificate; name = name; counts = r.counts; order = r.order }
 
 -- The packets are answered. With other contexts beside them, or with no capture, nothing is.
-abbrev pub SaysOn : {S : Type 0} → Opening S → S → Replaying → Option (Bor (List ℕ)) → Contexts → S → Option (List ℕ) → Option (List ℕ) → ℕ → Type 0
-SaysOn opening old r (Some name) Nothing new before after status = PacketsCheckedSay opening old r.input.now r.certificate.now (packets_of r name) new before after status
-SaysOn opening old r (Some name) (Word hex) new before after status = ⊥
-SaysOn opening old r (Some name) (Bytes other) new before after status = ⊥
-SaysOn opening old r (Some name) (Lines lines) new before after status = ⊥
-SaysOn opening old r (Some name) Several new before after status = ⊥
-SaysOn opening old r None contexts new before after status = ⊥
+abbrev pub SaysOn : {S : Type 0} → Opening S → S → Replaying → Option (Bor (List ℕ)) → Contexts → S → Option (List ℕ) → Option (List ℕ) → Reply → Type 0
+SaysOn opening old r (Some name) Nothing new before after reply = PacketsCheckedSay opening old (packets_of r name) new before after reply
+SaysOn opening old r (Some name) (Word hex) new before after reply = ⊥
+SaysOn opening old r (Some name) (Bytes other) new before after reply = ⊥
+SaysOn opening old r (Some name) (Lines lines) new before after reply = ⊥
+SaysOn opening old r (Some name) Several new before after reply = ⊥
+SaysOn opening old r None contexts new before after reply = ⊥
 
 abbrev pub FailsOn : {S : Type 0} → Opening S → S → Replaying → Option (Bor (List ℕ)) → Contexts → S → Option (List ℕ) → Option (List ℕ) → Failure → Type 0
-FailsOn opening old r (Some name) Nothing new before after failure = PacketsCheckedFail opening old r.input.now r.certificate.now (packets_of r name) new before after failure
+FailsOn opening old r (Some name) Nothing new before after failure = PacketsCheckedFail opening old (packets_of r name) new before after failure
 FailsOn opening old r (Some name) (Word hex) new before after failure = (failure ≡ ContextTwice) × (new ≡ old)
 FailsOn opening old r (Some name) (Bytes other) new before after failure = (failure ≡ ContextTwice) × (new ≡ old)
 FailsOn opening old r (Some name) (Lines lines) new before after failure = (failure ≡ ContextTwice) × (new ≡ old)
@@ -183,7 +155,7 @@ FailsOn opening old r (Some name) Several new before after failure = (failure �
 FailsOn opening old r None contexts new before after failure = (failure ≡ NotTogether) × (new ≡ old)
 
 abbrev pub LeavesOn : {S : Type 0} → Opening S → S → Replaying → Option (Bor (List ℕ)) → Contexts → S → Option (List ℕ) → Option (List ℕ) → Type 0
-LeavesOn opening old r (Some name) Nothing new before after = PacketsCheckedLeave opening old r.input.now r.certificate.now (packets_of r name) new before after
+LeavesOn opening old r (Some name) Nothing new before after = PacketsCheckedLeave opening old (packets_of r name) new before after
 LeavesOn opening old r (Some name) (Word hex) new before after = Keeps before after
 LeavesOn opening old r (Some name) (Bytes other) new before after = Keeps before after
 LeavesOn opening old r (Some name) (Lines lines) new before after = Keeps before after
@@ -199,8 +171,8 @@ names_on r (Some name) (Lines lines) = []
 names_on r (Some name) Several = []
 names_on r None contexts = []
 
-abbrev pub ReplayedSays : {S : Type 0} → Opening S → S → Replaying → S → Option (List ℕ) → Option (List ℕ) → ℕ → Type 0
-ReplayedSays opening old r new before after status = SaysOn opening old r r.packets r.contexts new before after status
+abbrev pub ReplayedSays : {S : Type 0} → Opening S → S → Replaying → S → Option (List ℕ) → Option (List ℕ) → Reply → Type 0
+ReplayedSays opening old r new before after reply = SaysOn opening old r r.packets r.contexts new before after reply
 
 abbrev pub ReplayedFails : {S : Type 0} → Opening S → S → Replaying → S → Option (List ℕ) → Option (List ℕ) → Failure → Type 0
 ReplayedFails opening old r new before after failure = FailsOn opening old r r.packets r.contexts new before after failure

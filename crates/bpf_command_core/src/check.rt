@@ -2,47 +2,43 @@
 
 ghost use Rattle.std.specs.Prelude.{IfOk, IfErr, ◌∷◌, []};
 ghost use Rattle.bpf_answers.specs.Loaded.{OpensFirst};
-ghost use Rattle.bpf_answers.specs.Answer.{Answered, Unfinished};
+ghost use Rattle.bpf_answers.specs.Told.{IsQuiet};
 ghost use Rattle.bpf_command_core.specs.Printed.{CheckSays, LoadedFails};
 
 use crate::judged::{Wish, judged};
-use bpf_answers::{Failure, image_at, refuse_image};
-use bpf_insn::{Order, ProgramView, image_is_injective};
+use bpf_answers::{Answer, Failure, image_at};
+use bpf_insn::{ProgramView, image_is_injective};
 use bpf_places::Places;
+use bpf_request::Checking;
 use bpf_safety::{certified_is_flat_safe, certified_is_safe};
 use std::alloc::Global;
-use std::io::Write;
 
-/// Judges whether the certificate certifies the image's program, and prints what it promises, and where it is asked for
+/// Judges whether the certificate certifies the image's program, and answers what it promises, and where it is asked for
 /// the work of the check. The image is judged before the certificate is opened. The program takes no memory.
-pub fn checked<'a, P: Places, W: Write>(
+pub fn checked<'a, P: Places>(
     alloc: Global,
     places: &mut P,
-    out: &mut W,
-    input: &'a str,
-    certificate: &'a str,
-    order: Order,
-    counted: bool,
-) -> Result<u8, Failure<'a>>
-    ensures ok { IfOk result (Answered (CheckSays P.opens order places.old input.entry.now certificate.entry.now places.new counted)
-        (W.contents out.old) (W.contents out.new)) }
-    ensures err { IfErr result (LoadedFails P.opens order places.old input.entry.now certificate.entry.now places.new) }
-    ensures begun { IfErr result (λ _. Unfinished (CheckSays P.opens order places.old input.entry.now certificate.entry.now places.new counted)
-        (W.contents out.old) (W.contents out.new)) }
-    ensures opened { OpensFirst P.opens (input.entry.now ∷ certificate.entry.now ∷ []) places.old places.new }
+    asked: Checking<'a>,
+) -> Result<Answer, Failure<'a>>
+    ensures ok { IfOk result (CheckSays P.opens asked.entry.order places.old asked.entry.input.now asked.entry.certificate.now places.new asked.entry.work) }
+    ensures err { IfErr result (LoadedFails P.opens asked.entry.order places.old asked.entry.input.now asked.entry.certificate.now places.new) }
+    ensures quiet { IfErr result IsQuiet }
+    ensures opened { OpensFirst P.opens (asked.entry.input.now ∷ asked.entry.certificate.now ∷ []) places.old places.new }
 {
     image_is_injective();
     certified_is_safe();
     certified_is_flat_safe();
-    let bytes = match image_at(alloc, places, input)? {
+    let bytes = match image_at(alloc, places, asked.input)? {
         Ok(bytes) => bytes,
-        Err(error) => return refuse_image(alloc, out, error),
+        Err(error) => return Ok(Answer::NoImage(error)),
     };
-    match ProgramView::of(&bytes, order) {
+    match ProgramView::of(&bytes, asked.order) {
         Ok(program) => {
-            let wish = Wish::Promise { counted };
-            judged(alloc, places, out, &program, certificate, wish)
+            let wish = Wish::Promise {
+                counted: asked.work,
+            };
+            judged(alloc, places, &program, asked.certificate, wish)
         }
-        Err(error) => refuse_image(alloc, out, error),
+        Err(error) => Ok(Answer::NoImage(error)),
     }
 }

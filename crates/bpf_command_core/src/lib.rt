@@ -19,7 +19,7 @@ pub use follows::followed;
 pub use groups::grouped;
 pub use list::listed;
 pub use migrate::migrated;
-pub use packets::{CaptureTeller, replayed};
+pub use packets::replayed;
 pub use run::ran_on;
 pub use run_checked::ran_checked_on;
 pub use tracer::Tracer;

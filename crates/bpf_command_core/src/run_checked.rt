@@ -1,117 +1,94 @@
 //! `bpf run-checked IN CERT HEX`, and the same with `--context FILE` or `--contexts FILE` in place of HEX.
 
-ghost use Rattle.std.specs.Prelude.{◌≡◌, ℕ, List, Ok, IfOk, IfErr, ◌∷◌, []};
-ghost use Rattle.bpf_answers.specs.Context.{context_in};
-ghost use Rattle.bpf_command_core.specs.Names.{names_checked};
+ghost use Rattle.std.specs.Prelude.{IfOk, IfErr, ◌∷◌, []};
 ghost use Rattle.bpf_answers.specs.Loaded.{OpensFirst};
-ghost use Rattle.bpf_answers.specs.Answer.{Answer, Answered, Says, Unfinished};
-ghost use Rattle.bpf_command_core.specs.Given.{CheckedAtSays, CheckedEachFails, CheckedEachLeaves, CheckedEachSays, CheckedFails, CheckedLeaves, CheckedSays, FailsBehind, OnNamed, OnWord};
+ghost use Rattle.bpf_command_core.specs.Names.{names_checked};
+ghost use Rattle.bpf_command_core.specs.Given.{CheckedEachFails, CheckedEachLeaves, CheckedEachSays, CheckedFails, CheckedLeaves, CheckedSays, FailsBehind, OnNamed, OnWord};
 ghost use Rattle.bpf_command_core.specs.Printed.{RunCheckedSays, LoadedFails, FailsWith};
 
 use crate::judged::{Wish, judged, judged_each};
-use bpf_answers::{Failure, context_at, context_of, program_at, refuse_image};
-use bpf_insn::Order;
+use bpf_answers::{Answer, Failure, Reply, context_at, context_of, program_at};
 use bpf_places::Places;
-use bpf_request::Contexts;
+use bpf_request::{CheckedRunning, Contexts};
 use std::alloc::Global;
 use std::io::Write;
 
-/// Runs the image's program on a context once the certificate has certified it, and prints the result.
-fn run_certified<'a, P: Places, W: Write>(
+/// Runs the image's program on a context once the certificate has certified it.
+fn run_certified<'a, P: Places>(
     alloc: Global,
     places: &mut P,
-    out: &mut W,
-    input: &'a str,
-    certificate: &'a str,
+    asked: CheckedRunning<'a>,
     context: &[u8],
-    order: Order,
-) -> Result<u8, Failure<'a>>
-    ensures ok { IfOk result (Answered (RunCheckedSays P.opens order places.old input.entry.now certificate.entry.now places.new context.now)
-        (W.contents out.old) (W.contents out.new)) }
-    ensures err { IfErr result (LoadedFails P.opens order places.old input.entry.now certificate.entry.now places.new) }
-    ensures begun { IfErr result (λ _. Unfinished (RunCheckedSays P.opens order places.old input.entry.now certificate.entry.now places.new
-        context.now) (W.contents out.old) (W.contents out.new)) }
-    ensures opened { OpensFirst P.opens (input.entry.now ∷ certificate.entry.now ∷ []) places.old places.new }
+) -> Result<Answer, Failure<'a>>
+    ensures ok { IfOk result (RunCheckedSays P.opens asked.entry.order places.old asked.entry.input.now asked.entry.certificate.now places.new context.now) }
+    ensures err { IfErr result (LoadedFails P.opens asked.entry.order places.old asked.entry.input.now asked.entry.certificate.now places.new) }
+    ensures opened { OpensFirst P.opens (asked.entry.input.now ∷ asked.entry.certificate.now ∷ []) places.old places.new }
 {
-    match program_at(alloc, places, input, order)? {
+    match program_at(alloc, places, asked.input, asked.order)? {
         Ok(program) => {
             let wish = Wish::Run { context };
-            judged(alloc, places, out, &program, certificate, wish)
+            judged(alloc, places, &program, asked.certificate, wish)
         }
-        Err(error) => refuse_image(alloc, out, error),
+        Err(error) => Ok(Answer::NoImage(error)),
     }
 }
 
-/// Runs the image's program on the context once the certificate has certified it, and prints the result. The context's
-/// word is judged first, then the image, the certificate, the check, and the context's length last.
-fn ran_checked<'a, P: Places, W: Write>(
+/// Runs the image's program on the context that a word spells, once the certificate has certified it. The context's word is judged first, then
+/// the image, the certificate, the check, and the context's length last.
+fn ran_checked<'a, P: Places>(
     alloc: Global,
     places: &mut P,
-    out: &mut W,
-    input: &'a str,
-    certificate: &'a str,
+    asked: CheckedRunning<'a>,
     hex: &'a str,
-    order: Order,
-) -> Result<u8, Failure<'a>>
-    ensures ok { IfOk result (λ status. (answer : Answer) × (context : List ℕ) × (context_in hex.entry.now ≡ Ok context) × Says answer status
-        (W.contents out.old) (W.contents out.new) × RunCheckedSays P.opens order places.old input.entry.now certificate.entry.now places.new context
-        answer) }
+) -> Result<Answer, Failure<'a>>
+    ensures ok { IfOk result (OnWord hex.entry.now
+        (RunCheckedSays P.opens asked.entry.order places.old asked.entry.input.now asked.entry.certificate.now places.new)) }
     ensures err { IfErr result (FailsWith places.old places.new hex.entry.now
-        (LoadedFails P.opens order places.old input.entry.now certificate.entry.now places.new)) }
-    ensures begun { IfErr result (λ _. Unfinished (OnWord hex.entry.now
-        (RunCheckedSays P.opens order places.old input.entry.now certificate.entry.now places.new)) (W.contents out.old) (W.contents out.new)) }
-    ensures opened { OpensFirst P.opens (input.entry.now ∷ certificate.entry.now ∷ []) places.old places.new }
+        (LoadedFails P.opens asked.entry.order places.old asked.entry.input.now asked.entry.certificate.now places.new)) }
+    ensures opened { OpensFirst P.opens (asked.entry.input.now ∷ asked.entry.certificate.now ∷ []) places.old places.new }
 {
     let context = match context_of(alloc, hex) {
         Ok(context) => context,
         Err(error) => return Err(Failure::BadContext(error)),
     };
-    run_certified(alloc, places, out, input, certificate, &context, order)
+    run_certified(alloc, places, asked, &context)
 }
 
 /// The same with the context at a name, which is read first.
-fn ran_checked_at<'a, P: Places, W: Write>(
+fn ran_checked_at<'a, P: Places>(
     alloc: Global,
     places: &mut P,
-    out: &mut W,
-    input: &'a str,
-    certificate: &'a str,
+    asked: CheckedRunning<'a>,
     context: &'a str,
-    order: Order,
-) -> Result<u8, Failure<'a>>
-    ensures ok { IfOk result (CheckedAtSays P.opens order places.old input.entry.now certificate.entry.now context.entry.now places.new
-        (W.contents out.old) (W.contents out.new)) }
+) -> Result<Answer, Failure<'a>>
+    ensures ok { IfOk result (OnNamed P.opens places.old context.entry.now
+        (λ between. RunCheckedSays P.opens asked.entry.order between asked.entry.input.now asked.entry.certificate.now places.new)) }
     ensures err { IfErr result (FailsBehind P.opens places.old context.entry.now places.new
-        (λ between. LoadedFails P.opens order between input.entry.now certificate.entry.now places.new)) }
-    ensures begun { IfErr result (λ _. Unfinished (OnNamed P.opens places.old context.entry.now
-        (λ between. RunCheckedSays P.opens order between input.entry.now certificate.entry.now places.new)) (W.contents out.old) (W.contents out.new)) }
-    ensures opened { OpensFirst P.opens (context.entry.now ∷ input.entry.now ∷ certificate.entry.now ∷ []) places.old places.new }
+        (λ between. LoadedFails P.opens asked.entry.order between asked.entry.input.now asked.entry.certificate.now places.new)) }
+    ensures opened { OpensFirst P.opens (context.entry.now ∷ asked.entry.input.now ∷ asked.entry.certificate.now ∷ []) places.old places.new }
 {
     let context = context_at(alloc, places, context)?;
-    run_certified(alloc, places, out, input, certificate, &context, order)
+    run_certified(alloc, places, asked, &context)
 }
 
-/// The same with each context of the lines at a name, which is opened once the certificate has certified the program.
+/// The same with each context of the lines at a name, which is opened once the certificate has certified the program. Each answer is printed
+/// as it is found.
 fn ran_checked_each<'a, P: Places, W: Write>(
     alloc: Global,
     places: &mut P,
     out: &mut W,
-    input: &'a str,
-    certificate: &'a str,
+    asked: CheckedRunning<'a>,
     contexts: &'a str,
-    order: Order,
-) -> Result<u8, Failure<'a>>
-    ensures ok { IfOk result (CheckedEachSays P.opens order places.old input.entry.now certificate.entry.now contexts.entry.now places.new
+) -> Result<Reply, Failure<'a>>
+    ensures ok { IfOk result (CheckedEachSays P.opens places.old asked.entry contexts.entry.now places.new (W.contents out.old) (W.contents out.new)) }
+    ensures err { IfErr result (CheckedEachFails P.opens places.old asked.entry contexts.entry.now places.new (W.contents out.old) (W.contents out.new)) }
+    ensures begun { IfErr result (λ _. CheckedEachLeaves P.opens places.old asked.entry contexts.entry.now places.new
         (W.contents out.old) (W.contents out.new)) }
-    ensures err { IfErr result (CheckedEachFails P.opens order places.old input.entry.now certificate.entry.now contexts.entry.now places.new
-        (W.contents out.old) (W.contents out.new)) }
-    ensures begun { IfErr result (λ _. CheckedEachLeaves P.opens order places.old input.entry.now certificate.entry.now contexts.entry.now places.new
-        (W.contents out.old) (W.contents out.new)) }
-    ensures opened { OpensFirst P.opens (input.entry.now ∷ certificate.entry.now ∷ contexts.entry.now ∷ []) places.old places.new }
+    ensures opened { OpensFirst P.opens (asked.entry.input.now ∷ asked.entry.certificate.now ∷ contexts.entry.now ∷ []) places.old places.new }
 {
-    match program_at(alloc, places, input, order)? {
-        Ok(program) => judged_each(alloc, places, out, &program, certificate, contexts),
-        Err(error) => refuse_image(alloc, out, error),
+    match program_at(alloc, places, asked.input, asked.order)? {
+        Ok(program) => judged_each(alloc, places, out, &program, asked.certificate, contexts),
+        Err(error) => Ok(Reply::One(Answer::NoImage(error))),
     }
 }
 
@@ -120,39 +97,24 @@ pub fn ran_checked_on<'a, P: Places, W: Write>(
     alloc: Global,
     places: &mut P,
     out: &mut W,
-    input: &'a str,
-    certificate: &'a str,
-    contexts: Contexts<'a>,
-    order: Order,
-) -> Result<u8, Failure<'a>>
-    ensures ok { IfOk result (CheckedSays P.opens order places.old input.entry.now certificate.entry.now contexts.entry places.new
+    asked: CheckedRunning<'a>,
+) -> Result<Reply, Failure<'a>>
+    ensures ok { IfOk result (CheckedSays P.opens places.old asked.entry asked.entry.contexts places.new (W.contents out.old) (W.contents out.new)) }
+    ensures err { IfErr result (CheckedFails P.opens places.old asked.entry asked.entry.contexts places.new (W.contents out.old) (W.contents out.new)) }
+    ensures begun { IfErr result (λ _. CheckedLeaves P.opens places.old asked.entry asked.entry.contexts places.new
         (W.contents out.old) (W.contents out.new)) }
-    ensures err { IfErr result (CheckedFails P.opens order places.old input.entry.now certificate.entry.now contexts.entry places.new
-        (W.contents out.old) (W.contents out.new)) }
-    ensures begun { IfErr result (λ _. CheckedLeaves P.opens order places.old input.entry.now certificate.entry.now contexts.entry places.new
-        (W.contents out.old) (W.contents out.new)) }
-    ensures opened { OpensFirst P.opens (names_checked input.entry.now certificate.entry.now contexts.entry) places.old places.new }
+    ensures opened { OpensFirst P.opens (names_checked asked.entry.input.now asked.entry.certificate.now asked.entry.contexts) places.old places.new }
 {
-    match contexts {
-        Contexts::Word(hex) => ran_checked(alloc, places, out, input, certificate, hex, order),
-        Contexts::Bytes(name) => ran_checked_at(
-            alloc,
-            places,
-            out,
-            input,
-            certificate,
-            name,
-            order,
-        ),
-        Contexts::Lines(name) => ran_checked_each(
-            alloc,
-            places,
-            out,
-            input,
-            certificate,
-            name,
-            order,
-        ),
+    match asked.contexts {
+        Contexts::Word(hex) => match ran_checked(alloc, places, asked, hex) {
+            Ok(answer) => Ok(Reply::One(answer)),
+            Err(failure) => Err(failure),
+        },
+        Contexts::Bytes(name) => match ran_checked_at(alloc, places, asked, name) {
+            Ok(answer) => Ok(Reply::One(answer)),
+            Err(failure) => Err(failure),
+        },
+        Contexts::Lines(name) => ran_checked_each(alloc, places, out, asked, name),
         Contexts::Nothing => Err(Failure::NoContext),
         Contexts::Several => Err(Failure::ContextTwice),
     }

@@ -1,6 +1,6 @@
 -- Cells of the scratch memory in the frame: the cell M[i] is the slot i + 1, the eight bytes from 8 * (63 - i) on.
-use Rattle.std.proofs.Common.{◌≡◌, ℕ, zero, suc, ◌+◌, ◌*◌, ◌-◌, ◌/◌, ◌%◌, ◌==◌, ◌<◌, ◌≤◌, ◌^◌, ◌⊎◌, inl, inr, List, [], ◌∷◌, length, take, drop, get_or, set, Bool, true, false, cond, Option, Some, None, refl, sym, ap, ap₂, ◌∙◌, subst, ⊎_elim, arith}
-use Rattle.std.specs.Prelude.{ℤ, pos, ◌+ℤ◌, ◌-ℤ◌, nat_le, slice_index, slice_set, option_map, option_and_then}
+use Rattle.std.proofs.Common.{◌≡◌, ℕ, suc, ◌+◌, ◌*◌, ◌-◌, ◌/◌, ◌%◌, ◌==◌, ◌<◌, ◌≤◌, ◌^◌, ◌⊎◌, inl, inr, List, [], ◌∷◌, length, take, drop, get_or, Bool, true, false, cond, Option, Some, None, refl, sym, ap, ap₂, ◌∙◌, subst, ⊎_elim, arith}
+use Rattle.std.specs.Prelude.{pos, ◌+ℤ◌, slice_index, slice_set, option_map, option_and_then}
 use Rattle.std.specs.Option.{option_or}
 use Rattle.std.proofs.lemmas.Bool.{le-leb, cases_order, cases_eq}
 use Rattle.std.proofs.lemmas.Bool.Decides.{nat_tests}
@@ -9,19 +9,17 @@ use Rattle.std.proofs.lemmas.Option.{none-some}
 use Rattle.std.proofs.lemmas.List.{get_or-drop, get_or-set_same, get_or-set_other, length-set}
 use Rattle.bpf_insn.specs.Options.{◌>>=◌}
 use Rattle.bpf_insn.specs.Order.{number_of, bytes_of}
-use Rattle.bpf_insn.specs.Arithmetic.{extended}
 use Rattle.bpf_insn.specs.Instruction.{Instructions}
 use Rattle.bpf_insn.specs.declared.order.Order.{Order}
-use Rattle.bpf_insn.specs.declared.instruction.Reg.TheVariants.{R0, R3, R10}
+use Rattle.bpf_insn.specs.declared.instruction.Reg.TheVariants.{R10}
 use Rattle.bpf_insn.specs.declared.instruction.Size.TheVariants.{DW}
 use Rattle.bpf_insn.specs.declared.instruction.Insn.TheVariants.{Load, Store, StoreImm}
 use Rattle.bpf_semantics.specs.State.{State, Cell}
-use Rattle.bpf_semantics.specs.State.Cell.{Byte, Part}
-use Rattle.bpf_semantics.specs.Memory.{Location, inside, byte_in, bytes_in, pointer_in, number_at, each_cell, is_within, cell_after, without_part, with_bytes, store_number}
+use Rattle.bpf_semantics.specs.State.Cell.{Byte}
+use Rattle.bpf_semantics.specs.Memory.{inside, byte_in, bytes_in, pointer_in, is_within, cell_after, without_part, with_bytes, store_number}
 use Rattle.bpf_semantics.specs.Memory.Location.{InFrame}
 use Rattle.bpf_semantics.specs.Step.{does, load, store}
-use Rattle.bpf_semantics.specs.declared.value.Value.{Value}
-use Rattle.bpf_semantics.specs.declared.value.Value.TheVariants.{Number, Pointer}
+use Rattle.bpf_semantics.specs.declared.value.Value.TheVariants.{Number}
 use Rattle.bpf_semantics.proofs.NumberLemmas.{length-bytes_of}
 use Rattle.bpf_semantics.proofs.FlatBytes.{number-bytes}
 use Rattle.bpf_semantics.proofs.StateLemmas.{get_each, length-each_cell}

@@ -1,36 +1,34 @@
 -- What is known in front of each instruction of a converted filter, and how a run goes on behind a template.
-use Rattle.std.proofs.Common.{◌≡◌, ℕ, zero, suc, ◌+◌, ◌-◌, ◌*◌, ◌%◌, ◌<◌, ◌≤◌, ◌^◌, List, [], ◌∷◌, ◌++◌, length, take, drop, get_or, Bool, true, false, cond, Option, Some, None, refl, sym, ap, ap₂, ◌∙◌, subst, ⊎_elim, inl, inr, arith}
-use Rattle.std.specs.Prelude.{ℤ, pos, map, max, nat_lt, nat_le, slice_get, slice_index, not, ◌&&◌, ◌||◌, ◌==◌}
-use Rattle.std.proofs.lemmas.Bool.{false≢true, cases_lt, leb-true, le-ltb, lt-leb, le-leb, and_parts, cond_both}
-use Rattle.std.proofs.lemmas.Int.{clamps}
+use Rattle.std.proofs.Common.{◌≡◌, ℕ, zero, suc, ◌+◌, ◌-◌, ◌%◌, ◌<◌, ◌≤◌, ◌^◌, List, [], ◌∷◌, length, take, drop, Bool, true, false, cond, Option, Some, None, refl, sym, ap, ◌∙◌, subst, ⊎_elim, arith}
+use Rattle.std.specs.Prelude.{ℤ, pos, nat_lt, slice_get, slice_index, ◌||◌}
+use Rattle.std.proofs.lemmas.Bool.{false≢true, cases_lt, leb-true, le-ltb, lt-leb, le-leb, and_parts}
 use Rattle.std.proofs.lemmas.Option.{same_Some, none-some, slice_get-get_or, slice_get_past}
 use Rattle.std.proofs.lemmas.List.{drop_more}
 use Rattle.bpf_insn.specs.Order.{number_of}
-use Rattle.bpf_insn.specs.Arithmetic.{low, extended}
+use Rattle.bpf_insn.specs.Arithmetic.{low}
 use Rattle.bpf_insn.specs.Instruction.{Instructions}
 use Rattle.bpf_insn.specs.declared.order.Order.{Order}
 use Rattle.bpf_insn.specs.declared.order.Order.TheVariants.{Big}
 use Rattle.bpf_insn.specs.declared.instruction.Operand.TheVariants.{Imm}
 use Rattle.bpf_insn.specs.declared.instruction.Width.TheVariants.{W32}
 use Rattle.bpf_insn.specs.declared.instruction.AluOp.TheVariants.{Mov}
-use Rattle.bpf_semantics.specs.declared.value.Value.{Value}
 use Rattle.bpf_semantics.specs.declared.value.Value.TheVariants.{Number}
-use Rattle.bpf_classic.specs.Machine.{Given, Machine, Next, put, held, next, go_on, run_from, loaded, read}
-use Rattle.bpf_classic.specs.Machine.Next.{Ends as EndsWith, Goes}
+use Rattle.bpf_classic.specs.Machine.{Given, Machine, put, held, next, go_on, run_from, loaded, read}
 use Rattle.bpf_classic.specs.Valid.{names_no_cell, has_bad_constant}
 use Rattle.bpf_classic.specs.declared.instruction.Register.{Register}
 use Rattle.bpf_classic.specs.declared.instruction.Register.TheVariants.{A, X}
 use Rattle.bpf_classic.specs.declared.instruction.Classic.{Classic}
-use Rattle.bpf_convert.specs.Template.{head, room, length_offset, is_beyond, is_swapped, is_masked, need, total, ahead_in, loads, trap_code, code}
-use Rattle.bpf_convert.specs.Flow.{is_word, has_word, is_a, is_x, reads_a, reads_x, sets_a, sets_x, uses_trap, known_behind, leads_to, leads_on, implies, agrees, all_agree}
+use Rattle.bpf_convert.specs.Template.{head, room, length_offset, is_beyond, is_swapped, is_masked, total, ahead_in, loads, code}
+use Rattle.bpf_convert.specs.Flow.{is_word, has_word, is_a, is_x, reads_a, reads_x, sets_a, sets_x, uses_trap, known_behind, leads_to, leads_on, implies, agrees, all_agree, head_at}
 use Rattle.bpf_convert.specs.Meaning.{insns}
 use Rattle.bpf_convert.specs.declared.layout.Form.{Form}
-use Rattle.bpf_convert.specs.declared.layout.Form.TheVariants.{Blocks, Plain, Seccomp}
+use Rattle.bpf_convert.specs.declared.layout.Form.TheVariants.{Blocks, Plain, Seccomp, Extended}
 use Rattle.bpf_convert.specs.declared.layout.Layout.{Layout}
 use Rattle.bpf_convert.specs.declared.layout.Annotated.{Annotated}
+use Rattle.bpf_convert.specs.Longest.{turn}
 use Rattle.bpf_convert.proofs.Steps.{HasAt, Ends, Moves, after, ending}
 use Rattle.bpf_convert.proofs.Places.{trap_at}
-use Rattle.bpf_convert.proofs.Machine.{Fixed, Now, at, value_of, set_to, alu_moves}
+use Rattle.bpf_convert.proofs.Machine.{Fixed, Now, at, with_left, value_of, set_to, alu_moves}
 use Rattle.bpf_convert.proofs.Frame.{CellsHold}
 
 -- ---- a context, and what the filter is given by it
@@ -40,6 +38,14 @@ abbrev pub LengthIs : Form → ℤ → Order → Fixed → ℕ → Type 0
 LengthIs Blocks offset order f wire = (i : ℕ) × (offset ≡ pos i) × (i + 4 ≤ length f.context) × (number_of order 4 (take 4 (drop i f.context)) ≡ wire % 2 ^ 32)
 LengthIs Plain offset order f wire = low W32 f.room ≡ wire % 2 ^ 32
 LengthIs Seccomp offset order f wire = 64 ≡ wire % 2 ^ 32
+LengthIs Extended offset order f wire = (i : ℕ) × (offset ≡ pos i) × (i + 4 ≤ length f.context) × (number_of order 4 (take 4 (drop i f.context)) ≡ wire % 2 ^ 32)
+
+-- where the program reads a word of Linux's auxiliary data
+abbrev pub WordsAre : Form → Fixed → List ℕ → Type 0
+WordsAre Blocks f words = words ≡ []
+WordsAre Plain f words = words ≡ []
+WordsAre Seccomp f words = words ≡ []
+WordsAre Extended f words = (at : ℕ) → at ≤ 60 → (8 + at + 4 ≤ length f.context) × (take 4 (drop (8 + at) f.context) ≡ take 4 (drop at words))
 
 pub record Fits (l : Layout) (p : Instructions) (g : Given) (f : Fixed) : Type 0 where
   pub short : room l ≤ 4096
@@ -51,6 +57,8 @@ pub record Fits (l : Layout) (p : Instructions) (g : Given) (f : Fixed) : Type 0
   pub order : g.order ≡ cond (is_swapped l) Big p.order
   pub masks : g.masks ≡ is_masked l
   pub wire : LengthIs l.form (length_offset l) p.order f g.wire
+  pub own : g.own ≡ p.order
+  pub words : WordsAre l.form f g.words
 
 -- ---- what is known
 
@@ -123,10 +131,33 @@ found rest k b e = ⊎_elim
     (λ le. absurd (none-some _ (sym (slice_get_past rest k le) ∙ e)))
     (cases_lt k (length rest))
 
+-- ---- where a jump back leads
+
+module _ (l : Layout) (p : Instructions) (g : Given) (f : Fixed) (wanted : ℕ → Bool) (all : List Annotated) (start : ℕ) where
+  -- a run that goes on from there ends with what the filter's does, if it may jump back once more
+  pub record TurnsOn (n : ℕ) : Type 0 where
+    pub few : n < 2 ^ 16
+    pub spare : ℕ
+    pub spared : f.spare ≡ spare + turn p.list
+    pub on : (left v : ℕ) (b : Annotated) (m : Machine) (w : Now) → slice_get all (head_at all left) ≡ Some b → b.reached ≡ true → Knows p.order wanted f b.a b.x b.known m w
+        → f.back left m ≡ Some v → Ends p spare (at (with_left n f) (start + ahead_in l all (head_at all left)) w) v
+
+  -- else it answers 0
+  abbrev pub TurnsFrom : ℕ → Type 0
+  TurnsFrom zero = (left : ℕ) (m : Machine) → f.back left m ≡ Some 0
+  TurnsFrom (suc n) = TurnsOn n
+
+  -- where there is a loop
+  pub record Turns : Type 0 where
+    pub here : HasAt p start (code l all)
+    pub count : ℕ
+    pub left : f.left ≡ Some count
+    pub go : TurnsFrom count
+
 -- ---- one instruction
 
-abbrev pub marked : Classic → ℕ → Bool → Bool → Annotated
-marked i known sa sx = record { insn = i; reached = true; known = known; a = sa; x = sx }
+abbrev pub marked : Classic → ℕ → Bool → Bool → ℕ → Annotated
+marked i known sa sx over = record { insn = i; reached = true; known = known; a = sa; x = sx; back = over }
 
 module _ (l : Layout) (p : Instructions) (g : Given) (f : Fixed) (wanted : ℕ → Bool) where
   abbrev pub Holds : Bool → Bool → ℕ → Machine → Now → Type 0
@@ -140,24 +171,24 @@ module _ (l : Layout) (p : Instructions) (g : Given) (f : Fixed) (wanted : ℕ �
   abbrev pub Onward : Annotated → List Annotated → ℕ → ℕ → Type 0
   Onward a rest fuel v =
       (slot k : ℕ) (m : Machine) (w : Now) → HasAt p slot (code l rest) → leads_to a (slice_get rest k) ≡ true → Behind a m w
-      → run_from fuel g (drop k (insns rest)) m ≡ Some v → Ends p (at f (slot + ahead_in l rest k) w) v
+      → run_from f.back fuel g (drop k (insns rest)) m ≡ Some v → Ends p f.spare (at f (slot + ahead_in l rest k) w) v
 
   -- what each instruction is shown to do: where the filter's run goes on from it to v, the program's run ends with v
   abbrev pub Follows : Classic → Type 0
   Follows i =
-      (known : ℕ) (sa sx : Bool) (rest : List Annotated) (slot fuel v : ℕ) (m : Machine) (w : Now)
-      → Good i → HasAt p slot (code l (marked i known sa sx ∷ rest)) → Agreed l (marked i known sa sx) rest → Covers wanted i → Holds sa sx known m w
-      → Onward (marked i known sa sx) rest fuel v
-      → go_on (next g i m) (λ k m'. run_from fuel g (drop k (insns rest)) m') ≡ Some v → Ends p (at f slot w) v
+      (known : ℕ) (sa sx : Bool) (over : ℕ) (rest : List Annotated) (slot fuel v : ℕ) (m : Machine) (w : Now)
+      → Good i → HasAt p slot (code l (marked i known sa sx over ∷ rest)) → Agreed l (marked i known sa sx over) rest → Covers wanted i → Holds sa sx known m w
+      → Onward (marked i known sa sx over) rest fuel v
+      → go_on (next g i m) (λ k m'. run_from f.back fuel g (drop k (insns rest)) m') (λ k m'. f.back (length (insns rest) + k) m') ≡ Some v → Ends p f.spare (at f slot w) v
 
   -- the next instruction follows
-  pub straight : (a : Annotated) (rest : List Annotated) (slot fuel v : ℕ) (m : Machine) (w : Now) → Onward a rest fuel v → HasAt p slot (code l rest) → leads_to a (slice_get rest 0) ≡ true → Behind a m w → run_from fuel g (insns rest) m ≡ Some v → Ends p (at f slot w) v
+  pub straight : (a : Annotated) (rest : List Annotated) (slot fuel v : ℕ) (m : Machine) (w : Now) → Onward a rest fuel v → HasAt p slot (code l rest) → leads_to a (slice_get rest 0) ≡ true → Behind a m w → run_from f.back fuel g (insns rest) m ≡ Some v → Ends p f.spare (at f slot w) v
   straight a rest slot fuel v m w onward has leads knows run =
       let e : slot + (total l rest - total l rest) ≡ slot = omega arith in
-      subst (λ n. Ends p (at f n w) v) e (onward slot 0 m w has leads knows run)
+      subst (λ n. Ends p f.spare (at f n w) v) e (onward slot 0 m w has leads knows run)
 
   -- an instruction that becomes one, behind which the next one follows
-  pub pass : (a : Annotated) (rest : List Annotated) (slot fuel v : ℕ) (m : Machine) (w u : Now) → Moves p (at f slot w) (at f (slot + 1) u) → HasAt p (slot + 1) (code l rest) → Onward a rest fuel v → leads_to a (slice_get rest 0) ≡ true → Behind a m u → run_from fuel g (insns rest) m ≡ Some v → Ends p (at f slot w) v
+  pub pass : (a : Annotated) (rest : List Annotated) (slot fuel v : ℕ) (m : Machine) (w u : Now) → Moves p (at f slot w) (at f (slot + 1) u) → HasAt p (slot + 1) (code l rest) → Onward a rest fuel v → leads_to a (slice_get rest 0) ≡ true → Behind a m u → run_from f.back fuel g (insns rest) m ≡ Some v → Ends p f.spare (at f slot w) v
   pass a rest slot fuel v m w u moves has onward leads knows run = after p (at f slot w) (at f (slot + 1) u) v moves (straight a rest (slot + 1) fuel v m u onward has leads knows run)
 
   -- A or X is set
@@ -200,7 +231,7 @@ module _ (l : Layout) (p : Instructions) (g : Given) (f : Fixed) (wanted : ℕ �
 
   -- ---- the exit that answers 0
 
-  pub trapped : (rest : List Annotated) (slot v : ℕ) (w : Now) → l.trap ≡ true → HasAt p slot (code l rest) → 0 ≡ v → Ends p (at f (slot + total l rest) w) v
+  pub trapped : (rest : List Annotated) (slot v : ℕ) (w : Now) → l.trap ≡ true → HasAt p slot (code l rest) → 0 ≡ v → Ends p f.spare (at f (slot + total l rest) w) v
   trapped rest slot v w trap has zero_is =
       let here = trap_at l p rest slot trap has in
       let to : ℕ = slot + total l rest in
@@ -219,8 +250,8 @@ module _ (l : Layout) (p : Instructions) (g : Given) (f : Fixed) (wanted : ℕ �
   read_outside fits k n lt = ap (λ b. cond b (Some (number_of g.order n (take n (drop k g.packet)))) None) (lt-leb (k + n) (length g.packet) (omega (arith, fits.there)))
 
   -- a load from outside answers 0
-  pub outside_is : (o : Option ℕ) (to : ℕ → Machine) (then : ℕ → Machine → Option ℕ) (v : ℕ) → o ≡ None → go_on (loaded o to) then ≡ Some v → 0 ≡ v
-  outside_is o to then v e run = same_Some 0 v (sym (ap (λ o. go_on (loaded o to) then) e) ∙ run)
+  pub outside_is : (o : Option ℕ) (to : ℕ → Machine) (then turn : ℕ → Machine → Option ℕ) (v : ℕ) → o ≡ None → go_on (loaded o to) then turn ≡ Some v → 0 ≡ v
+  outside_is o to then turn v e run = same_Some 0 v (sym (ap (λ o. go_on (loaded o to) then turn) e) ∙ run)
 
-  pub inside_is : (o : Option ℕ) (n : ℕ) (to : ℕ → Machine) (then : ℕ → Machine → Option ℕ) (v : ℕ) → o ≡ Some n → go_on (loaded o to) then ≡ Some v → then 0 (to n) ≡ Some v
-  inside_is o n to then v e run = sym (ap (λ o. go_on (loaded o to) then) e) ∙ run
+  pub inside_is : (o : Option ℕ) (n : ℕ) (to : ℕ → Machine) (then turn : ℕ → Machine → Option ℕ) (v : ℕ) → o ≡ Some n → go_on (loaded o to) then turn ≡ Some v → then 0 (to n) ≡ Some v
+  inside_is o n to then turn v e run = sym (ap (λ o. go_on (loaded o to) then turn) e) ∙ run

@@ -8,9 +8,12 @@ pub mod Plain
 pub mod Operations
 pub mod Jumps
 pub mod Loading
+pub mod Words
+pub mod Turning
 pub mod Simulation
 pub mod Narrow
 pub mod Answering
+pub mod Spending
 pub mod Entry
 pub mod Theorem
 pub mod Tables

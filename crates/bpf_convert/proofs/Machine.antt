@@ -1,45 +1,56 @@
 -- What the instructions of templates do on the states that a converted filter has.
-use Rattle.std.proofs.Common.{◌≡◌, ℕ, zero, suc, ◌+◌, ◌<◌, ◌≤◌, ◌^◌, List, [], ◌∷◌, length, take, drop, get_or, Bool, true, false, cond, Option, Some, None, refl, sym, ap, ap₂, ◌∙◌, subst, arith}
-use Rattle.std.specs.Prelude.{ℤ, pos, ◌+ℤ◌, nat_le, max, option_map, option_and_then}
+use Rattle.std.proofs.Common.{◌≡◌, ℕ, suc, ◌+◌, ◌%◌, ◌^◌, ◌<◌, ◌≤◌, List, [], ◌∷◌, length, take, drop, get_or, Bool, true, false, cond, Option, Some, None, refl, ap, ap₂, ◌∙◌, arith}
+use Rattle.std.specs.Prelude.{ℤ, pos, negsuc, ◌+ℤ◌, max, option_map}
 use Rattle.std.proofs.lemmas.Bool.{le-leb, cond_both}
-use Rattle.std.proofs.lemmas.Int.{clamps}
+use Rattle.std.proofs.lemmas.Int.{clamps, ints}
 use Rattle.bpf_insn.specs.Options.{◌>>=◌}
 use Rattle.bpf_insn.specs.Order.{number_of}
-use Rattle.bpf_insn.specs.Arithmetic.{low, extended, alu, jumps, swapped}
-use Rattle.bpf_insn.specs.Instruction.{Instructions, byte_count}
+use Rattle.bpf_insn.specs.Arithmetic.{alu, jumps, swapped}
+use Rattle.bpf_insn.specs.Instruction.{Instructions, byte_count, not_negative}
 use Rattle.bpf_insn.specs.declared.order.Order.{Order}
 use Rattle.bpf_insn.specs.declared.instruction.Reg.{Reg}
-use Rattle.bpf_insn.specs.declared.instruction.Reg.TheVariants.{R0, R1, R2, R3, R4}
+use Rattle.bpf_insn.specs.declared.instruction.Reg.TheVariants.{R0, R4, R5}
 use Rattle.bpf_insn.specs.declared.instruction.Operand.{Operand}
+use Rattle.bpf_insn.specs.declared.instruction.Operand.TheVariants.{Imm}
 use Rattle.bpf_insn.specs.declared.instruction.Width.{Width}
 use Rattle.bpf_insn.specs.declared.instruction.Width.TheVariants.{W32, W64}
 use Rattle.bpf_insn.specs.declared.instruction.AluOp.{AluOp}
-use Rattle.bpf_insn.specs.declared.instruction.AluOp.TheVariants.{Sub, Mov}
+use Rattle.bpf_insn.specs.declared.instruction.AluOp.TheVariants.{Add, Sub}
 use Rattle.bpf_insn.specs.declared.instruction.Cond.{Cond}
 use Rattle.bpf_insn.specs.declared.instruction.EndBits.{EndBits}
 use Rattle.bpf_insn.specs.declared.instruction.EndKind.TheVariants.{Be}
-use Rattle.bpf_insn.specs.declared.instruction.Insn.{Insn}
-use Rattle.bpf_insn.specs.declared.instruction.Insn.TheVariants.{Alu, Neg, End, Load, Ja, JumpIf, Exit}
+use Rattle.bpf_insn.specs.declared.instruction.Insn.TheVariants.{Alu, Neg, End, Load, Ja, JumpIf}
 use Rattle.bpf_semantics.specs.State.{State, Cell, register}
 use Rattle.bpf_semantics.specs.Memory.{inside, location_of}
 use Rattle.bpf_semantics.specs.Memory.Location.{InContext}
-use Rattle.bpf_semantics.specs.Step.{does, operand, alu_result, load, test_of_values}
+use Rattle.bpf_semantics.specs.Step.{does, Step, operand, alu_result, load, test_of_values}
 use Rattle.bpf_semantics.specs.declared.value.Value.{Value}
 use Rattle.bpf_semantics.specs.declared.value.Value.TheVariants.{Number, Pointer}
 use Rattle.bpf_semantics.specs.declared.value.Region.TheVariants.{Context, Frame as FrameAt}
-use Rattle.bpf_classic.specs.Machine.{bytes}
+use Rattle.bpf_classic.specs.Machine.{Machine, bytes}
 use Rattle.bpf_classic.specs.declared.instruction.Register.{Register}
 use Rattle.bpf_classic.specs.declared.instruction.Register.TheVariants.{A, X}
 use Rattle.bpf_classic.specs.declared.instruction.LoadSize.{LoadSize}
 use Rattle.bpf_classic.specs.declared.instruction.LoadSize.TheVariants.{Byte, Half, Word}
 use Rattle.bpf_convert.specs.Template.{reg_of, insn_size}
 use Rattle.bpf_convert.specs.Longest.{longest_ways}
-use Rattle.bpf_convert.proofs.Steps.{Stands, Moves, far, far_behind, far_next, doing}
+use Rattle.bpf_convert.proofs.Steps.{Stands, Moves, far, far_behind, far_next, doing, stepping}
 
--- what is the same in all states of a run behind the entry: how many bytes of the packet are there, and the context
+-- what is the same in all states of a run behind the entry, up to where it jumps back: how many bytes of the packet are there, the context, how often
+-- the run may still jump back if that is counted, how the filter's run goes on where it jumps back, and how many instructions that may take
 pub record Fixed : Type 0 where
   pub room : ℕ
   pub context : List ℕ
+  pub left : Option ℕ
+  pub back : ℕ → Machine → Option ℕ
+  pub spare : ℕ
+
+-- the same with another packet
+abbrev pub placed : Fixed → ℕ → List ℕ → Fixed
+placed e room context = record { room = room; context = context; left = e.left; back = e.back; spare = e.spare }
+
+abbrev pub with_left : ℕ → Fixed → Fixed
+with_left n f = record { room = f.room; context = f.context; left = Some n; back = f.back; spare = f.spare }
 
 -- what may change: r0, r3 and r4, and the frame's cells
 pub record Now : Type 0 where
@@ -55,7 +66,7 @@ at f slot w =
           record {
             slot = slot;
             registers =
-                w.r0 ∷ Some (Pointer Context (pos 0)) ∷ Some (Number f.room) ∷ w.r3 ∷ w.r4 ∷ None
+                w.r0 ∷ Some (Pointer Context (pos 0)) ∷ Some (Number f.room) ∷ w.r3 ∷ w.r4 ∷ option_map Number f.left
                 ∷ None ∷ None ∷ None ∷ None ∷ Some (Pointer (FrameAt 0) (pos 0)) ∷ [];
             stack = w.stack;
           };
@@ -180,3 +191,27 @@ module _ (p : Instructions) (f : Fixed) (slot : ℕ) (w : Now) where
       let most : ℕ = 1 + max (get_or (drop (slot + 1) (longest_ways p.list)) 0 0) (get_or (drop (slot + 1) (longest_ways p.list)) d 0) in
       doing p (at f slot w) (cond (jumps width test a b) (at f (slot + 1 + d) w) (at f (slot + 1) w)) (JumpIf test width dst src (pos d)) here (tested width test dst src a b d ea eb)
       (cond_both (jumps width test a b) (at f (slot + 1 + d) w) (at f (slot + 1) w) (λ t. far p t.top.slot < most) (λ _. omega (arith, clamps, far_jump)) (λ _. omega (arith, clamps, next)))
+
+  -- ---- jumps back
+
+  pub left_is : (n : ℕ) → f.left ≡ Some n → register (at f slot w) R5 ≡ Some (Number n)
+  left_is n e = ap (option_map Number) e
+
+  counted : (n : ℕ) → n < 2 ^ 16 → f.left ≡ Some (suc n) → does p.order (Alu Add W64 R5 (Imm (negsuc 0))) (at f slot w) ≡ Some (at (with_left n f) (slot + 1) w)
+  unfolding does
+  counted n few e =
+      let one : (suc n + 0xffffffffffffffff) % 2 ^ 64 ≡ n = omega arith in
+      ap (λ o. does p.order (Alu Add W64 R5 (Imm (negsuc 0))) (at (record { room = f.room; context = f.context; left = o; back = f.back; spare = f.spare }) slot w)) e
+      ∙ ap (λ n. Some (at (with_left n f) (slot + 1) w)) one
+
+  pub counts : (n : ℕ) → n < 2 ^ 16 → f.left ≡ Some (suc n) → Stands p slot (Alu Add W64 R5 (Imm (negsuc 0))) → Moves p (at f slot w) (at (with_left n f) (slot + 1) w)
+  counts n few e here = doing p (at f slot w) (at (with_left n f) (slot + 1) w) (Alu Add W64 R5 (Imm (negsuc 0))) here (counted n few e) (far_next p slot)
+
+  went_back : (d to : ℕ) → to + d ≡ slot → does p.order (Ja (negsuc d)) (at f slot w) ≡ Some (at f to w)
+  unfolding does
+  went_back d to e =
+      let z : pos (slot + 1) +ℤ negsuc d ≡ pos to = omega (arith, ints, e) in
+      ap (λ z. option_map (λ slot. at f slot w) (not_negative z)) z
+
+  pub steps_back : (d to : ℕ) → to + d ≡ slot → Stands p slot (Ja (negsuc d)) → Step p (at f slot w) (at f to w)
+  steps_back d to e here = stepping p (at f slot w) (at f to w) (Ja (negsuc d)) here (went_back d to e)

@@ -3,13 +3,14 @@ use Rattle.std.proofs.Common.{◌≡◌, ℕ, ◌+◌, List, [], ◌∷◌, ◌+
 use Rattle.std.specs.Prelude.{ℤ, pos, nat_lt, flat_map, not, ◌&&◌, ◌==◌}
 use Rattle.std.specs.List.{range_with_len}
 use Rattle.bpf_insn.specs.declared.instruction.Reg.{Reg}
-use Rattle.bpf_insn.specs.declared.instruction.Reg.TheVariants.{R0, R1, R2, R3, R10}
+use Rattle.bpf_insn.specs.declared.instruction.Reg.TheVariants.{R0, R1, R2, R3, R5, R10}
 use Rattle.bpf_insn.specs.declared.instruction.Operand.TheVariants.{Imm}
 use Rattle.bpf_insn.specs.declared.instruction.Width.TheVariants.{W32, W64}
 use Rattle.bpf_insn.specs.declared.instruction.Size.TheVariants.{B, DW}
 use Rattle.bpf_insn.specs.declared.instruction.AluOp.TheVariants.{And as AndWith, Lsh as ShiftUp, Mov}
 use Rattle.bpf_insn.specs.declared.instruction.Cond.TheVariants.{Eq as IsEq, Lt as IsLt}
 use Rattle.bpf_insn.specs.declared.instruction.Insn.TheVariants.{Alu as AluInsn, Load as LoadInsn, StoreImm, Ja, JumpIf as JumpIfInsn}
+use Rattle.bpf_classic.specs.Auxiliary.{offset_of}
 use Rattle.bpf_classic.specs.Machine.{shifts, divides, same_op, same_test}
 use Rattle.bpf_insn.specs.declared.instruction.Cond.{Cond}
 use Rattle.bpf_insn.specs.declared.instruction.EndBits.{EndBits}
@@ -19,10 +20,10 @@ use Rattle.bpf_classic.specs.declared.instruction.Test.{Test}
 use Rattle.bpf_classic.specs.declared.instruction.Op.{Op}
 use Rattle.bpf_classic.specs.declared.instruction.LoadSize.{LoadSize}
 use Rattle.bpf_classic.specs.declared.instruction.Classic.{Classic}
-use Rattle.bpf_classic.specs.declared.instruction.Classic.TheVariants.{Constant, Length, Cell, Store, At, Index, Header, Alu, Neg, Jump, JumpIf, Return, ReturnA, Tax, Txa}
-use Rattle.bpf_convert.specs.Template.{head, is_block, is_swapped, is_masked, is_register, is_beyond, is_loaded, insn_size, need, constant, operand_of, cell_offset, room_insns, swap_if, swap_of, length_test, load_code, any_load_code, length_insn, length_offset, alu_code, inverse, jump_code, unless_code, if_code, code_of, template, total, ahead_in, trap_code, code, room_code, zero_if, zero_cell, entry, whole, reg_of, end_bits}
+use Rattle.bpf_classic.specs.declared.instruction.Classic.TheVariants.{Constant, Length, Cell, Store, At, Index, Header, Extension, Alu, Neg, Jump, Back, JumpIf, Return, ReturnA, Tax, Txa}
+use Rattle.bpf_convert.specs.Template.{head, is_block, is_swapped, is_masked, word_insn, is_register, is_beyond, is_loaded, insn_size, need, constant, operand_of, cell_offset, room_insns, swap_if, swap_of, length_test, load_code, any_load_code, length_insn, length_offset, alu_code, inverse, jump_code, unless_code, if_code, code_of, template, total, ahead_in, trap_code, code, room_code, turns_code, zero_if, zero_cell, entry, whole, reg_of, end_bits}
 use Rattle.bpf_convert.specs.declared.layout.Form.{Form}
-use Rattle.bpf_convert.specs.declared.layout.Form.TheVariants.{Blocks, Plain, Seccomp}
+use Rattle.bpf_convert.specs.declared.layout.Form.TheVariants.{Blocks, Plain, Seccomp, Extended}
 use Rattle.bpf_convert.specs.declared.layout.Layout.{Layout}
 use Rattle.bpf_convert.specs.declared.layout.Annotated.{Annotated}
 use Rattle.bpf_convert.proofs.Steps.{is_narrow, AreNarrow, narrow_both}
@@ -54,9 +55,11 @@ narrow_load l a (Constant to k) out = tt
 narrow_load l a (Length to) out = tt
 narrow_load l a (Cell to cell) out = tt
 narrow_load l a (Store from cell) out = tt
+narrow_load l a (Extension word) out = tt
 narrow_load l a (Alu op source) out = tt
 narrow_load l a Neg out = tt
 narrow_load l a (Jump k) out = tt
+narrow_load l a (Back k) out = tt
 narrow_load l a (JumpIf test source jt jf) out = tt
 narrow_load l a (Return k) out = tt
 narrow_load l a ReturnA out = tt
@@ -70,6 +73,13 @@ narrow_length : (form : Form) (offset : ℤ) (r : Reg) → is_narrow (length_ins
 narrow_length Blocks offset r = refl
 narrow_length Plain offset r = refl
 narrow_length Seccomp offset r = refl
+narrow_length Extended offset r = refl
+
+narrow_word : (form : Form) (offset : ℕ) → is_narrow (word_insn form offset) ≡ true
+narrow_word Blocks offset = refl
+narrow_word Plain offset = refl
+narrow_word Seccomp offset = refl
+narrow_word Extended offset = refl
 
 narrow_alu : (l : Layout) (op : Op) (source : Source) (out : ℕ) → AreNarrow (alu_code l op source out)
 narrow_alu l op source out =
@@ -100,9 +110,11 @@ narrow_of l a (Constant to k) f out = (refl, tt)
 narrow_of l a (Length to) f out = (narrow_length l.form (length_offset l) (reg_of to), tt)
 narrow_of l a (Cell to cell) f out = (refl, tt)
 narrow_of l a (Store from cell) f out = (refl, tt)
+narrow_of l a (Extension word) f out = (narrow_word l.form (offset_of word), tt)
 narrow_of l a (Alu op source) f out = narrow_alu l op source out
 narrow_of l a Neg f out = (refl, tt)
 narrow_of l a (Jump k) f out = narrow_jump k (f k)
+narrow_of l a (Back k) f out = (refl, (refl, (refl, tt)))
 narrow_of l a (JumpIf test source jt jf) f out = narrow_if test source jt jf (f jt) (f jf)
 narrow_of l a (Return k) f out = (refl, (refl, tt))
 narrow_of l a ReturnA f out = (refl, tt)
@@ -122,11 +134,16 @@ narrow_cells : (filter : List Annotated) (cells : List ℕ) → AreNarrow (flat_
 narrow_cells filter [] = tt
 narrow_cells filter (c ∷ cells) = narrow_both (zero_cell filter c) (flat_map (zero_cell filter) cells) (narrow_cond (is_loaded filter c) (StoreImm DW R10 (cell_offset c) (pos 0) ∷ []) [] (refl, tt) tt) (narrow_cells filter cells)
 
+narrow_turns : (l : Layout) → AreNarrow (turns_code l)
+narrow_turns l = narrow_cond l.loops (AluInsn Mov W64 R5 (constant l.turns) ∷ []) [] (refl, tt) tt
+
 narrow_entry : (l : Layout) (filter : List Annotated) → AreNarrow (entry l filter)
 narrow_entry l filter =
     let cells : List Insn = flat_map (zero_cell filter) (range_with_len 0 16) in
-    narrow_both (room_code l) (zero_if l.zero_a R0 ++ (zero_if l.zero_x R3 ++ cells)) (narrow_cond (is_block l.form) (room_insns l) [] (refl, (refl, (refl, tt))) tt)
-    (narrow_both (zero_if l.zero_a R0) (zero_if l.zero_x R3 ++ cells) (narrow_zero l.zero_a R0) (narrow_both (zero_if l.zero_x R3) cells (narrow_zero l.zero_x R3) (narrow_cells filter (range_with_len 0 16))))
+    let zeros : List Insn = zero_if l.zero_a R0 ++ (zero_if l.zero_x R3 ++ cells) in
+    narrow_both (room_code l) (turns_code l ++ zeros) (narrow_cond (is_block l.form) (room_insns l) [] (refl, (refl, (refl, tt))) tt)
+    (narrow_both (turns_code l) zeros (narrow_turns l)
+    (narrow_both (zero_if l.zero_a R0) (zero_if l.zero_x R3 ++ cells) (narrow_zero l.zero_a R0) (narrow_both (zero_if l.zero_x R3) cells (narrow_zero l.zero_x R3) (narrow_cells filter (range_with_len 0 16)))))
 
 pub narrow_whole : (l : Layout) (filter : List Annotated) → AreNarrow (whole l filter)
 narrow_whole l filter = narrow_both (entry l filter) (code l filter) (narrow_entry l filter) (narrow_code l filter)

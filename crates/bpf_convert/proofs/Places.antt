@@ -3,7 +3,6 @@ use Rattle.std.proofs.Common.{◌≡◌, ℕ, zero, suc, ◌+◌, ◌-◌, ◌�
 use Rattle.std.specs.Prelude.{pos, nat_lt, ◌&&◌, not, ◌==◌}
 use Rattle.bpf_insn.specs.Instruction.{Instructions}
 use Rattle.bpf_insn.specs.declared.instruction.Cond.{Cond}
-use Rattle.bpf_insn.specs.declared.instruction.EndBits.{EndBits}
 use Rattle.bpf_insn.specs.declared.instruction.Insn.{Insn}
 use Rattle.bpf_insn.specs.declared.instruction.Insn.TheVariants.{Alu as AluInsn, Load as LoadInsn, Ja, JumpIf as JumpIfInsn}
 use Rattle.bpf_insn.specs.declared.instruction.Reg.TheVariants.{R0, R1, R2, R3}
@@ -12,19 +11,16 @@ use Rattle.bpf_insn.specs.declared.instruction.Width.TheVariants.{W32, W64}
 use Rattle.bpf_insn.specs.declared.instruction.Size.TheVariants.{B}
 use Rattle.bpf_insn.specs.declared.instruction.AluOp.TheVariants.{And as AndWith, Lsh as ShiftUp, Mov}
 use Rattle.bpf_insn.specs.declared.instruction.Cond.TheVariants.{Eq as IsEq, Lt as IsLt}
-use Rattle.bpf_classic.specs.Machine.{bytes, divides, shifts, same_op, same_test}
+use Rattle.bpf_classic.specs.Machine.{divides, shifts, same_op, same_test}
 use Rattle.bpf_classic.specs.declared.instruction.Source.{Source}
-use Rattle.bpf_classic.specs.declared.instruction.LoadSize.{LoadSize}
-use Rattle.bpf_classic.specs.declared.instruction.LoadSize.TheVariants.{Byte, Half, Word}
 use Rattle.bpf_classic.specs.declared.instruction.Op.{Op}
 use Rattle.bpf_classic.specs.declared.instruction.Test.{Test}
-use Rattle.bpf_classic.specs.declared.instruction.Test.TheVariants.{Eq, Gt, Ge, Set}
 use Rattle.bpf_classic.specs.declared.instruction.Classic.{Classic}
-use Rattle.bpf_classic.specs.declared.instruction.Classic.TheVariants.{Constant, Length, Cell, Store, At, Index, Header, Alu, Neg, Jump, JumpIf, Return, ReturnA, Tax, Txa}
-use Rattle.bpf_convert.specs.Template.{head, insn_size, constant, operand_of, is_beyond, is_register, is_masked, is_swapped, end_bits, need, swap_of, swap_if, length_test, at_code, index_code, header_code, load_code, any_load_code, alu_code, inverse, jump_code, unless_code, if_code, plain_code, code_of, template, nowhere, size, total, ahead_in, trap_code, code}
+use Rattle.bpf_classic.specs.declared.instruction.Classic.TheVariants.{Constant, Length, Cell, Store, At, Index, Header, Extension, Alu, Neg, Jump, Back, JumpIf, Return, ReturnA, Tax, Txa}
+use Rattle.bpf_convert.specs.Template.{head, insn_size, constant, operand_of, is_beyond, is_register, is_masked, need, swap_of, length_test, load_code, alu_code, inverse, jump_code, unless_code, if_code, code_of, template, nowhere, size, total, ahead_in, trap_code, code}
 use Rattle.bpf_convert.specs.declared.layout.Layout.{Layout}
 use Rattle.bpf_convert.specs.declared.layout.Annotated.{Annotated}
-use Rattle.bpf_convert.proofs.Steps.{HasAt, has_back}
+use Rattle.bpf_convert.proofs.Steps.{HasAt, has_back, has_length}
 
 -- ---- a template is as long whatever the distances are
 
@@ -61,9 +57,11 @@ alike_load l a (Constant to k) out = refl
 alike_load l a (Length to) out = refl
 alike_load l a (Cell to cell) out = refl
 alike_load l a (Store from cell) out = refl
+alike_load l a (Extension word) out = refl
 alike_load l a (Alu op source) out = refl
 alike_load l a Neg out = refl
 alike_load l a (Jump k) out = refl
+alike_load l a (Back k) out = refl
 alike_load l a (JumpIf test source jt jf) out = refl
 alike_load l a (Return k) out = refl
 alike_load l a ReturnA out = refl
@@ -97,9 +95,11 @@ alike_code l a (Constant to k) f out = refl
 alike_code l a (Length to) f out = refl
 alike_code l a (Cell to cell) f out = refl
 alike_code l a (Store from cell) f out = refl
+alike_code l a (Extension word) f out = refl
 alike_code l a (Alu op source) f out = alike_alu l op source out
 alike_code l a Neg f out = refl
 alike_code l a (Jump k) f out = alike_jump k (f k) 0
+alike_code l a (Back k) f out = refl
 alike_code l a (JumpIf test source jt jf) f out = alike_if test source jt jf (f jt) (f jf)
 alike_code l a (Return k) f out = refl
 alike_code l a ReturnA f out = refl
@@ -135,3 +135,24 @@ trap_at l p (a ∷ rest) slot t h =
     let behind = has_back p slot (template l a (ahead_in l rest) (total l rest)) (code l rest) h in
     let e : slot + length (template l a (ahead_in l rest) (total l rest)) + total l rest ≡ slot + (size l a + total l rest) = omega arith in
     subst (λ n. HasAt p n trap_code) e (trap_at l p rest (slot + length (template l a (ahead_in l rest) (total l rest))) t behind)
+
+-- the slots from one template on, and the exit that answers 0, are all that stand there
+abbrev trap_slots : Layout → ℕ
+trap_slots l = length (code l [])
+
+pub code_length : (l : Layout) (list : List Annotated) → length (code l list) ≡ total l list + trap_slots l
+code_length l [] = omega arith
+code_length l (a ∷ rest) =
+    let long = template_length l a (ahead_in l rest) (total l rest) in
+    let both = length-append (template l a (ahead_in l rest) (total l rest)) (code l rest) in
+    let more = code_length l rest in
+    omega (arith, long, both, more)
+
+-- where two templates stand tells how far it is from one to the other
+pub slots_between : (l : Layout) (p : Instructions) (here there : List Annotated) (slot to : ℕ) → HasAt p slot (code l here) → HasAt p to (code l there) → slot + total l here ≡ to + total l there
+slots_between l p here there slot to h t =
+    let a = has_length p slot (code l here) h in
+    let b = has_length p to (code l there) t in
+    let c = code_length l here in
+    let d = code_length l there in
+    omega (arith, a, b, c, d)

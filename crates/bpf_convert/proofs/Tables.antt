@@ -1,5 +1,5 @@
 -- How many slots templates have, and the table of how many stand from each instruction on.
-use Rattle.std.proofs.Common.{◌≡◌, ℕ, zero, suc, ◌+◌, ◌-◌, ◌*◌, ◌<◌, ◌≤◌, List, [], ◌∷◌, ◌++◌, length, drop, get_or, set, Bool, true, false, cond, Option, Some, None, refl, sym, ap, ap₂, ◌∙◌, subst, ⊎_elim, arith, append_assoc, length-append}
+use Rattle.std.proofs.Common.{◌≡◌, ℕ, zero, suc, ◌+◌, ◌-◌, ◌*◌, ◌<◌, ◌≤◌, List, [], ◌∷◌, ◌++◌, length, drop, get_or, Bool, cond, Option, Some, None, sym, ap, ap₂, ◌∙◌, subst, ⊎_elim, arith, append_assoc, length-append}
 use Rattle.std.specs.List.{range_with_len}
 use Rattle.std.specs.Prelude.{pos, min, map, flat_map, nat_lt, slice_index, slice_set, not, ◌&&◌, ◌==◌}
 use Rattle.std.proofs.lemmas.Bool.{cond_both, cases_eq, cases_lt}
@@ -10,7 +10,7 @@ use Rattle.std.proofs.Math.Path.{fun_ext}
 use Rattle.bpf_insn.specs.declared.instruction.Insn.{Insn}
 use Rattle.bpf_insn.specs.declared.instruction.Insn.TheVariants.{Alu as AluInsn, Load as LoadInsn, StoreImm, Ja, JumpIf as JumpIfInsn}
 use Rattle.bpf_insn.specs.declared.instruction.Reg.{Reg}
-use Rattle.bpf_insn.specs.declared.instruction.Reg.TheVariants.{R0, R1, R2, R3, R10}
+use Rattle.bpf_insn.specs.declared.instruction.Reg.TheVariants.{R0, R1, R2, R3, R5, R10}
 use Rattle.bpf_insn.specs.declared.instruction.Operand.TheVariants.{Imm}
 use Rattle.bpf_insn.specs.declared.instruction.Width.TheVariants.{W32, W64}
 use Rattle.bpf_insn.specs.declared.instruction.Size.TheVariants.{B, DW}
@@ -23,8 +23,9 @@ use Rattle.bpf_classic.specs.Valid.{max_filter}
 use Rattle.bpf_classic.specs.declared.instruction.Source.{Source}
 use Rattle.bpf_classic.specs.declared.instruction.LoadSize.{LoadSize}
 use Rattle.bpf_classic.specs.declared.instruction.Classic.{Classic}
-use Rattle.bpf_classic.specs.declared.instruction.Classic.TheVariants.{Constant, Length, Cell, Store, At, Index, Header, Alu, Neg, Jump, JumpIf, Return, ReturnA, Tax, Txa}
-use Rattle.bpf_convert.specs.Template.{head, is_block, is_swapped, is_masked, is_loaded, is_beyond, is_register, insn_size, need, constant, operand_of, cell_offset, room_insns, room_code, zero_if, swap_if, swap_of, end_bits, length_test, load_code, jump_code, unless_code, inverse, code_of, template, nowhere, size, total, ahead_in, most_slots, from_on, way, IsTable, zero_cell, code, entry}
+use Rattle.bpf_classic.specs.declared.instruction.Classic.TheVariants.{Constant, Length, Cell, Store, At, Index, Header, Extension, Alu, Neg, Jump, Back, JumpIf, Return, ReturnA, Tax, Txa}
+use Rattle.bpf_convert.specs.Template.{head, is_block, is_swapped, is_masked, is_loaded, is_beyond, is_register, insn_size, need, constant, operand_of, cell_offset, room_insns, room_code, turns_code, zero_if, swap_if, swap_of, end_bits, length_test, load_code, jump_code, unless_code, inverse, code_of, template, nowhere, size, total, ahead_in, most_slots, from_on, way, IsTable, zero_cell, code, entry}
+use Rattle.bpf_convert.specs.Flow.{implies, turns_well, all_turn}
 use Rattle.bpf_convert.specs.Meaning.{insns, HasStarts}
 use Rattle.bpf_convert.specs.declared.layout.Layout.{Layout}
 use Rattle.bpf_convert.specs.declared.layout.Annotated.{Annotated}
@@ -79,6 +80,7 @@ few_code l a (Alu op source) =
     let shift = is_register source && (shifts op && not (is_masked l)) in
     cond_both (is_register source && divides op) two (cond shift three (it ∷ [])) (Few 6) (λ _. omega arith) (λ _. cond_both shift three (it ∷ []) (Few 6) (λ _. omega arith) (λ _. omega arith))
 few_code l a (Jump k) = let few = few_jump k 0 in omega arith
+few_code l a (Back k) = omega arith
 few_code l a (JumpIf test source jt jf) =
     let one = few_jump jt 0 in
     let other = few_jump jf 0 in
@@ -90,6 +92,7 @@ few_code l a (Constant to k) = omega arith
 few_code l a (Length to) = omega arith
 few_code l a (Cell to cell) = omega arith
 few_code l a (Store from cell) = omega arith
+few_code l a (Extension word) = omega arith
 few_code l a Neg = omega arith
 few_code l a (Return k) = omega arith
 few_code l a ReturnA = omega arith
@@ -99,7 +102,7 @@ few_code l a Txa = omega arith
 pub size_few : (l : Layout) (a : Annotated) → size l a ≤ 6
 size_few l a = cond_both a.reached (code_of l a a.insn nowhere 0) [] (Few 6) (λ _. few_code l a a.insn) (λ _. omega arith)
 
--- an entry has 21 slots at most
+-- an entry has 22 slots at most
 few_cells : (list : List Annotated) (n c : ℕ) → Few n (flat_map (zero_cell list) (range_with_len c n))
 few_cells list zero c = omega arith
 few_cells list (suc n) c =
@@ -110,14 +113,19 @@ few_cells list (suc n) c =
 few_zero : (t : Bool) (r : Reg) → Few 1 (zero_if t r)
 few_zero t r = cond_both t (AluInsn Mov W64 r (Imm (pos 0)) ∷ []) [] (Few 1) (λ _. omega arith) (λ _. omega arith)
 
-pub entry_few : (l : Layout) (list : List Annotated) → length (entry l list) ≤ 21
+few_turns : (l : Layout) → Few 1 (turns_code l)
+few_turns l = cond_both l.loops (AluInsn Mov W64 R5 (constant l.turns) ∷ []) [] (Few 1) (λ _. omega arith) (λ _. omega arith)
+
+pub entry_few : (l : Layout) (list : List Annotated) → length (entry l list) ≤ 22
 entry_few l list =
     let cells : List Insn = flat_map (zero_cell list) (range_with_len 0 16) in
+    let zeros : List Insn = zero_if l.zero_a R0 ++ (zero_if l.zero_x R3 ++ cells) in
     let room : Few 3 (room_code l) = cond_both (is_block l.form) (room_insns l) [] (Few 3) (λ _. omega arith) (λ _. omega arith) in
     let two = few_both (zero_if l.zero_x R3) cells 1 16 (few_zero l.zero_x R3) (few_cells list 16 0) in
     let three = few_both (zero_if l.zero_a R0) (zero_if l.zero_x R3 ++ cells) 1 (1 + 16) (few_zero l.zero_a R0) two in
-    let four = few_both (room_code l) (zero_if l.zero_a R0 ++ (zero_if l.zero_x R3 ++ cells)) 3 (1 + (1 + 16)) room three in
-    omega (arith, four)
+    let four = few_both (turns_code l) zeros 1 (1 + (1 + 16)) (few_turns l) three in
+    let five = few_both (room_code l) (turns_code l ++ zeros) 3 (1 + (1 + (1 + 16))) room four in
+    omega (arith, five)
 
 pub total_few : (l : Layout) (list : List Annotated) → total l list ≤ 6 * length list
 total_few l [] = omega arith
@@ -224,3 +232,13 @@ insns_kept list at b a is same = map-set_same insn_of list at b a (same ∙ ap i
   where
     insn_of : Annotated → Classic
     insn_of a = a.insn
+
+-- ---- jumps back
+
+-- whether each turns well, by the first and those behind it
+pub turn_more : (l : Layout) (list : List Annotated) (table : List ℕ) (at : ℕ) (d : Annotated) → IsTable l list table → at < length list
+    → all_turn l list (drop at list) ≡ (implies (get_or list at d).reached (turns_well l list (get_or list at d) (get_or list at d).insn (length list - (at + 1)) (from_on table (at + 1))) && all_turn l list (drop (at + 1) list))
+turn_more l list table at d h lt =
+    let a : Annotated = get_or list at d in
+    ap (all_turn l list) (drop_more list at d lt)
+    ∙ ap₂ (λ left slots. implies a.reached (turns_well l list a a.insn left slots) && all_turn l list (drop (at + 1) list)) (length-drop (at + 1) list) (sym (h.1 (at + 1)))

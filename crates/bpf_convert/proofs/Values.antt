@@ -1,8 +1,7 @@
 -- Numbers of 32 bits: constants of instructions, and bytes in network order.
-use Rattle.std.proofs.Common.{◌≡◌, ℕ, suc, ◌+◌, ◌-◌, ◌*◌, ◌/◌, ◌%◌, ◌^◌, ◌<◌, ◌≤◌, List, inl, inr, refl, sym, ap, ◌∙◌, arith}
-use Rattle.std.specs.Prelude.{ℤ, pos, negsuc, slice_index}
+use Rattle.std.proofs.Common.{◌≡◌, ℕ, suc, ◌-◌, ◌*◌, ◌%◌, ◌^◌, ◌<◌, List, inl, inr, refl, ap, ◌∙◌, arith}
+use Rattle.std.specs.Prelude.{pos, negsuc, slice_index}
 use Rattle.std.specs.Int.{cast_signed, w32}
-use Rattle.std.proofs.lemmas.Int.{ints}
 use Rattle.std.proofs.lemmas.Nat.{and_mask}
 use Rattle.std.proofs.Math.Nat.{zero-div}
 use Rattle.std.proofs.lemmas.Bool.{cases_lt, lt-ltb, le-ltb}
@@ -15,7 +14,7 @@ use Rattle.bpf_insn.specs.declared.instruction.AluOp.{AluOp}
 use Rattle.bpf_insn.specs.declared.instruction.AluOp.TheVariants.{And, Lsh, Rsh}
 use Rattle.bpf_insn.specs.declared.instruction.EndKind.TheVariants.{Be}
 use Rattle.bpf_insn.specs.declared.instruction.EndBits.TheVariants.{B16, B32}
-use Rattle.bpf_semantics.proofs.NumberLemmas.{compute_fits, number_below}
+use Rattle.bpf_semantics.proofs.NumberLemmas.{compute_fits}
 
 -- the low half of a constant is the constant
 pub constant_low : (k : ℕ) → k < 2 ^ 32 → low W32 (extended (cast_signed w32 k)) ≡ k

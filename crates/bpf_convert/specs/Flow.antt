@@ -1,14 +1,14 @@
 -- What is known in front of each instruction, and when that agrees along every way: what an instruction is marked with holds behind each
 -- instruction that leads to it.
-use Rattle.std.specs.Prelude.{ℕ, ◌+◌, ◌^◌, ◌==◌, nat_lt, nat_le, max, Bool, true, false, not, ◌&&◌, ◌||◌, List, [], ◌∷◌, slice_get, Option, Some, None}
+use Rattle.std.specs.Prelude.{ℕ, ◌+◌, ◌-◌, ◌==◌, nat_lt, nat_le, max, Bool, true, false, not, ◌&&◌, ◌||◌, List, [], ◌∷◌, length, drop, slice_get, Option, Some, None}
 use Rattle.bpf_classic.specs.Machine.{divides}
 use Rattle.bpf_classic.specs.declared.instruction.Register.{Register}
 use Rattle.bpf_classic.specs.declared.instruction.Register.TheVariants.{A, X}
 use Rattle.bpf_classic.specs.declared.instruction.Source.{Source}
 use Rattle.bpf_classic.specs.declared.instruction.Source.TheVariants.{K, X as FromX}
 use Rattle.bpf_classic.specs.declared.instruction.Classic.{Classic}
-use Rattle.bpf_classic.specs.declared.instruction.Classic.TheVariants.{Constant, Length, Cell, Store, At, Index, Header, Alu, Neg, Jump, JumpIf, Return, ReturnA, Tax, Txa}
-use Rattle.bpf_convert.specs.Template.{need, is_beyond, is_register, known_first}
+use Rattle.bpf_classic.specs.declared.instruction.Classic.TheVariants.{Constant, Length, Cell, Store, At, Index, Header, Extension, Alu, Neg, Jump, Back, JumpIf, Return, ReturnA, Tax, Txa}
+use Rattle.bpf_convert.specs.Template.{need, is_beyond, is_register, known_first, back_of, total}
 use Rattle.bpf_convert.specs.declared.layout.Layout.{Layout}
 use Rattle.bpf_convert.specs.declared.layout.Annotated.{Annotated}
 
@@ -60,6 +60,7 @@ sets_a (Length to) = is_a to
 sets_a (Cell to cell) = is_a to
 sets_a (At size k) = true
 sets_a (Index size k) = true
+sets_a (Extension word) = true
 sets_a (Alu op source) = true
 sets_a Neg = true
 sets_a Txa = true
@@ -82,6 +83,7 @@ leads_to_trap l a (At size k) = tests_length l a
 leads_to_trap l a (Header k) = tests_length l a
 leads_to_trap l a (Index size k) = true
 leads_to_trap l a (Alu op source) = is_register source && divides op
+leads_to_trap l a (Back k) = true
 leads_to_trap l a _ = false
 
 abbrev pub uses_trap : Layout → Annotated → Bool
@@ -104,6 +106,7 @@ leads_to a (Some b) = b.reached && (nat_le b.known (known_behind a) && (implies 
 abbrev pub leads_on : Annotated → Classic → List Annotated → Bool
 leads_on a (Jump k) rest = leads_to a (slice_get rest k)
 leads_on a (JumpIf test source jt jf) rest = leads_to a (slice_get rest jt) && leads_to a (slice_get rest jf)
+leads_on a (Back k) rest = true
 leads_on a (Return k) rest = true
 leads_on a ReturnA rest = true
 leads_on a _ rest = leads_to a (slice_get rest 0)
@@ -115,6 +118,29 @@ agrees l a rest = has_word a.insn && (implies (reads_a a.insn) a.a && (implies (
 abbrev pub all_agree : Layout → List Annotated → Bool
 all_agree l [] = true
 all_agree l (a ∷ rest) = implies a.reached (agrees l a rest) && all_agree l rest
+
+-- ---- loops
+
+-- the instruction from which so many are left
+abbrev pub head_at : List Annotated → ℕ → ℕ
+head_at all left = length all - left
+
+-- a jump back, to where so many instructions are left, leads to one that is marked with no more than what is known in front of the jump, and over
+-- as many slots as stand from there on, but for the jump itself and the slots behind it; and the entry says how often a run may jump back
+abbrev pub turns_to : Layout → List Annotated → Annotated → ℕ → ℕ → Bool
+turns_to l all a left slots =
+    l.loops && (nat_le left (length all)
+    && (leads_to a (slice_get all (head_at all left)) && ((back_of a + 1 + slots) == total l (drop (head_at all left) all))))
+
+abbrev pub turns_well : Layout → List Annotated → Annotated → Classic → ℕ → ℕ → Bool
+turns_well l all a (Back k) left slots = turns_to l all a (left + k) slots
+turns_well l all a _ left slots = true
+
+abbrev pub all_turn : Layout → List Annotated → List Annotated → Bool
+all_turn l all [] = true
+all_turn l all (a ∷ rest) = implies a.reached (turns_well l all a a.insn (length rest) (total l rest)) && all_turn l all rest
+
+-- ---- all of it
 
 -- the first instruction is marked with no more than what the entry sets
 abbrev pub starts_well : Layout → Option Annotated → Bool

@@ -7,3 +7,5 @@ pub mod Longest
 pub mod Flow
 -- what a program is to answer
 pub mod Meaning
+-- what filters with loops answer
+pub mod Turns

@@ -1,20 +1,20 @@
 -- What a filter is given by a context, and what it is that a program answers what the filter does.
-use Rattle.std.specs.Prelude.{◌≡◌, ℕ, ◌+◌, ◌<◌, ◌≤◌, slice_index, min, List, length, take, drop, map, true, Option, Some, if◌then◌else◌, ⊤}
+use Rattle.std.specs.Prelude.{◌≡◌, ℕ, ◌+◌, ◌<◌, ◌≤◌, ◌^◌, slice_index, min, List, [], length, take, drop, map, true, Some, if◌then◌else◌, ⊤}
 use Rattle.bpf_insn.specs.Limits.{max_context}
 use Rattle.bpf_insn.specs.Laws.{AreBytes}
 use Rattle.bpf_insn.specs.Order.{number_of}
 use Rattle.bpf_insn.specs.Instruction.{Instructions}
 use Rattle.bpf_insn.specs.declared.order.Order.TheVariants.{Big}
 use Rattle.bpf_semantics.specs.Run.{IsDone}
-use Rattle.bpf_classic.specs.Machine.{Given, answer}
+use Rattle.bpf_classic.specs.Machine.{Given, answer_or_0}
 use Rattle.bpf_classic.specs.Valid.{IsFilter}
 use Rattle.bpf_classic.specs.declared.instruction.Classic.{Classic}
 use Rattle.bpf_classic.specs.declared.refusal.Kind.{Kind}
 use Rattle.bpf_convert.specs.Longest.{longest}
-use Rattle.bpf_convert.specs.Flow.{is_sound}
+use Rattle.bpf_convert.specs.Flow.{is_sound, all_turn}
 use Rattle.bpf_convert.specs.Template.{head, room, is_block, is_swapped, is_masked, ahead_in, entry, whole}
 use Rattle.bpf_convert.specs.declared.layout.Form.{Form}
-use Rattle.bpf_convert.specs.declared.layout.Form.TheVariants.{Blocks, Plain, Seccomp}
+use Rattle.bpf_convert.specs.declared.layout.Form.TheVariants.{Blocks, Plain, Seccomp, Extended}
 use Rattle.bpf_convert.specs.declared.layout.Layout.{Layout}
 use Rattle.bpf_convert.specs.declared.layout.Annotated.{Annotated}
 
@@ -26,6 +26,13 @@ wire_of l context = if is_block l.form then number_of l.order 8 (take 8 context)
 abbrev pub there : Layout → List ℕ → ℕ
 there l context = min (wire_of l context) (room l)
 
+-- the words of Linux's auxiliary data stand behind the length
+abbrev pub words_of : Form → List ℕ → List ℕ
+words_of Blocks context = []
+words_of Plain context = []
+words_of Seccomp context = []
+words_of Extended context = take 64 (drop 8 context)
+
 abbrev pub given : Layout → List ℕ → Given
 given l context =
     record {
@@ -33,13 +40,16 @@ given l context =
       wire = wire_of l context;
       order = if is_swapped l then Big else l.order;
       masks = is_masked l;
+      words = words_of l.form context;
+      own = l.order;
     }
 
--- a block has eight bytes in front of the packet, `struct seccomp_data` has 64 bytes
+-- a block has eight bytes in front of the packet, or 72 with Linux's auxiliary data; `struct seccomp_data` has 64 bytes
 abbrev pub HasForm : Form → List ℕ → Type 0
 HasForm Blocks context = 8 ≤ length context
 HasForm Plain context = ⊤
 HasForm Seccomp context = length context ≡ 64
+HasForm Extended context = 72 ≤ length context
 
 -- any bytes of the layout's length are a context
 pub record IsContext (l : Layout) (context : List ℕ) : Type 0 where
@@ -70,15 +80,18 @@ pub record IsConverted (kind : Kind) (filter : List Classic) (l : Layout) (marke
   pub valid : IsFilter kind filter
   pub same : insns marked ≡ filter
   pub sound : is_sound l marked ≡ true
+  pub turns : all_turn l marked marked ≡ true
+  pub few_turns : l.turns < 2 ^ 16
   pub short : l.length ≤ max_context
   pub program : p ≡ program_of l marked
 
--- what the filter answers the program ends with, within the longest way through it
+-- what the filter answers the program ends with, within the longest way through it; and with 0 where the filter's run jumps back more often than the
+-- layout says
 pub record EndsAlike (filter : List Classic) (l : Layout) (p : Instructions) (context : List ℕ) : Type 0 where
   pub value : ℕ
-  pub answers : answer (given l context) filter ≡ Some value
+  pub answers : answer_or_0 l.turns (given l context) filter ≡ Some value
   pub steps : ℕ
-  pub within : steps ≤ longest p.list
+  pub within : steps ≤ longest l.turns p.list
   pub done : IsDone p context value steps
 
 -- on each context

@@ -1,12 +1,13 @@
 -- What each instruction of a filter becomes. The accumulator A is r0, the index register X is r3, each with zeros above 32 bits; r1 is the
--- context, r2 how many bytes of the packet are there, r4 is scratch, and the cell M[i] is the frame's slot i + 1.
-use Rattle.std.specs.Prelude.{◌≡◌, ℕ, ◌+◌, ◌-◌, ◌*◌, ◌%◌, ◌==◌, nat_lt, nat_le, min, ℤ, pos, ◌-ℤ◌, Bool, true, false, not, ◌&&◌, List, [], ◌∷◌, ◌++◌, length, get_or, drop, flat_map, Option, Some, None, if◌then◌else◌}
+-- context, r2 how many bytes of the packet are there, r4 is scratch, r5 how often a run may still jump back, and the cell M[i] is the frame's
+-- slot i + 1.
+use Rattle.std.specs.Prelude.{◌≡◌, ℕ, ◌+◌, ◌-◌, ◌*◌, ◌/◌, ◌%◌, ◌==◌, nat_lt, min, ℤ, pos, negsuc, ◌-ℤ◌, Bool, true, false, not, ◌&&◌, List, [], ◌∷◌, ◌++◌, length, get_or, drop, flat_map, Option, Some, None, if◌then◌else◌}
 use Rattle.std.specs.List.{list_any, range_with_len}
 use Rattle.std.specs.Int.{cast_signed, w32}
 use Rattle.bpf_insn.specs.declared.order.Order.{Order}
 use Rattle.bpf_insn.specs.declared.order.Order.TheVariants.{Little, Big}
 use Rattle.bpf_insn.specs.declared.instruction.Reg.{Reg}
-use Rattle.bpf_insn.specs.declared.instruction.Reg.TheVariants.{R0, R1, R2, R3, R4, R10}
+use Rattle.bpf_insn.specs.declared.instruction.Reg.TheVariants.{R0, R1, R2, R3, R4, R5, R10}
 use Rattle.bpf_insn.specs.declared.instruction.Operand.{Operand}
 use Rattle.bpf_insn.specs.declared.instruction.Operand.TheVariants.{Imm, Reg as FromReg}
 use Rattle.bpf_insn.specs.declared.instruction.Width.TheVariants.{W32, W64}
@@ -20,6 +21,7 @@ use Rattle.bpf_insn.specs.declared.instruction.EndBits.TheVariants.{B16, B32}
 use Rattle.bpf_insn.specs.declared.instruction.EndKind.TheVariants.{Be}
 use Rattle.bpf_insn.specs.declared.instruction.Insn.{Insn}
 use Rattle.bpf_insn.specs.declared.instruction.Insn.TheVariants.{Alu as AluInsn, Neg as NegInsn, End, Load, Store as StoreInsn, StoreImm, Ja, JumpIf as JumpIfInsn, Exit}
+use Rattle.bpf_classic.specs.Auxiliary.{offset_of}
 use Rattle.bpf_classic.specs.Machine.{bytes, same_op, same_test, divides, shifts}
 use Rattle.bpf_classic.specs.declared.instruction.Register.{Register}
 use Rattle.bpf_classic.specs.declared.instruction.Register.TheVariants.{A, X}
@@ -31,19 +33,20 @@ use Rattle.bpf_classic.specs.declared.instruction.Op.{Op}
 use Rattle.bpf_classic.specs.declared.instruction.Test.{Test}
 use Rattle.bpf_classic.specs.declared.instruction.Test.TheVariants.{Eq, Gt, Ge, Set}
 use Rattle.bpf_classic.specs.declared.instruction.Classic.{Classic}
-use Rattle.bpf_classic.specs.declared.instruction.Classic.TheVariants.{Constant, Length, Cell, Store, At, Index, Header, Alu, Neg, Jump, JumpIf, Return, ReturnA, Tax, Txa}
+use Rattle.bpf_classic.specs.declared.instruction.Classic.TheVariants.{Constant, Length, Cell, Store, At, Index, Header, Extension, Alu, Neg, Jump, Back, JumpIf, Return, ReturnA, Tax, Txa}
 use Rattle.bpf_convert.specs.declared.layout.Form.{Form}
-use Rattle.bpf_convert.specs.declared.layout.Form.TheVariants.{Blocks, Plain, Seccomp}
+use Rattle.bpf_convert.specs.declared.layout.Form.TheVariants.{Blocks, Plain, Seccomp, Extended}
 use Rattle.bpf_convert.specs.declared.layout.Layout.{Layout}
 use Rattle.bpf_convert.specs.declared.layout.Annotated.{Annotated}
 
 -- ---- the context
 
--- the bytes in front of a packet, and the most of a packet that can be there
+-- the bytes in front of a packet, and the most of a packet that can be there; Linux's auxiliary data is sixteen words behind the length
 abbrev pub head : Form → ℕ
 head Blocks = 8
 head Plain = 0
 head Seccomp = 0
+head Extended = 72
 
 abbrev pub room : Layout → ℕ
 room l = l.length - head l.form
@@ -53,9 +56,14 @@ abbrev pub is_block : Form → Bool
 is_block Blocks = true
 is_block Plain = false
 is_block Seccomp = false
+is_block Extended = true
 
 abbrev pub known_first : Layout → ℕ
 known_first l = if is_block l.form then 0 else room l
+
+-- how often a run may jump back unless it is said: a chain of headers goes on by eight bytes or more each time
+abbrev pub usual_turns : Form → ℕ → ℕ
+usual_turns form length = (length - head form) / 8 + 1
 
 -- where the low half of a block's length lies
 abbrev pub low_half : Order → ℤ
@@ -70,6 +78,7 @@ abbrev pub is_network : Form → Bool
 is_network Blocks = true
 is_network Plain = true
 is_network Seccomp = false
+is_network Extended = true
 
 abbrev pub is_swapped : Layout → Bool
 is_swapped l = is_network l.form
@@ -166,9 +175,17 @@ abbrev pub length_insn : Form → ℤ → Reg → Insn
 length_insn Blocks offset r = Load W r R1 offset
 length_insn Plain offset r = AluInsn Mov W32 r (FromReg R2)
 length_insn Seccomp offset r = AluInsn Mov W32 r (Imm (pos 64))
+length_insn Extended offset r = Load W r R1 offset
 
 abbrev pub length_code : Layout → Register → List Insn
 length_code l to = length_insn l.form (length_offset l) (reg_of to) ∷ []
+
+-- a word of Linux's auxiliary data, in the machine's own order; 0 where contexts hold none
+abbrev pub word_insn : Form → ℕ → Insn
+word_insn Blocks offset = AluInsn Mov W32 R0 (Imm (pos 0))
+word_insn Plain offset = AluInsn Mov W32 R0 (Imm (pos 0))
+word_insn Seccomp offset = AluInsn Mov W32 R0 (Imm (pos 0))
+word_insn Extended offset = Load W R0 R1 (pos (8 + offset))
 
 abbrev pub is_register : Source → Bool
 is_register (K k) = false
@@ -202,12 +219,24 @@ if_code test source jt jf taken other =
     else if jt == 0 then unless_code (inverse test) source other
     else JumpIfInsn (same_test test) W32 R0 (operand_of source) (pos (taken + length (jump_code jf 0))) ∷ jump_code jf other
 
+-- no program has more slots than so many
+abbrev pub most_slots : ℕ
+most_slots = 30000
+
+abbrev pub back_of : Annotated → ℕ
+back_of a = min a.back most_slots
+
+-- a jump back over so many slots in front of it, if the run may jump back once more; else 0 is answered
+abbrev pub back_code : ℕ → ℕ → List Insn
+back_code back out = JumpIfInsn IsEq W64 R5 (Imm (pos 0)) (pos (out + 2)) ∷ AluInsn AddTo W64 R5 (Imm (negsuc 0)) ∷ Ja (negsuc back) ∷ []
+
 -- what is neither a load from the packet nor a jump
 abbrev pub plain_code : Layout → Classic → ℕ → List Insn
 plain_code l (Constant to k) out = AluInsn Mov W32 (reg_of to) (constant k) ∷ []
 plain_code l (Length to) out = length_code l to
 plain_code l (Cell to cell) out = Load DW (reg_of to) R10 (cell_offset cell) ∷ []
 plain_code l (Store from cell) out = StoreInsn DW R10 (cell_offset cell) (reg_of from) ∷ []
+plain_code l (Extension word) out = word_insn l.form (offset_of word) ∷ []
 plain_code l (Alu op source) out = alu_code l op source out
 plain_code l Neg out = NegInsn W32 R0 ∷ []
 plain_code l (Return k) out = AluInsn Mov W32 R0 (constant k) ∷ Exit ∷ []
@@ -222,6 +251,7 @@ code_of l a (At size k) ahead out = any_load_code l a (At size k) out
 code_of l a (Index size k) ahead out = any_load_code l a (Index size k) out
 code_of l a (Header k) ahead out = any_load_code l a (Header k) out
 code_of l a (Jump k) ahead out = jump_code k (ahead k)
+code_of l a (Back k) ahead out = back_code (back_of a) out
 code_of l a (JumpIf test source jt jf) ahead out = if_code test source jt jf (ahead jt) (ahead jf)
 code_of l a i ahead out = plain_code l i out
 
@@ -245,10 +275,7 @@ total l (a ∷ rest) = size l a + total l rest
 abbrev pub ahead_in : Layout → List Annotated → ℕ → ℕ
 ahead_in l rest k = total l rest - total l (drop k rest)
 
--- the same by a table of how many slots stand from each instruction on, at most so many (no filter has more)
-abbrev pub most_slots : ℕ
-most_slots = 30000
-
+-- the same by a table of how many slots stand from each instruction on
 abbrev pub from_on : List ℕ → ℕ → ℕ
 from_on table at = min (get_or table at 0) most_slots
 
@@ -262,7 +289,7 @@ abbrev pub code : Layout → List Annotated → List Insn
 code l [] = if l.trap then trap_code else []
 code l (a ∷ rest) = template l a (ahead_in l rest) (total l rest) ++ code l rest
 
--- the entry: how many bytes are there, and zeros in registers and cells that may be read before anything has set them
+-- the entry: how many bytes are there, how often a run may jump back if there is a loop, and zeros in registers and cells that may be read before anything has set them
 abbrev pub room_insns : Layout → List Insn
 room_insns l = Load DW R2 R1 (pos 0) ∷ JumpIfInsn IsLe W64 R2 (constant (room l)) (pos 1) ∷ AluInsn Mov W64 R2 (constant (room l)) ∷ []
 
@@ -271,6 +298,9 @@ room_code l = if is_block l.form then room_insns l else []
 
 abbrev pub zero_if : Bool → Reg → List Insn
 zero_if zero r = if zero then AluInsn Mov W64 r (Imm (pos 0)) ∷ [] else []
+
+abbrev pub turns_code : Layout → List Insn
+turns_code l = if l.loops then AluInsn Mov W64 R5 (constant l.turns) ∷ [] else []
 
 abbrev pub loads : ℕ → Classic → Bool
 loads cell (Cell to other) = other == cell
@@ -283,7 +313,7 @@ abbrev pub zero_cell : List Annotated → ℕ → List Insn
 zero_cell filter cell = if is_loaded filter cell then StoreImm DW R10 (cell_offset cell) (pos 0) ∷ [] else []
 
 abbrev pub entry : Layout → List Annotated → List Insn
-entry l filter = room_code l ++ (zero_if l.zero_a R0 ++ (zero_if l.zero_x R3 ++ flat_map (zero_cell filter) (range_with_len 0 16)))
+entry l filter = room_code l ++ (turns_code l ++ (zero_if l.zero_a R0 ++ (zero_if l.zero_x R3 ++ flat_map (zero_cell filter) (range_with_len 0 16))))
 
 abbrev pub whole : Layout → List Annotated → List Insn
 whole l filter = entry l filter ++ code l filter

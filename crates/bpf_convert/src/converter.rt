@@ -1,19 +1,20 @@
 //! The program of a filter.
 
-ghost use Rattle.std.specs.Prelude.{◌≡◌, ◌≤◌, ◌+◌, ◌-◌, length, map, IfOk};
+ghost use Rattle.std.specs.Prelude.{◌≡◌, ◌≤◌, ◌+◌, ◌-◌, length, map, true, IfOk};
 ghost use Rattle.bpf_insn.specs.Limits.{max_context};
 ghost use Rattle.bpf_classic.specs.Valid.{max_filter};
 ghost use Rattle.bpf_convert.specs.Template.{entry, whole, from_on, IsTable};
+ghost use Rattle.bpf_convert.specs.Flow.{all_turn};
 ghost use Rattle.bpf_convert.specs.Meaning.{insns, program_of, IsConverted, HasStarts, KeepsAnswers};
 
-use crate::flow::{is_sound, reads_a, reads_x, uses_trap};
+use crate::flow::{all_turn, is_sound, reads_a, reads_x, uses_trap};
 use crate::laws::conversion_keeps_answers;
-use crate::layout::{Annotated, Form, Layout};
-use crate::marks::annotate;
+use crate::layout::{Annotated, Layout, Wanted};
+use crate::marks::{annotate, set_backs};
 use crate::ways::from_on;
 use crate::writing::{put_entry, put_templates, slots_from};
 use bpf_classic::{Classic, Filter};
-use bpf_insn::{BuildError, Insn, Order, Program};
+use bpf_insn::{BuildError, Insn, Program};
 use std::alloc::{AllocError, Global};
 use std::marker::Model;
 
@@ -64,20 +65,40 @@ fn needs_trap(layout: &Layout, list: &[Annotated]) -> bool {
     false
 }
 
-/// The same layout with zeros in A and in X at the entry, and with the exit that answers 0, or without.
-fn with(layout: &Layout, zero_a: bool, zero_x: bool, trap: bool) -> Layout
+/// Whether a run may jump back.
+fn has_loop(list: &[Annotated]) -> bool {
+    for a in list {
+        if a.reached && matches!(a.insn, Classic::Back { .. }) {
+            return true;
+        }
+    }
+    false
+}
+
+/// The same layout with zeros in A and in X at the entry, or without.
+fn with_zeros(layout: &Layout, zero_a: bool, zero_x: bool) -> Layout
     ensures length { result.length ≡ layout.now.length }
     ensures form { result.form ≡ layout.now.form }
     ensures order { result.order ≡ layout.now.order }
+    ensures turns { result.turns ≡ layout.now.turns }
 {
-    Layout {
-        form: layout.form,
-        length: layout.length,
-        order: layout.order,
-        trap,
-        zero_a,
-        zero_x,
-    }
+    let mut new = *layout;
+    new.zero_a = zero_a;
+    new.zero_x = zero_x;
+    new
+}
+
+/// The same layout with the exit that answers 0 and with the count of turns, or without.
+fn with_ends(layout: &Layout, trap: bool, loops: bool) -> Layout
+    ensures length { result.length ≡ layout.now.length }
+    ensures form { result.form ≡ layout.now.form }
+    ensures order { result.order ≡ layout.now.order }
+    ensures turns { result.turns ≡ layout.now.turns }
+{
+    let mut new = *layout;
+    new.trap = trap;
+    new.loops = loops;
+    new
 }
 
 /// The instructions with what is known of them, and the layout with zeros at the entry where A or X may be read unset.
@@ -86,48 +107,71 @@ fn annotated(
     filter: &[Classic],
     layout: &Layout,
 ) -> Result<(Layout, Vec<Annotated>), AllocError>
-    requires { length filter.now ≤ max_filter }
+    requires few { length filter.now ≤ max_filter }
+    requires short { layout.now.length ≤ max_context }
     ensures length { IfOk result (λ r. r.0.length ≡ layout.now.length) }
     ensures form { IfOk result (λ r. r.0.form ≡ layout.now.form) }
     ensures order { IfOk result (λ r. r.0.order ≡ layout.now.order) }
+    ensures turns { IfOk result (λ r. r.0.turns ≡ layout.now.turns) }
     ensures same { IfOk result (λ r. insns r.1.items ≡ filter.now) }
 {
     let list = annotate(alloc, filter, layout)?;
-    let zeros = with(layout, reads_unset_a(&list), reads_unset_x(&list), false);
+    let zeros = with_zeros(layout, reads_unset_a(&list), reads_unset_x(&list));
     if !zeros.zero_a && !zeros.zero_x {
-        let trap = needs_trap(&zeros, &list);
-        return Ok((with(&zeros, false, false, trap), list));
+        return finished(alloc, filter, &zeros, list);
     }
     let again = annotate(alloc, filter, &zeros)?;
-    let trap = needs_trap(&zeros, &again);
-    Ok((with(&zeros, zeros.zero_a, zeros.zero_x, trap), again))
+    finished(alloc, filter, &zeros, again)
 }
 
-/// The program of a filter, for contexts of `length` bytes in a form: from 0 to 4,096, of blocks at least 8, of seccomp 64. On each
-/// such context it ends with what the filter answers, within the longest way through it. `Memory` if memory runs out.
-pub fn convert(
+/// The instructions with how far each jump back leads, and the layout with what the program needs besides.
+fn finished(
     alloc: Global,
-    filter: &Filter,
-    form: Form,
-    length: u32,
-    order: Order,
-) -> Result<Converted, BuildError>
-    requires { length ≤ max_context }
+    filter: &[Classic],
+    zeros: &Layout,
+    list: Vec<Annotated>,
+) -> Result<(Layout, Vec<Annotated>), AllocError>
+    requires few { length filter.now ≤ max_filter }
+    requires short { zeros.now.length ≤ max_context }
+    requires same { insns list.items ≡ filter.now }
+    ensures length { IfOk result (λ r. r.0.length ≡ zeros.now.length) }
+    ensures form { IfOk result (λ r. r.0.form ≡ zeros.now.form) }
+    ensures order { IfOk result (λ r. r.0.order ≡ zeros.now.order) }
+    ensures turns { IfOk result (λ r. r.0.turns ≡ zeros.now.turns) }
+    ensures same { IfOk result (λ r. insns r.1.items ≡ filter.now) }
+{
+    let mut list = list;
+    let layout = with_ends(zeros, needs_trap(zeros, &list), has_loop(&list));
+    if layout.loops {
+        let table = slots_from(alloc, &layout, &list)?;
+        set_backs(&mut list, &table);
+    }
+    Ok((layout, list))
+}
+
+/// The program of a filter, for contexts of `wanted.length` bytes in a form: from 0 to 4,096, of blocks at least 8 (with extensions 72), of
+/// seccomp 64. On each such context it ends with what the filter answers, within the longest way through it; with 0 where the filter's
+/// run jumps back more often than `wanted.turns`. `Memory` if memory runs out.
+pub fn convert(alloc: Global, filter: &Filter, wanted: Wanted) -> Result<Converted, BuildError>
+    requires { wanted.length ≤ max_context }
     ensures converted { IfOk result (λ c. IsConverted filter.now.kind filter.now.list c.layout c.marked c.program) }
     ensures answers { IfOk result (λ c. KeepsAnswers filter.now.list c.layout c.program) }
     ensures starts { IfOk result (λ c. HasStarts c.layout c.marked c.starts) }
-    ensures form { IfOk result (λ c. c.layout.form ≡ form) }
-    ensures length { IfOk result (λ c. c.layout.length ≡ length) }
-    ensures order { IfOk result (λ c. c.layout.order ≡ order) }
+    ensures form { IfOk result (λ c. c.layout.form ≡ wanted.form) }
+    ensures length { IfOk result (λ c. c.layout.length ≡ wanted.length) }
+    ensures order { IfOk result (λ c. c.layout.order ≡ wanted.order) }
+    ensures turns { IfOk result (λ c. c.layout.turns ≡ wanted.turns) }
 {
     conversion_keeps_answers();
     let layout = Layout {
-        form,
-        length,
-        order,
+        form: wanted.form,
+        length: wanted.length,
+        order: wanted.order,
+        turns: wanted.turns,
         trap: false,
         zero_a: false,
         zero_x: false,
+        loops: false,
     };
     let instructions = filter.instructions();
     let Ok((layout, list)) = annotated(alloc, instructions, &layout) else {
@@ -167,10 +211,14 @@ fn written(alloc: Global, layout: Layout, list: Vec<Annotated>) -> Result<Conver
     ensures layout { IfOk result (λ c. c.layout ≡ layout) }
     ensures marked { IfOk result (λ c. c.marked ≡ list.items) }
     ensures starts { IfOk result (λ c. HasStarts layout list.items c.starts) }
+    ensures turns { IfOk result (λ _. all_turn layout list.items list.items ≡ true) }
 {
     let Ok(table) = slots_from(alloc, &layout, &list) else {
         return Err(BuildError::Memory);
     };
+    if !all_turn(&layout, &list, &table) {
+        return Err(BuildError::Length);
+    }
     let Ok((out, first)) = put_all(alloc, &layout, &list, &table) else {
         return Err(BuildError::Memory);
     };
@@ -190,7 +238,7 @@ fn written(alloc: Global, layout: Layout, list: Vec<Annotated>) -> Result<Conver
 
 /// The slot at which the template of each instruction begins.
 fn starts_of(alloc: Global, table: &[u16], first: usize) -> Result<Vec<u16>, AllocError>
-    requires { first ≤ 21 }
+    requires { first ≤ 22 }
     ensures { IfOk result (λ starts. starts.items ≡ map (λ slots. first + (from_on table.now 0 - slots)) table.now) }
 {
     let mut starts = Vec::with_capacity(alloc, table.len())?;

@@ -2,14 +2,17 @@
 
 ghost use Rattle.std.specs.Prelude.{◌≡◌, ◌++◌, ◌≤◌, OnOk};
 ghost use Rattle.bpf_insn.specs.Limits.{max_context};
+ghost use Rattle.bpf_insn.specs.declared.instruction.Reg.TheVariants.{R1};
+ghost use Rattle.bpf_insn.specs.declared.instruction.Size.TheVariants.{W};
+ghost use Rattle.bpf_insn.specs.declared.instruction.Insn.TheVariants.{Load as LoadInsn};
 ghost use Rattle.bpf_classic.specs.Valid.{max_filter};
 ghost use Rattle.bpf_classic.specs.Machine.{same_op, same_test};
-ghost use Rattle.bpf_convert.specs.Template.{reg_of, operand_of, cell_offset, length_insn, is_register, alu_code, inverse, jump_code, unless_code, if_code, plain_code, template, from_on, way};
+ghost use Rattle.bpf_convert.specs.Template.{reg_of, operand_of, cell_offset, length_insn, word_insn, is_register, alu_code, inverse, jump_code, back_code, unless_code, if_code, plain_code, template, from_on, way};
 
-use crate::insns::{alu, constant, ja, put, test_low};
+use crate::insns::{alu, constant, ja, put, test_low, test_wide};
 use crate::layout::{Annotated, Form, Layout};
 use crate::loads::put_load;
-use crate::ways::{from_on, way};
+use crate::ways::{back_of, from_on, way};
 use bpf_classic::{Classic, Op, Register, Source, Test};
 use bpf_insn::{AluOp, Cond, Insn, Operand, Reg, Size, Width};
 use std::alloc::AllocError;
@@ -77,18 +80,36 @@ fn inverse(test: Test) -> Option<Cond>
     }
 }
 
+/// A load of four bytes of the context.
+fn word_load(dst: Reg, off: i16) -> Insn
+    ensures { result ≡ LoadInsn W dst R1 off }
+{
+    Insn::Load {
+        size: Size::W,
+        dst,
+        src: Reg::R1,
+        off,
+    }
+}
+
 fn length_insn(form: Form, offset: i16, dst: Reg) -> Insn
     ensures { result ≡ length_insn form offset dst }
 {
     match form {
-        Form::Blocks => Insn::Load {
-            size: Size::W,
-            dst,
-            src: Reg::R1,
-            off: offset,
-        },
+        Form::Blocks | Form::Extended => word_load(dst, offset),
         Form::Plain => alu(AluOp::Mov, dst, Operand::Reg(Reg::R2)),
         Form::Seccomp => alu(AluOp::Mov, dst, Operand::Imm(64)),
+    }
+}
+
+/// A load of a word of Linux's auxiliary data, so many bytes behind the first one; 0 where contexts hold none.
+fn word_insn(form: Form, offset: u32) -> Insn
+    requires { offset ≤ 60 }
+    ensures { result ≡ word_insn form offset }
+{
+    match form {
+        Form::Extended => word_load(Reg::R0, (8 + offset) as i16),
+        Form::Blocks | Form::Plain | Form::Seccomp => alu(AluOp::Mov, Reg::R0, Operand::Imm(0)),
     }
 }
 
@@ -133,6 +154,25 @@ fn put_jump(out: &mut Vec<Insn>, k: u32, distance: u16) -> Result<(), AllocError
         return Ok(());
     }
     put(out, &[ja(distance)])
+}
+
+/// A jump back over so many slots, where the run may jump back once more; so many stand between its template and the exit that answers 0.
+fn put_back(out: &mut Vec<Insn>, back: u16, to: u16) -> Result<(), AllocError>
+    requires near { to ≤ 30000 }
+    requires far { back ≤ 30000 }
+    ensures { OnOk result (out.new.items ≡ out.old.items ++ back_code back to) }
+{
+    let test = test_wide(Cond::Eq, Reg::R5, Operand::Imm(0), to + 2);
+    let count = Insn::Alu {
+        op: AluOp::Add,
+        width: Width::W64,
+        dst: Reg::R5,
+        src: Operand::Imm(-1),
+    };
+    let jump = Insn::Ja {
+        off: -1 - back as i16,
+    };
+    put(out, &[test, count, jump])
 }
 
 fn put_unless(
@@ -211,6 +251,7 @@ fn put_plain(out: &mut Vec<Insn>, layout: &Layout, insn: Classic, to: u16) -> Re
                 src: reg_of(from),
             }],
         ),
+        Classic::Extension { word } => put(out, &[word_insn(layout.form, word.offset())]),
         Classic::Alu { op, source } => put_alu(out, layout, op, source, to),
         Classic::Neg => put(
             out,
@@ -224,7 +265,7 @@ fn put_plain(out: &mut Vec<Insn>, layout: &Layout, insn: Classic, to: u16) -> Re
         Classic::Tax => put(out, &[alu(AluOp::Mov, Reg::R3, Operand::Reg(Reg::R0))]),
         Classic::Txa => put(out, &[alu(AluOp::Mov, Reg::R0, Operand::Reg(Reg::R3))]),
         Classic::At { .. } | Classic::Index { .. } | Classic::Header { .. } => Ok(()),
-        Classic::Jump { .. } | Classic::JumpIf { .. } => Ok(()),
+        Classic::Jump { .. } | Classic::Back { .. } | Classic::JumpIf { .. } => Ok(()),
     }
 }
 
@@ -249,6 +290,7 @@ pub fn emit(
         Classic::Index { .. } => put_load(out, layout, a, to),
         Classic::Header { .. } => put_load(out, layout, a, to),
         Classic::Jump { k } => put_jump(out, k, way(table, from, k as usize)),
+        Classic::Back { .. } => put_back(out, back_of(a), to),
         Classic::JumpIf {
             test,
             source,
@@ -265,6 +307,7 @@ pub fn emit(
         Classic::Length { .. } => put_plain(out, layout, a.insn, to),
         Classic::Cell { .. } => put_plain(out, layout, a.insn, to),
         Classic::Store { .. } => put_plain(out, layout, a.insn, to),
+        Classic::Extension { .. } => put_plain(out, layout, a.insn, to),
         Classic::Alu { .. } => put_plain(out, layout, a.insn, to),
         Classic::Neg => put_plain(out, layout, a.insn, to),
         Classic::Return { .. } => put_plain(out, layout, a.insn, to),

@@ -1,11 +1,13 @@
 //! Whether what instructions are marked with agrees along every way: one look at each instruction and at those that it leads to.
 
 ghost use Rattle.std.specs.Prelude.{◌≡◌, ◌+◌, ◌≤◌, length, option_copied};
-ghost use Rattle.bpf_convert.specs.Template.{is_register};
-ghost use Rattle.bpf_convert.specs.Flow.{is_word, source_word, has_word, is_a, is_x, reads_a, reads_x, sets_a, sets_x, tests_length, leads_to_trap, uses_trap, known_behind, leads_to, leads_on, agrees, all_agree, starts_well, is_sound};
+ghost use Rattle.bpf_classic.specs.Valid.{max_filter};
+ghost use Rattle.bpf_convert.specs.Template.{is_register, IsTable};
+ghost use Rattle.bpf_convert.specs.Flow.{is_word, source_word, has_word, is_a, is_x, reads_a, reads_x, sets_a, sets_x, tests_length, leads_to_trap, uses_trap, known_behind, leads_to, leads_on, agrees, all_agree, starts_well, is_sound, turns_to, turns_well, all_turn};
 
 use crate::emit::is_register;
 use crate::layout::{Annotated, Layout, is_beyond, need};
+use crate::ways::{back_of, from_on};
 use bpf_classic::{Classic, Register, Source};
 
 fn is_word(k: u32) -> bool
@@ -34,8 +36,8 @@ fn has_word(insn: &Classic) -> bool
         Classic::JumpIf { source, .. } => source_word(source),
         Classic::Length { .. } | Classic::Cell { .. } | Classic::Store { .. } => true,
         Classic::At { .. } | Classic::Index { .. } | Classic::Header { .. } => true,
-        Classic::Neg | Classic::Jump { .. } | Classic::ReturnA => true,
-        Classic::Tax | Classic::Txa => true,
+        Classic::Neg | Classic::Jump { .. } | Classic::Back { .. } | Classic::ReturnA => true,
+        Classic::Extension { .. } | Classic::Tax | Classic::Txa => true,
     }
 }
 
@@ -67,7 +69,8 @@ pub fn reads_a(insn: &Classic) -> bool
         Classic::JumpIf { jt, jf, .. } => jt != jf,
         Classic::Constant { .. } | Classic::Length { .. } | Classic::Cell { .. } => false,
         Classic::At { .. } | Classic::Index { .. } | Classic::Header { .. } => false,
-        Classic::Jump { .. } | Classic::Return { .. } | Classic::Txa => false,
+        Classic::Jump { .. } | Classic::Back { .. } | Classic::Return { .. } => false,
+        Classic::Extension { .. } | Classic::Txa => false,
     }
 }
 
@@ -82,8 +85,8 @@ pub fn reads_x(insn: &Classic) -> bool
         Classic::Index { .. } | Classic::Txa => true,
         Classic::Constant { .. } | Classic::Length { .. } | Classic::Cell { .. } => false,
         Classic::At { .. } | Classic::Header { .. } | Classic::Neg => false,
-        Classic::Jump { .. } | Classic::Return { .. } | Classic::ReturnA => false,
-        Classic::Tax => false,
+        Classic::Jump { .. } | Classic::Back { .. } | Classic::Return { .. } => false,
+        Classic::ReturnA | Classic::Extension { .. } | Classic::Tax => false,
     }
 }
 
@@ -96,10 +99,10 @@ pub fn sets_a(insn: &Classic) -> bool
         Classic::Length { to } => is_a(to),
         Classic::Cell { to, .. } => is_a(to),
         Classic::At { .. } | Classic::Index { .. } | Classic::Alu { .. } => true,
-        Classic::Neg | Classic::Txa => true,
+        Classic::Extension { .. } | Classic::Neg | Classic::Txa => true,
         Classic::Store { .. } | Classic::Header { .. } | Classic::Jump { .. } => false,
-        Classic::JumpIf { .. } | Classic::Return { .. } | Classic::ReturnA => false,
-        Classic::Tax => false,
+        Classic::Back { .. } | Classic::JumpIf { .. } | Classic::Return { .. } => false,
+        Classic::ReturnA | Classic::Tax => false,
     }
 }
 
@@ -114,7 +117,8 @@ pub fn sets_x(insn: &Classic) -> bool
         Classic::Header { .. } | Classic::Tax => true,
         Classic::At { .. } | Classic::Index { .. } | Classic::Alu { .. } => false,
         Classic::Neg | Classic::Txa | Classic::Store { .. } | Classic::Jump { .. } => false,
-        Classic::JumpIf { .. } | Classic::Return { .. } | Classic::ReturnA => false,
+        Classic::Back { .. } | Classic::JumpIf { .. } | Classic::Return { .. } => false,
+        Classic::ReturnA | Classic::Extension { .. } => false,
     }
 }
 
@@ -129,12 +133,12 @@ fn leads_to_trap(layout: &Layout, a: &Annotated) -> bool
 {
     match a.insn {
         Classic::At { .. } | Classic::Header { .. } => tests_length(layout, a),
-        Classic::Index { .. } => true,
+        Classic::Index { .. } | Classic::Back { .. } => true,
         Classic::Alu { op, source } => is_register(source) && op.divides(),
         Classic::Constant { .. } | Classic::Length { .. } | Classic::Cell { .. } => false,
         Classic::Store { .. } | Classic::Neg | Classic::Jump { .. } => false,
         Classic::JumpIf { .. } | Classic::Return { .. } | Classic::ReturnA => false,
-        Classic::Tax | Classic::Txa => false,
+        Classic::Extension { .. } | Classic::Tax | Classic::Txa => false,
     }
 }
 
@@ -174,12 +178,13 @@ fn leads_on(a: &Annotated, rest: &[Annotated]) -> bool
         Classic::JumpIf { jt, jf, .. } => {
             leads_to(a, rest.get(usize::from(jt))) && leads_to(a, rest.get(usize::from(jf)))
         }
-        Classic::Return { .. } | Classic::ReturnA => true,
+        Classic::Back { .. } | Classic::Return { .. } | Classic::ReturnA => true,
         Classic::Constant { .. } | Classic::Length { .. } => leads_to(a, rest.get(0)),
         Classic::Cell { .. } | Classic::Store { .. } => leads_to(a, rest.get(0)),
         Classic::At { .. } | Classic::Index { .. } => leads_to(a, rest.get(0)),
         Classic::Header { .. } | Classic::Alu { .. } => leads_to(a, rest.get(0)),
-        Classic::Neg | Classic::Tax | Classic::Txa => leads_to(a, rest.get(0)),
+        Classic::Extension { .. } | Classic::Neg => leads_to(a, rest.get(0)),
+        Classic::Tax | Classic::Txa => leads_to(a, rest.get(0)),
     }
 }
 
@@ -223,4 +228,62 @@ pub fn is_sound(layout: &Layout, list: &[Annotated]) -> bool
     ensures { result ≡ is_sound layout.now list.now }
 {
     starts_well(layout, list.get(0)) && all_agree(layout, list)
+}
+
+/// Whether a jump back leads to an instruction that is marked with no more than what is known in front of the jump, and over as
+/// many slots as it says. So many instructions are left from there on, and so many slots stand behind the jump.
+fn turns_to(
+    layout: &Layout,
+    all: &[Annotated],
+    table: &[u16],
+    a: &Annotated,
+    behind: (usize, u16),
+) -> bool
+    requires table { IsTable layout.now all.now table.now }
+    ensures { result ≡ turns_to layout.now all.now a.now behind.0 behind.1 }
+{
+    let (left, slots) = behind;
+    if !layout.loops || left > all.len() {
+        return false;
+    }
+    let head = all.len() - left;
+    leads_to(a, all.get(head))
+        && u32::from(back_of(a)) + 1 + u32::from(slots) == u32::from(from_on(table, head))
+}
+
+fn turns_well(
+    layout: &Layout,
+    all: &[Annotated],
+    table: &[u16],
+    a: &Annotated,
+    behind: (usize, u16),
+) -> bool
+    requires few { behind.0 ≤ max_filter }
+    requires table { IsTable layout.now all.now table.now }
+    ensures { result ≡ turns_well layout.now all.now a.now a.now.insn behind.0 behind.1 }
+{
+    let (left, slots) = behind;
+    match a.insn {
+        Classic::Back { k } => turns_to(layout, all, table, a, (left + k as usize, slots)),
+        Classic::Constant { .. } | Classic::Length { .. } | Classic::Cell { .. } => true,
+        Classic::Store { .. } | Classic::At { .. } | Classic::Index { .. } => true,
+        Classic::Header { .. } | Classic::Extension { .. } | Classic::Alu { .. } => true,
+        Classic::Neg | Classic::Jump { .. } | Classic::JumpIf { .. } => true,
+        Classic::Return { .. } | Classic::ReturnA | Classic::Tax | Classic::Txa => true,
+    }
+}
+
+/// Whether each jump back leads to where it says, and what is known there agrees. By the table so many slots stand from each instruction on.
+pub fn all_turn(layout: &Layout, list: &[Annotated], table: &[u16]) -> bool
+    requires few { length list.now ≤ max_filter }
+    requires table { IsTable layout.now list.now table.now }
+    ensures { result ≡ all_turn layout.now list.now list.now }
+{
+    for at in 0..list.len() {
+        let behind = (list.len() - (at + 1), from_on(table, at + 1));
+        if list[at].reached && !turns_well(layout, list, table, &list[at], behind) {
+            return false;
+        }
+    }
+    true
 }

@@ -1,34 +1,48 @@
 //! In which form a program gets what its filter is given, and what is known in front of each instruction.
 
 ghost use Rattle.std.specs.Prelude.{◌≡◌, ◌<◌, ◌≤◌};
-ghost use Rattle.bpf_convert.specs.Template.{head, room, known_first, length_offset, is_swapped, is_masked, insn_size, end_bits, need, is_beyond};
+ghost use Rattle.bpf_convert.specs.Template.{head, usual_turns, room, known_first, length_offset, is_swapped, is_masked, insn_size, end_bits, need, is_beyond};
+ghost use Rattle.bpf_insn.specs.Limits.{max_context};
 ghost use Rattle.bpf_classic.specs.Machine.{bytes as bytes_in};
 
 use bpf_classic::{Classic, LoadSize};
 use bpf_insn::{EndBits, Order, Size};
 
-/// The form of a context: a block with the packet's length in front, the packet itself, or seccomp's `struct seccomp_data`.
+/// The form of a context: a block with the packet's length in front, the packet itself, seccomp's `struct seccomp_data`, or a block with the
+/// words of Linux's auxiliary data between the length and the packet.
 #[derive(Clone, Copy)]
 pub enum Form {
     Blocks,
     Plain,
     Seccomp,
+    Extended,
 }
 
-/// The form, the bytes of a context, the byte order, and what the program needs besides its instructions' templates: the exit that
-/// answers 0, and zeros in A and in X at the entry.
+/// The form, the bytes of a context, the byte order, how often a run may jump back, and what the program needs besides its instructions'
+/// templates: the exit that answers 0, zeros in A and in X at the entry, and the count of turns where there are loops.
 #[derive(Clone, Copy)]
 pub struct Layout {
     pub form: Form,
     pub length: u32,
     pub order: Order,
+    pub turns: u16,
     pub trap: bool,
     pub zero_a: bool,
     pub zero_x: bool,
+    pub loops: bool,
 }
 
-/// An instruction, whether a run reaches it, how many bytes of a packet are surely there in front of it, and whether A and X are
-/// surely set.
+/// What a program is to be like: the form and the length of its contexts, its byte order, and how often a run may jump back.
+#[derive(Clone, Copy)]
+pub struct Wanted {
+    pub form: Form,
+    pub length: u32,
+    pub order: Order,
+    pub turns: u16,
+}
+
+/// An instruction, whether a run reaches it, how many bytes of a packet are surely there in front of it, whether A and X are surely
+/// set, and over how many slots a jump back leads.
 #[derive(Clone, Copy)]
 pub struct Annotated {
     pub insn: Classic,
@@ -36,17 +50,27 @@ pub struct Annotated {
     pub known: u32,
     pub a: bool,
     pub x: bool,
+    pub back: u16,
 }
 
 /// The bytes of a context in front of a packet.
 pub fn head(form: Form) -> u32
     ensures same { result ≡ head form }
-    ensures few { result ≤ 8 }
+    ensures few { result ≤ 72 }
 {
     match form {
         Form::Blocks => 8,
+        Form::Extended => 72,
         Form::Plain | Form::Seccomp => 0,
     }
+}
+
+/// How often a run may jump back unless it is said: a chain of headers goes on by eight bytes or more each time.
+pub fn usual_turns(form: Form, length: u32) -> u16
+    requires { length ≤ max_context }
+    ensures { result ≡ usual_turns form length }
+{
+    (length.saturating_sub(head(form)) / 8 + 1) as u16
 }
 
 impl Layout {
@@ -63,7 +87,7 @@ impl Layout {
         ensures { result ≡ known_first self.now }
     {
         match self.form {
-            Form::Blocks => 0,
+            Form::Blocks | Form::Extended => 0,
             Form::Plain | Form::Seccomp => self.room(),
         }
     }
@@ -83,7 +107,7 @@ impl Layout {
         ensures { result ≡ is_swapped self.now }
     {
         match self.form {
-            Form::Blocks | Form::Plain => true,
+            Form::Blocks | Form::Plain | Form::Extended => true,
             Form::Seccomp => false,
         }
     }
@@ -93,7 +117,7 @@ impl Layout {
         ensures { result ≡ is_masked self.now }
     {
         match self.form {
-            Form::Blocks | Form::Plain => false,
+            Form::Blocks | Form::Plain | Form::Extended => false,
             Form::Seccomp => true,
         }
     }
@@ -144,8 +168,9 @@ pub fn need(insn: &Classic) -> u64
         Classic::Header { k } => u64::from(k) + 1,
         Classic::Constant { .. } | Classic::Length { .. } | Classic::Cell { .. } => 0,
         Classic::Store { .. } | Classic::Alu { .. } | Classic::Neg | Classic::Jump { .. } => 0,
-        Classic::JumpIf { .. } | Classic::Return { .. } | Classic::ReturnA => 0,
-        Classic::Tax | Classic::Txa => 0,
+        Classic::Back { .. } | Classic::JumpIf { .. } | Classic::Return { .. } | Classic::ReturnA =>
+            0,
+        Classic::Extension { .. } | Classic::Tax | Classic::Txa => 0,
     }
 }
 

@@ -13,5 +13,7 @@ pub mod ways;
 mod writing;
 
 pub use converter::{Converted, convert};
-pub use laws::conversion_keeps_answers;
-pub use layout::{Annotated, Form, Layout};
+pub use laws::{
+    conversion_keeps_answers, more_turns_keep_answers, straight_filters_answer, turns_are_spent,
+};
+pub use layout::{Annotated, Form, Layout, Wanted, usual_turns};

@@ -175,7 +175,8 @@ pub fn put_load(
         Classic::Header { k } => put_header(out, layout, a, k, to),
         Classic::Constant { .. } | Classic::Length { .. } | Classic::Cell { .. } => Ok(()),
         Classic::Store { .. } | Classic::Alu { .. } | Classic::Neg => Ok(()),
-        Classic::Jump { .. } | Classic::JumpIf { .. } | Classic::Return { .. } => Ok(()),
-        Classic::ReturnA | Classic::Tax | Classic::Txa => Ok(()),
+        Classic::Jump { .. } | Classic::Back { .. } | Classic::JumpIf { .. } => Ok(()),
+        Classic::Return { .. } | Classic::Extension { .. } | Classic::ReturnA => Ok(()),
+        Classic::Tax | Classic::Txa => Ok(()),
     }
 }

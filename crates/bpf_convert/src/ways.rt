@@ -2,7 +2,9 @@
 
 ghost use Rattle.std.specs.Prelude.{◌≡◌, ◌≤◌};
 ghost use Rattle.bpf_classic.specs.Valid.{max_filter};
-ghost use Rattle.bpf_convert.specs.Template.{from_on, way, most_slots};
+ghost use Rattle.bpf_convert.specs.Template.{from_on, back_of, way, most_slots};
+
+use crate::layout::Annotated;
 
 /// No filter's program has more slots: 4,096 templates of at most 6, an entry and an exit.
 const MOST_SLOTS: u16 = 30_000;
@@ -16,6 +18,14 @@ pub fn from_on(table: &[u16], at: usize) -> u16
         Some(slots) => (*slots).min(MOST_SLOTS),
         None => 0,
     }
+}
+
+/// How many slots a jump back leads.
+pub fn back_of(a: &Annotated) -> u16
+    ensures same { result ≡ back_of a.now }
+    ensures most { result ≤ most_slots }
+{
+    a.back.min(MOST_SLOTS)
 }
 
 /// The slots from the template of an instruction to that of the one `k` further on, by a table of how many stand from each on.

@@ -4,7 +4,7 @@ ghost use Rattle.std.specs.Prelude.{◌≡◌, ◌≤◌, ◌++◌, length, true
 ghost use Rattle.std.specs.List.{range_with_len};
 ghost use Rattle.bpf_insn.specs.Limits.{max_context};
 ghost use Rattle.bpf_classic.specs.Valid.{max_filter};
-ghost use Rattle.bpf_convert.specs.Template.{loads, is_loaded, size, total, room_insns, zero_if, zero_cell, entry, code, IsTable};
+ghost use Rattle.bpf_convert.specs.Template.{loads, is_loaded, size, total, room_insns, turns_code, zero_if, zero_cell, entry, code, IsTable};
 
 use crate::emit::{cell_offset, emit};
 use crate::insns::{alu, constant, test_wide};
@@ -54,8 +54,9 @@ fn loads(cell: u32, insn: &Classic) -> bool
         Classic::Constant { .. } | Classic::Length { .. } | Classic::Store { .. } => false,
         Classic::At { .. } | Classic::Index { .. } | Classic::Header { .. } => false,
         Classic::Alu { .. } | Classic::Neg | Classic::Jump { .. } => false,
-        Classic::JumpIf { .. } | Classic::Return { .. } | Classic::ReturnA => false,
-        Classic::Tax | Classic::Txa => false,
+        Classic::Back { .. } | Classic::JumpIf { .. } | Classic::Return { .. } | Classic::ReturnA =>
+            false,
+        Classic::Extension { .. } | Classic::Tax | Classic::Txa => false,
     }
 }
 
@@ -99,6 +100,21 @@ fn put_room(out: &mut Vec<Insn>, layout: &Layout) -> Result<(), AllocError>
     Ok(())
 }
 
+/// How often a run may jump back, where there is a loop.
+fn put_turns(out: &mut Vec<Insn>, layout: &Layout) -> Result<(), AllocError>
+    ensures { OnOk result (out.new.items ≡ out.old.items ++ turns_code layout.now) }
+{
+    if layout.loops {
+        out.push(Insn::Alu {
+            op: AluOp::Mov,
+            width: Width::W64,
+            dst: Reg::R5,
+            src: constant(u32::from(layout.turns)),
+        })?;
+    }
+    Ok(())
+}
+
 /// A zero in a cell, if it may be loaded.
 fn put_cell(out: &mut Vec<Insn>, list: &[Annotated], cell: u32) -> Result<(), AllocError>
     ensures { OnOk result (out.new.items ≡ out.old.items ++ zero_cell list.now cell) }
@@ -124,13 +140,14 @@ fn put_cells(out: &mut Vec<Insn>, list: &[Annotated]) -> Result<(), AllocError>
     Ok(())
 }
 
-/// The entry: how many bytes are there, and zeros where something may be read before anything has set it.
+/// The entry: how many bytes are there, how often a run may jump back, and zeros where something may be read before anything has set it.
 pub fn put_entry(out: &mut Vec<Insn>, layout: &Layout, list: &[Annotated]) -> Result<(), AllocError>
     ensures { OnOk result (out.new.items ≡ out.old.items ++ entry layout.now list.now) }
 {
-    if matches!(layout.form, Form::Blocks) {
+    if matches!(layout.form, Form::Blocks | Form::Extended) {
         put_room(out, layout)?;
     }
+    put_turns(out, layout)?;
     if layout.zero_a {
         put_zero(out, Reg::R0)?;
     }

@@ -1,4 +1,4 @@
-//! Where the instructions of a converted filter lead, and how long the longest way from each is. Jumps lead forward.
+//! Where the instructions of a converted filter lead, and how long the longest way from each is: to the end, or to where it jumps back.
 
 use bpf_insn::{Insn, MAX_SLOTS, Program, target};
 use std::alloc::{AllocError, Global};
@@ -56,6 +56,21 @@ pub fn longest_ways(alloc: Global, program: &Program) -> Result<Vec<u32>, AllocE
     Ok(steps)
 }
 
+/// How many instructions the longest way takes from where a jump back leads to the next one or to the end; 0 where there is none.
+pub fn longest_turn(program: &Program, steps: &[u32]) -> u32 {
+    let mut most = 0;
+    for slot in 0..program.slots() {
+        if let Some(insn) = program.at(slot) {
+            if let Some(to) = jump_of(slot, insn) {
+                if to <= slot {
+                    most = steps_from(steps, to).max(most);
+                }
+            }
+        }
+    }
+    most
+}
+
 /// The slots that want a label: those that a jump leads to, and those behind a test, which may always go one way.
 pub fn labelled(alloc: Global, program: &Program) -> Result<Vec<bool>, AllocError> {
     let count = program.slots();
@@ -77,7 +92,8 @@ pub fn labelled(alloc: Global, program: &Program) -> Result<Vec<bool>, AllocErro
     Ok(wanted)
 }
 
-fn mark(wanted: &mut Vec<bool>, slot: u32) {
+/// Says that a slot wants a label.
+pub fn mark(wanted: &mut Vec<bool>, slot: u32) {
     if let Some(place) = wanted.get_mut(slot as usize) {
         *place = true;
     }

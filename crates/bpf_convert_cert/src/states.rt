@@ -1,5 +1,6 @@
 //! What is known at a slot of a converted filter: r1 is the context's start, r2 how many bytes of the packet are there, r0, r3 and the
-//! cells hold numbers where they are surely set, and r4 behind the test of an index leads to bytes that are there.
+//! cells hold numbers where they are surely set, r4 behind the test of an index leads to bytes that are there, and r5 is how often a run may still
+//! jump back.
 
 ghost use Rattle.bpf_state.specs.State.{IsRegister};
 
@@ -23,7 +24,7 @@ fn between(least: u32, most: u32) -> RegState
 
 fn set_room(state: &mut State, layout: &Layout) {
     match layout.form {
-        Form::Blocks => state.set_reg(Reg::R2, between(0, layout.room())),
+        Form::Blocks | Form::Extended => state.set_reg(Reg::R2, between(0, layout.room())),
         Form::Plain => state.set_reg(Reg::R2, between(layout.room(), layout.room())),
         Form::Seccomp => {}
     }
@@ -43,7 +44,7 @@ pub fn at_start(layout: &Layout) -> State {
 pub fn in_entry(layout: &Layout, slot: u32) -> State {
     let mut state = State::blank();
     state.set_reg(Reg::R1, RegState::Ptr(Pointer::start_of(Area::Context)));
-    if slot != 2 || !matches!(layout.form, Form::Blocks) {
+    if slot != 2 || !matches!(layout.form, Form::Blocks | Form::Extended) {
         set_room(&mut state, layout);
     }
     state
@@ -80,6 +81,32 @@ fn index_end(converted: &Converted, slot: u32) -> Option<u32> {
     }
 }
 
+/// Whether the slot is behind the test that a run may jump back once more.
+fn may_turn(converted: &Converted, slot: u32) -> bool {
+    if slot == 0 {
+        return false;
+    }
+    matches!(
+        converted.program().at(slot - 1),
+        Some(Insn::JumpIf {
+            cond: Cond::Eq,
+            width: Width::W64,
+            dst: Reg::R5,
+            ..
+        })
+    )
+}
+
+fn set_turns(state: &mut State, converted: &Converted, slot: u32) {
+    let turns = u32::from(converted.layout().turns);
+    let left = if may_turn(converted, slot) {
+        between(1, turns.max(1))
+    } else {
+        between(0, turns)
+    };
+    state.set_reg(Reg::R5, left);
+}
+
 fn set_cells(state: &mut State, list: &[Annotated]) {
     for a in list {
         if let Classic::Cell { cell, .. } = a.insn {
@@ -102,6 +129,9 @@ pub fn in_template(converted: &Converted, a: &Annotated, slot: u32) -> State {
     }
     if let Some(end) = index_end(converted, slot) {
         state.set_reg(Reg::R4, between(end, layout.room()));
+    }
+    if layout.loops {
+        set_turns(&mut state, converted, slot);
     }
     set_cells(&mut state, converted.list());
     state

@@ -1,7 +1,11 @@
 //! Why there is no program of a filter.
 
 use bpf_classic::Refusal;
+use bpf_refusals::{At, FILTER_MEMORY, Letter, Tells, Told};
 use thiserror::Error;
+
+/// The number of the refusal where the checker doesn't take the certificate.
+const UNCERTIFIED: u8 = 10;
 
 /// Why there is no program of a filter with its certificate.
 #[derive(Clone, Copy, Debug, PartialEq, Eq, Error)]
@@ -17,29 +21,16 @@ pub enum ConvertError {
     Uncertified,
 }
 
-impl ConvertError {
-    ghost use Rattle.std.specs.Prelude.{◌≡◌};
-    ghost use Rattle.bpf_convert_checked.specs.Made.{error_number, error_place};
+impl Tells for ConvertError {
+    ghost use Rattle.bpf_convert_checked.specs.Made.{told_conversion};
 
-    /// The number of the refusal, from 1 to 10.
-    pub fn number(self) -> u8
-        ensures { result ≡ error_number self }
-    {
-        match self {
-            ConvertError::Filter(refusal) => refusal.number(),
-            ConvertError::Memory => 9,
-            ConvertError::Uncertified => 10,
-        }
-    }
+    ghost told_of = { told_conversion };
 
-    /// The instruction that has the fault, counted from 0; 0 where it isn't of one.
-    pub fn place(self) -> u32
-        ensures { result ≡ error_place self }
-    {
+    fn told(&self) -> Told {
         match self {
-            ConvertError::Filter(Refusal::Instruction { at, .. }) => at,
-            ConvertError::Filter(Refusal::Length | Refusal::Memory) => 0,
-            ConvertError::Memory | ConvertError::Uncertified => 0,
+            ConvertError::Filter(refusal) => refusal.told(),
+            ConvertError::Memory => Told::new(Letter::Classic, FILTER_MEMORY, At::Nowhere),
+            ConvertError::Uncertified => Told::new(Letter::Classic, UNCERTIFIED, At::Nowhere),
         }
     }
 }

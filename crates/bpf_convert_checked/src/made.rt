@@ -3,7 +3,7 @@
 ghost use Rattle.std.specs.Prelude.{◌≡◌, ◌≤◌, ◌⊎◌, IfOk, IfErr};
 ghost use Rattle.bpf_insn.specs.Limits.{max_context};
 ghost use Rattle.bpf_check.specs.CheckedProgram.{IsCertifiedBy};
-ghost use Rattle.bpf_convert.specs.Meaning.{KeepsAnswers};
+ghost use Rattle.bpf_convert.specs.Meaning.{HasStarts, KeepsAnswers, insns};
 ghost use Rattle.bpf_convert_checked.specs.Made.{IsMade, IsRefusedFor, kind_of};
 ghost use Rattle.bpf_convert_checked.specs.declared.error.ConvertError.TheVariants.{Memory, Uncertified};
 
@@ -11,9 +11,9 @@ use crate::error::ConvertError;
 use bpf_cert::Certificate;
 use bpf_check::check;
 use bpf_classic::{Filter, Kind, Raw};
-use bpf_convert::{Converted, Form, convert};
+use bpf_convert::{Converted, Form, Wanted, convert};
 use bpf_convert_cert::certificate;
-use bpf_insn::{BuildError, Order};
+use bpf_insn::BuildError;
 use std::alloc::Global;
 
 /// A filter's program, and a certificate that the checker takes.
@@ -30,6 +30,7 @@ pub fn kind_of(form: Form) -> Kind
     match form {
         Form::Blocks | Form::Plain => Kind::Packets,
         Form::Seccomp => Kind::Seccomp,
+        Form::Extended => Kind::Extended,
     }
 }
 
@@ -53,46 +54,37 @@ fn certified(alloc: Global, converted: &Converted, length: u32) -> Result<Certif
 }
 
 /// The program of a filter.
-fn program_of(
-    alloc: Global,
-    filter: &Filter,
-    form: Form,
-    length: u32,
-    order: Order,
-) -> Result<Converted, ConvertError>
-    requires { length ≤ max_context }
+fn program_of(alloc: Global, filter: &Filter, wanted: Wanted) -> Result<Converted, ConvertError>
+    requires { wanted.length ≤ max_context }
     ensures answers { IfOk result (λ c. KeepsAnswers filter.now.list c.layout c.program) }
-    ensures layout { IfOk result (λ c. (c.layout.form ≡ form) × (c.layout.length ≡ length) × (c.layout.order ≡ order)) }
-    ensures order { IfOk result (λ c. c.program.order ≡ order) }
+    ensures same { IfOk result (λ c. insns c.marked ≡ filter.now.list) }
+    ensures starts { IfOk result (λ c. HasStarts c.layout c.marked c.starts) }
+    ensures layout { IfOk result (λ c. (c.layout.form ≡ wanted.form) × (c.layout.length ≡ wanted.length) × (c.layout.order ≡ wanted.order)) }
+    ensures turns { IfOk result (λ c. c.layout.turns ≡ wanted.turns) }
+    ensures order { IfOk result (λ c. c.program.order ≡ wanted.order) }
     ensures err { IfErr result (λ e. (e ≡ Memory) ⊎ (e ≡ Uncertified)) }
 {
-    match convert(alloc, filter, form, length, order) {
+    match convert(alloc, filter, wanted) {
         Ok(converted) => Ok(converted),
         Err(BuildError::Memory) => Err(ConvertError::Memory),
         Err(_) => Err(ConvertError::Uncertified),
     }
 }
 
-/// The program of instructions as they are written, for contexts of `length` bytes in a form: from 0 to 4,096, of blocks at least 8, of seccomp
-/// 64; and a certificate that the checker takes, for contexts of this length alone. B1 to B7 where they are no filter, B9 where memory runs
+/// The program of instructions as they are written, for contexts of `wanted.length` bytes in a form: from 0 to 4,096, of blocks at least 8, with
+/// extensions 72, of seccomp 64; and a certificate that the checker takes, for contexts of this length alone. B1 to B7 where they are no filter, B9 where memory runs
 /// out, B10 where the checker doesn't take the certificate.
-pub fn converted(
-    alloc: Global,
-    raws: &[Raw],
-    form: Form,
-    length: u32,
-    order: Order,
-) -> Result<Made, ConvertError>
-    requires { length ≤ max_context }
-    ensures ok { IfOk result (IsMade raws.now form length order) }
-    ensures err { IfErr result (IsRefusedFor raws.now form) }
+pub fn converted(alloc: Global, raws: &[Raw], wanted: Wanted) -> Result<Made, ConvertError>
+    requires { wanted.length ≤ max_context }
+    ensures ok { IfOk result (IsMade raws.now wanted) }
+    ensures err { IfErr result (IsRefusedFor raws.now wanted.form) }
 {
-    let filter = match Filter::new(alloc, kind_of(form), raws) {
+    let filter = match Filter::new(alloc, kind_of(wanted.form), raws) {
         Ok(filter) => filter,
         Err(refusal) => return Err(ConvertError::Filter(refusal)),
     };
-    let converted = program_of(alloc, &filter, form, length, order)?;
-    let certificate = certified(alloc, &converted, length)?;
+    let converted = program_of(alloc, &filter, wanted)?;
+    let certificate = certified(alloc, &converted, wanted.length)?;
     Ok(Made {
         converted,
         certificate,

@@ -1,7 +1,9 @@
 //! Filters converted and run on packets, beside what libpcap's `bpf_filter` and the kernel's seccomp answer: the wanted output is theirs.
 //!
-//! Each line of standard input is a case: `blocks`, `plain` or `seccomp`, the length of contexts, the text of a filter with `/` for the end
-//! of a line and `,` for a space, and packets in hex, `none` for an empty one. The line that answers it has `yes` where the checker takes the
+//! Each line of standard input is a case: `blocks`, `plain`, `seccomp` or `extended`, the length of contexts, behind a slash how often a
+//! run may jump back, if that isn't usual, the text of a filter with `/`
+//! for the end of a line and `,` for a space, and packets in hex, `none` for an empty one; with `extended` each packet stands behind the 64
+//! bytes of the words. The line that answers it has `yes` where the checker takes the
 //! certificate, and then what the program ends with on each packet; else the number of the refusal, as `B5 at 3`.
 #![tactic(auto)]
 
@@ -11,7 +13,7 @@ ghost use Rattle.bpf_insn.specs.Limits.{max_context};
 use bpf_check::check;
 use bpf_classic::{Filter, Kind, Raw, Refusal};
 use bpf_classic_text::{TextFault, raws_of};
-use bpf_convert::{Converted, Form, convert};
+use bpf_convert::{Converted, Form, Wanted, convert, usual_turns};
 use bpf_convert_cert::certificate;
 use bpf_insn::{MAX_CONTEXT, Order};
 use bpf_machine::{Outcome, run};
@@ -22,12 +24,17 @@ use std::str::SplitWhitespace;
 /// How many steps a program may make.
 const STEPS: u64 = 100_000;
 
+/// The bytes of the words of Linux's auxiliary data.
+const WORDS: usize = 64;
+
 /// What a line asks for.
 #[derive(Clone, Copy)]
 struct Case<'a> {
     form: Form,
     /// The length of the contexts in bytes.
     length: u32,
+    /// How often a run may jump back.
+    turns: u16,
     filter: &'a str,
 }
 
@@ -39,16 +46,38 @@ fn number_of(word: Option<&str>) -> u32 {
     }
 }
 
+/// A length, and how often a run may jump back.
+fn length_and_turns(form: Form, word: Option<&str>) -> (u32, u16)
+    ensures { result.0 ≤ max_context }
+{
+    let (length, turns) = match word {
+        Some(word) => match word.split_once('/') {
+            Some((length, turns)) => (Some(length), Some(turns)),
+            None => (Some(word), None),
+        },
+        None => (None, None),
+    };
+    let length = number_of(length).min(MAX_CONTEXT as u32);
+    match turns {
+        Some(turns) => (length, number_of(Some(turns)).min(65_535) as u16),
+        None => (length, usual_turns(form, length)),
+    }
+}
+
 impl<'a> Case<'a> {
     /// The case that words begin with.
     fn of(words: &mut SplitWhitespace<'a>) -> Case<'a> {
+        let form = match words.next() {
+            Some("plain") => Form::Plain,
+            Some("seccomp") => Form::Seccomp,
+            Some("extended") => Form::Extended,
+            _ => Form::Blocks,
+        };
+        let (length, turns) = length_and_turns(form, words.next());
         Case {
-            form: match words.next() {
-                Some("plain") => Form::Plain,
-                Some("seccomp") => Form::Seccomp,
-                _ => Form::Blocks,
-            },
-            length: number_of(words.next()).min(MAX_CONTEXT as u32),
+            form,
+            length,
+            turns,
             filter: words.next().unwrap_or(""),
         }
     }
@@ -85,14 +114,20 @@ fn converted(alloc: Global, case: Case<'_>) -> Result<Converted, Stop> {
     let raws = raws_of_word(alloc, case.filter)?;
     let kind = match case.form {
         Form::Seccomp => Kind::Seccomp,
+        Form::Extended => Kind::Extended,
         Form::Blocks | Form::Plain => Kind::Packets,
     };
     let filter = match Filter::new(alloc, kind, &raws) {
         Ok(filter) => filter,
         Err(refusal) => return Err(Stop::Filter(refusal)),
     };
-    let length = case.length.min(MAX_CONTEXT as u32);
-    match convert(alloc, &filter, case.form, length, Order::Little) {
+    let wanted = Wanted {
+        form: case.form,
+        length: case.length.min(MAX_CONTEXT as u32),
+        order: Order::Little,
+        turns: case.turns,
+    };
+    match convert(alloc, &filter, wanted) {
         Ok(converted) => Ok(converted),
         Err(_) => Err(Stop::Memory),
     }
@@ -160,8 +195,13 @@ fn context_of(alloc: Global, case: Case<'_>, word: &str) -> Option<Vec<u8>>
 /// A context of the case's length: the packet's length in front of a block, as much of the packet as there is room for, zeros.
 fn filled(alloc: Global, case: Case<'_>, packet: &[u8]) -> Result<Vec<u8>, AllocError> {
     let mut context = Vec::new(alloc);
-    if matches!(case.form, Form::Blocks) {
-        for byte in (packet.len() as u64).to_le_bytes() {
+    let words = if matches!(case.form, Form::Extended) {
+        WORDS
+    } else {
+        0
+    };
+    if matches!(case.form, Form::Blocks | Form::Extended) {
+        for byte in (packet.len().saturating_sub(words) as u64).to_le_bytes() {
             context.push(byte)?;
         }
     }

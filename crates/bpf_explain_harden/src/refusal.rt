@@ -3,13 +3,11 @@
 use bpf_follows::Mismatch;
 use bpf_follows_notes::mismatch_text;
 use bpf_harden::HardenError;
+use bpf_refusals::NOT_SHOWN;
 use std::fmt::{self, Display};
 
 /// The number of the mismatch of an instruction that reads what may be something else, as where pointers are put in order.
 const READS_OTHER: u8 = 5;
-
-/// The number of the refusal of a hardened program that isn't shown to keep the meaning.
-const NOT_SHOWN: u8 = 13;
 
 /// Why no hardened program comes out.
 #[derive(Clone, Copy)]

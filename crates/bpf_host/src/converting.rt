@@ -2,7 +2,7 @@
 
 ghost use Rattle.std.specs.Prelude.{◌≡◌, ◌⊎◌, ◌↔◌, ◌<◌, false};
 ghost use Rattle.bpf_host_runs.specs.Told.{order_named};
-ghost use Rattle.bpf_host_convert.specs.Forms.{form_named, may_have};
+ghost use Rattle.bpf_host_convert.specs.Forms.{form_part, form_asked, may_have, wanted_by};
 ghost use Rattle.bpf_host_convert.specs.Converted.{GivesConverted, IsNotConverted, WantsConvertedRoom};
 ghost use Rattle.bpf_host_convert.specs.Sizes.{convert_size};
 ghost use Rattle.bpf_host_runs.specs.declared.answers.TheConstants.{YES, NO, NO_MEMORY, BAD_CALL, TOO_SMALL};
@@ -33,10 +33,10 @@ pub extern "C" fn bpf_host_convert(
     converted: &mut BpfConverted,
     refusal: &mut BpfRefusal,
 ) -> i32
-    ensures given { result ≡ YES → GivesConverted (order_named filter_order) filter.now (form_named form) size (order_named order) converted.new made.old made.new text.old text.new }
-    ensures small { result ≡ TOO_SMALL → WantsConvertedRoom (order_named filter_order) filter.now (form_named form) size (order_named order) converted.new made.old text.old }
-    ensures refused { result ≡ NO → IsNotConverted (order_named filter_order) filter.now (form_named form) refusal.new }
-    ensures call { (result ≡ BAD_CALL) ↔ ((1 < filter_order) ⊎ ((1 < order) ⊎ ((2 < form) ⊎ (may_have (form_named form) size ≡ false)))) }
+    ensures given { result ≡ YES → GivesConverted (order_named filter_order) filter.now (wanted_by form size (order_named order)) converted.new made.old made.new text.old text.new }
+    ensures small { result ≡ TOO_SMALL → WantsConvertedRoom (order_named filter_order) filter.now (wanted_by form size (order_named order)) converted.new made.old text.old }
+    ensures refused { result ≡ NO → IsNotConverted (order_named filter_order) filter.now (form_asked form) refusal.new }
+    ensures call { (result ≡ BAD_CALL) ↔ ((1 < filter_order) ⊎ ((1 < order) ⊎ ((3 < form_part form) ⊎ (may_have (form_asked form) size ≡ false)))) }
     ensures answers { (result ≡ YES) ⊎ (result ≡ NO) ⊎ (result ≡ NO_MEMORY) ⊎ (result ≡ BAD_CALL) ⊎ (result ≡ TOO_SMALL) }
     ensures made_kept { (result ≡ YES) ⊎ (made.new ≡ made.old) }
     ensures text_kept { (result ≡ YES) ⊎ (text.new ≡ text.old) }

@@ -11,7 +11,7 @@ use crate::hardening::image_of;
 use crate::proposal::text_of;
 use crate::refusals::{Unmade, of_certifying};
 use bpf_certify::{Certified, Wish, certify};
-use bpf_host_runs::{TOO_SMALL, YES, of_image};
+use bpf_host_runs::{TOO_SMALL, YES, refusal_of};
 use bpf_insn::{DecodeError, decode};
 use std::alloc::Global;
 
@@ -123,7 +123,7 @@ pub(crate) fn certification(
     let program = match decode(alloc, given.image, given.order) {
         Ok(program) => program,
         Err(DecodeError::Memory) => return Err(Unmade::Memory),
-        Err(error) => return Err(Unmade::Refused(of_image(error))),
+        Err(error) => return Err(Unmade::Refused(refusal_of(&error))),
     };
     let certified = match of_certifying(certify(alloc, &program, size, wish_of(wish))) {
         Ok(certified) => certified,

@@ -14,13 +14,12 @@ ghost use Rattle.bpf_host_advice.specs.Explained.{Asks, IsReadAs, IsCheckedAs, I
 ghost use Rattle.bpf_host_runs.specs.declared.answers.BpfRefusal.{BpfRefusal as Told};
 ghost use Rattle.bpf_host_advice.specs.declared.explanation.Judged.TheVariants.{Accepted, Refused};
 
-use crate::refusals::of_inference;
 use bpf_cert::{CertError, read};
 use bpf_check::{Refusal, VerifyError};
 use bpf_explain::{
     Search, Shown, explain, explain_search, is_table, write_alone, write_fault, write_refusal,
 };
-use bpf_host_runs::{BpfRefusal, of_check, of_image, of_verify};
+use bpf_host_runs::{BpfRefusal, of_verify, refusal_of};
 use bpf_infer::{InferError, Unwatched};
 use bpf_insn::{DecodeError, Order, ProgramView, decode};
 use std::alloc::Global;
@@ -62,7 +61,7 @@ fn refused_image(out: &mut Vec<u8>, given: Given<'_>, error: DecodeError) -> Opt
     ensures { IfSome result (λ j. (told : Told) × (j ≡ Refused told) × IsRefusedImage given.entry.order given.entry.image.now told) }
 {
     match write_refusal(given.image, given.order, error, out) {
-        Ok(()) => Some(Judged::Refused(of_image(error))),
+        Ok(()) => Some(Judged::Refused(refusal_of(&error))),
         Err(_) => None,
     }
 }
@@ -114,7 +113,7 @@ pub(crate) fn checked(
     };
     match explain(&program, &certificate, shown, out) {
         Ok(None) => Some(Judged::Accepted),
-        Ok(Some(refusal)) => Some(Judged::Refused(of_check(refusal))),
+        Ok(Some(refusal)) => Some(Judged::Refused(refusal_of(&refusal))),
         Err(_) => None,
     }
 }
@@ -126,7 +125,7 @@ fn told_of(refusal: Option<Refusal>) -> Judged
 {
     match refusal {
         None => Judged::Accepted,
-        Some(refusal) => Judged::Refused(of_check(refusal)),
+        Some(refusal) => Judged::Refused(refusal_of(&refusal)),
     }
 }
 
@@ -149,7 +148,7 @@ pub(crate) fn searched(
     match explain_search(alloc, &program, asked, &mut Unwatched, out) {
         Ok(Ok(found)) => Some(told_of(found.refusal)),
         Ok(Err(InferError::Memory)) => None,
-        Ok(Err(error)) => Some(Judged::Refused(of_inference(error))),
+        Ok(Err(error)) => Some(Judged::Refused(refusal_of(&error))),
         Err(_) => None,
     }
 }

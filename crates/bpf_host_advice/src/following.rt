@@ -5,14 +5,14 @@ ghost use Rattle.bpf_insn.specs.Limits.{max_context, frame_bytes};
 ghost use Rattle.bpf_host_runs.specs.Told.{order_named};
 ghost use Rattle.bpf_host_advice.specs.Hardened.{bounds_of};
 ghost use Rattle.bpf_host_advice.specs.Followed.{IsFollowed, IsNotFollowed};
-ghost use Rattle.bpf_host_advice.specs.Told.{IsTold, TellsNewImage, TellsNotes, TellsMatch};
+ghost use Rattle.bpf_host_advice.specs.Told.{IsTold, TellsNewImage, TellsNotes};
 ghost use Rattle.bpf_host_runs.specs.declared.answers.TheConstants.{YES, NO, NO_MEMORY, BAD_CALL};
 
 use crate::refusals::Unmade;
-use bpf_follows::{Mismatch, follows as shows};
+use bpf_follows::follows as shows;
 use bpf_follows_law::Bounds;
 use bpf_follows_notes::{NotesError, read};
-use bpf_host_runs::{BAD_CALL, BpfRefusal, NO, NO_MEMORY, YES, letter, of_image, order_of};
+use bpf_host_runs::{BAD_CALL, BpfRefusal, NO, NO_MEMORY, YES, order_of, refusal_of};
 use bpf_insn::{DecodeError, FRAME_BYTES, MAX_CONTEXT, Order, ProgramView};
 use std::alloc::Global;
 
@@ -30,7 +30,7 @@ fn of_new_image(error: DecodeError) -> BpfRefusal
 {
     BpfRefusal {
         condition: 1,
-        ..of_image(error)
+        ..refusal_of(&error)
     }
 }
 
@@ -40,24 +40,7 @@ fn of_notes(error: NotesError) -> Unmade
 {
     match error {
         NotesError::Memory => Unmade::Memory,
-        NotesError::Form { line } => Unmade::Refused(BpfRefusal {
-            kind: letter(b'N'),
-            number: 1,
-            place: line as u64,
-            condition: 0,
-        }),
-    }
-}
-
-/// Why notes don't show it.
-fn of_match(mismatch: Mismatch) -> BpfRefusal
-    ensures { TellsMatch mismatch result }
-{
-    BpfRefusal {
-        kind: letter(b'M'),
-        number: u32::from(mismatch.number()),
-        place: u64::from(mismatch.slot()),
-        condition: 0,
+        NotesError::Form { .. } => Unmade::Refused(refusal_of(&error)),
     }
 }
 
@@ -68,7 +51,7 @@ fn followed(alloc: Global, pair: Pair<'_>, notes: &[u8], bounds: Bounds) -> Resu
 {
     let old = match ProgramView::of(pair.old, pair.order) {
         Ok(program) => program,
-        Err(error) => return Err(Unmade::Refused(of_image(error))),
+        Err(error) => return Err(Unmade::Refused(refusal_of(&error))),
     };
     let new = match ProgramView::of(pair.new, pair.order) {
         Ok(program) => program,
@@ -80,7 +63,7 @@ fn followed(alloc: Global, pair: Pair<'_>, notes: &[u8], bounds: Bounds) -> Resu
     };
     match shows(&old, &new, &places, bounds) {
         Ok(()) => Ok(()),
-        Err(mismatch) => Err(Unmade::Refused(of_match(mismatch))),
+        Err(mismatch) => Err(Unmade::Refused(refusal_of(&mismatch))),
     }
 }
 

@@ -7,13 +7,14 @@ ghost use Rattle.bpf_host_advice.specs.Hardened.{Keeps, IsHardenedAs, IsNotHarde
 ghost use Rattle.bpf_host_advice.specs.Told.{IsTold};
 
 use crate::explanation::Given;
-use crate::refusals::{Unmade, of_hardening, of_mismatch};
+use crate::refusals::{Unmade, of_hardening};
 use bpf_follows::follows;
 use bpf_follows_law::Bounds;
 use bpf_harden::{Hardened, Options, harden};
 use bpf_harden_follows::places_of;
-use bpf_host_runs::of_image;
+use bpf_host_runs::{refusal_of, told_refusal};
 use bpf_insn::{Code, DecodeError, Program, decode, encode};
+use bpf_refusals::Told;
 use std::alloc::Global;
 
 /// What is asked of a hardening.
@@ -53,7 +54,7 @@ fn shown(alloc: Global, old: &Program, new: &Hardened, asked: Asked) -> Result<(
     };
     match follows(old, &new.program, &notes, asked.bounds) {
         Ok(()) => Ok(()),
-        Err(mismatch) => Err(Unmade::Refused(of_mismatch(mismatch))),
+        Err(mismatch) => Err(Unmade::Refused(told_refusal(Told::not_shown(mismatch)))),
     }
 }
 
@@ -66,7 +67,7 @@ pub(crate) fn hardened(alloc: Global, given: Given<'_>, asked: Asked) -> Result<
     let program = match decode(alloc, given.image, given.order) {
         Ok(program) => program,
         Err(DecodeError::Memory) => return Err(Unmade::Memory),
-        Err(error) => return Err(Unmade::Refused(of_image(error))),
+        Err(error) => return Err(Unmade::Refused(refusal_of(&error))),
     };
     let options = Options {
         turns: asked.bounds.turns,

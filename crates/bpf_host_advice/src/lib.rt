@@ -142,7 +142,7 @@ pub fn harden(
     }
 }
 
-/// What a refusal or a fault says in English, without an end of line: the kind is the letter B, C, E, F, H, I, K, M or N. The answer is
+/// What a refusal or a fault says in English, without an end of line: the kind is the letter, A, B, C, E, F, H, I, K, M or N. The answer is
 /// how many bytes that is, 0 where there is no such refusal; as many as have room stand in `text`.
 pub fn refusal_text(kind: u32, number: u32, text: &mut [u8]) -> usize
     ensures numbered { (0 < result) ↔ IsNumbered kind number }

@@ -10,7 +10,7 @@ ghost use Rattle.bpf_host_runs.specs.declared.answers.TheConstants.{YES, TOO_SMA
 
 use crate::refusals::{Unmade, of_search};
 use bpf_cert::{Certificate, write};
-use bpf_host_runs::{TOO_SMALL, YES, of_image};
+use bpf_host_runs::{TOO_SMALL, YES, refusal_of};
 use bpf_infer::{Unwatched, Wanted, propose};
 use bpf_insn::{DecodeError, Order, decode};
 use std::alloc::Global;
@@ -42,7 +42,7 @@ pub(crate) fn proposal(
     let program = match decode(alloc, image, order) {
         Ok(program) => program,
         Err(DecodeError::Memory) => return Err(Unmade::Memory),
-        Err(error) => return Err(Unmade::Refused(of_image(error))),
+        Err(error) => return Err(Unmade::Refused(refusal_of(&error))),
     };
     let certificate = match of_search(propose(alloc, &program, wanted, &mut Unwatched)) {
         Ok(certificate) => certificate,

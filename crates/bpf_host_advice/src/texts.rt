@@ -1,43 +1,9 @@
 //! What the refusals and faults say, in words.
 
-ghost use Rattle.std.specs.Prelude.{◌≡◌, ◌<◌, ◌≤◌, ◌↔◌, ◌++◌, [], IsSome, IfSome, MatchOption, get_or, length, take, drop};
-ghost use Rattle.bpf_host_advice.specs.Texts.{refusal_text, answer_text, hardening_texts, notes_texts, IsNumbered};
+ghost use Rattle.std.specs.Prelude.{◌≡◌, ◌<◌, ◌↔◌, ◌++◌, [], IsSome, IfSome, MatchOption, length, take, drop};
+ghost use Rattle.bpf_host_advice.specs.Texts.{refusal_text, answer_text, IsNumbered};
 
-use bpf_cert::CertError;
-use bpf_follows_notes::mismatch_text;
-use bpf_harden_notes::HardenError;
-use bpf_host_convert::conversion_text;
-use bpf_infer::InferError;
-use bpf_insn::DecodeError;
-use bpf_semantics::Reason;
-use bpf_state::Condition;
-
-/// Why a text is none of notes.
-fn notes_text(number: u32) -> Option<&'static str>
-    ensures numbered { IsSome result ↔ ((1 ≤ number) × (number ≤ 2)) }
-    ensures said { IfSome result (λ text. 0 < length text.now) }
-    ensures words { MatchOption result (get_or notes_texts number [] ≡ []) (λ text. text.now ≡ get_or notes_texts number []) }
-{
-    match number {
-        1 => Some("the line has no form of a line of notes"),
-        2 => Some("out of memory"),
-        _ => None,
-    }
-}
-
-/// Why a program isn't hardened or certified.
-fn hardening_text(number: u32) -> Option<&'static str>
-    ensures numbered { IsSome result ↔ ((1 ≤ number) × (number ≤ 15)) }
-    ensures said { IfSome result (λ text. 0 < length text.now) }
-    ensures words { MatchOption result (get_or hardening_texts number [] ≡ []) (λ text. text.now ≡ get_or hardening_texts number []) }
-{
-    match number {
-        13 => Some("the hardened program isn't shown to keep the meaning"),
-        14 => Some("a run of the hardened program may take more instructions than are paid for"),
-        15 => Some("the checker refuses the certificate that was found"),
-        _ => HardenError::text_numbered(number),
-    }
-}
+use bpf_refusals::Letter;
 
 /// What a refusal or a fault says.
 fn sentence(kind: u32, number: u32) -> Option<&'static str>
@@ -45,17 +11,9 @@ fn sentence(kind: u32, number: u32) -> Option<&'static str>
     ensures said { IfSome result (λ text. 0 < length text.now) }
     ensures words { MatchOption result (refusal_text kind number ≡ []) (λ text. text.now ≡ refusal_text kind number) }
 {
-    match kind {
-        66 => conversion_text(number),
-        67 => Condition::text_numbered(number),
-        69 => DecodeError::text_numbered(number),
-        70 => Reason::text_numbered(number),
-        72 => hardening_text(number),
-        73 => InferError::text_numbered(number),
-        75 => CertError::text_numbered(number),
-        77 => mismatch_text(number),
-        78 => notes_text(number),
-        _ => None,
+    match Letter::of(kind) {
+        Some(letter) => letter.sentence(number),
+        None => None,
     }
 }
 

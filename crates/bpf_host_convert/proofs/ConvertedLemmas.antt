@@ -12,7 +12,7 @@ use Rattle.bpf_safety.specs.Certified.{Certified}
 use Rattle.bpf_classic.specs.declared.raw.Raw.{Raw}
 use Rattle.bpf_classic_text.specs.Bytes.{raws_in}
 use Rattle.bpf_convert.specs.Meaning.{KeepsAnswers}
-use Rattle.bpf_convert.specs.declared.layout.Form.{Form}
+use Rattle.bpf_convert.specs.declared.layout.Wanted.{Wanted}
 use Rattle.bpf_convert_checked.specs.Made.{IsMade, filter_of}
 use Rattle.bpf_convert_checked.specs.declared.made.Made.{Made}
 use Rattle.bpf_host_convert.specs.Converted.{IsConvertedAs, IsImageOfFilter}
@@ -43,8 +43,8 @@ promised order size bound p c bytes text same is_image by least most bound_is te
     }
 
 -- the program ends with what the filter answers
-kept : (raws : List Raw) (form : Form) (size : ℕ) (order : Order) (made : Made) (bytes : List ℕ) → IsMade raws form size order made → IsImageOfProgram order bytes made.converted.program.list → IsImageOfFilter raws form size order bytes
-kept raws form size order made bytes is_made is_image =
+kept : (raws : List Raw) (wanted : Wanted) (made : Made) (bytes : List ℕ) → IsMade raws wanted made → IsImageOfProgram wanted.order bytes made.converted.program.list → IsImageOfFilter raws wanted bytes
+kept raws wanted made bytes is_made is_image =
     record {
       filter = is_made.filter;
       program = made.converted.program.list;
@@ -53,17 +53,18 @@ kept raws form size order made bytes is_made is_image =
       form_is = is_made.form_is;
       length_is = is_made.length_is;
       order_is = is_made.order_is;
-      answers = subst (KeepsAnswers (filter_of raws) made.converted.layout) (in_order order made.converted.program is_made.runs_in) is_made.answers;
+      turns_are = is_made.turns_are;
+      answers = subst (KeepsAnswers (filter_of wanted.form raws) made.converted.layout) (in_order wanted.order made.converted.program is_made.runs_in) is_made.answers;
     }
 
-pub converted_as : (filter_order : Order) (filter : List ℕ) (form : Form) (size : ℕ) (order : Order) (told : BpfConverted) (raws : List Raw) (made : Made) (bytes text : List ℕ) → raws_in filter_order filter ≡ Ok raws → IsMade raws form size order made → IsProgram made.converted.program.list → bytes ≡ image made.converted.program.order made.converted.program.list → text ≡ certificate_text made.certificate → told.image_len ≡ length bytes → told.certificate_len ≡ length text → told.bound ≡ made.certificate.steps → IsConvertedAs filter_order filter form size order told bytes text
-converted_as filter_order filter form size order told raws made bytes text spelled is_made program bytes_are text_is image_length text_length bound_is =
-    let is_image = image_in order made.converted.program bytes is_made.runs_in program bytes_are in
+pub converted_as : (filter_order : Order) (filter : List ℕ) (wanted : Wanted) (told : BpfConverted) (raws : List Raw) (made : Made) (bytes text : List ℕ) → raws_in filter_order filter ≡ Ok raws → IsMade raws wanted made → IsProgram made.converted.program.list → bytes ≡ image made.converted.program.order made.converted.program.list → text ≡ certificate_text made.certificate → told.image_len ≡ length bytes → told.certificate_len ≡ length text → told.bound ≡ made.certificate.steps → IsConvertedAs filter_order filter wanted told bytes text
+converted_as filter_order filter wanted told raws made bytes text spelled is_made program bytes_are text_is image_length text_length bound_is =
+    let is_image = image_in wanted.order made.converted.program bytes is_made.runs_in program bytes_are in
     record {
       raws = raws;
       spelled = spelled;
-      image = kept raws form size order made bytes is_made is_image;
+      image = kept raws wanted made bytes is_made is_image;
       image_length = image_length;
       text_length = text_length;
-      promises = promised order size told.bound made.converted.program made.certificate bytes text is_made.runs_in is_image is_made.certified is_made.least is_made.greatest bound_is text_is;
+      promises = promised wanted.order wanted.length told.bound made.converted.program made.certificate bytes text is_made.runs_in is_image is_made.certified is_made.least is_made.greatest bound_is text_is;
     }

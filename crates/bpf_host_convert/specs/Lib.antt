@@ -7,5 +7,3 @@ pub mod Told
 pub mod Converted
 -- how many bytes do for the certificate
 pub mod Sizes
--- the sentences of the refusals
-pub mod Texts

@@ -1,7 +1,9 @@
 -- What the numbers that C sees tell of filters.
 use Rattle.std.specs.Prelude.{◌≡◌, ◌≢◌, ℕ}
-use Rattle.bpf_convert_checked.specs.Made.{error_number, error_place}
+use Rattle.bpf_convert_checked.specs.Made.{told_conversion}
 use Rattle.bpf_convert_checked.specs.declared.error.ConvertError.{ConvertError}
+use Rattle.bpf_refusals.specs.declared.told.TheConstants.{FILTER_MEMORY}
+use Rattle.bpf_host_runs.specs.Told.{refusal_of}
 use Rattle.bpf_host_runs.specs.declared.answers.BpfRefusal.{BpfRefusal}
 use Rattle.bpf_host_convert.specs.declared.refusals.Unmade.{Unmade}
 use Rattle.bpf_host_convert.specs.declared.refusals.Unmade.TheVariants.{Memory as NoMemory, Refused as RefusedAs}
@@ -11,11 +13,7 @@ abbrev pub IsTold : (BpfRefusal → Type 0) → Unmade → Type 0
 IsTold Tells NoMemory = Unit {0}
 IsTold Tells (RefusedAs told) = Tells told
 
--- B (66), its number, and the instruction
-abbrev pub TellsFilter : (number place : ℕ) → BpfRefusal → Type 0
-TellsFilter number place r = r ≡ record { kind = 66; number = number; place = place; condition = 0 }
-
 -- B9 is that memory ran out, which is told as such
 abbrev pub TellsConversion : ConvertError → Unmade → Type 0
-TellsConversion e NoMemory = error_number e ≡ 9
-TellsConversion e (RefusedAs told) = (error_number e ≢ 9) × TellsFilter (error_number e) (error_place e) told
+TellsConversion e NoMemory = (told_conversion e).number ≡ FILTER_MEMORY
+TellsConversion e (RefusedAs told) = ((told_conversion e).number ≢ FILTER_MEMORY) × (told ≡ refusal_of (told_conversion e))

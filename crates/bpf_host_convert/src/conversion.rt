@@ -8,30 +8,19 @@ ghost use Rattle.bpf_host_convert.specs.Converted.{IsConvertedAs, IsNotConverted
 ghost use Rattle.bpf_host_convert.specs.Told.{IsTold};
 ghost use Rattle.bpf_host_runs.specs.declared.answers.TheConstants.{YES, TOO_SMALL};
 
-use crate::refusals::{Unmade, of_conversion, of_filter};
+use crate::refusals::{Unmade, of_conversion};
 use bpf_cert::{Certificate, write};
 use bpf_classic_text::{TextFault, raws_in};
-use bpf_convert::Form;
+use bpf_convert::Wanted;
 use bpf_convert_checked::converted;
-use bpf_host_runs::{TOO_SMALL, YES};
+use bpf_host_runs::{TOO_SMALL, YES, refusal_of};
 use bpf_insn::{Code, Order, Program, encode};
 use std::alloc::Global;
-
-/// The number of the refusal of bytes that end inside of an instruction.
-const CUT: u32 = 8;
 
 /// The bytes of a filter, and the order of its numbers.
 #[derive(Clone, Copy)]
 pub(crate) struct Given<'a> {
     pub(crate) filter: &'a [u8],
-    pub(crate) order: Order,
-}
-
-/// For which contexts an image is asked for, and its byte order.
-#[derive(Clone, Copy)]
-pub(crate) struct Asked {
-    pub(crate) form: Form,
-    pub(crate) size: u32,
     pub(crate) order: Order,
 }
 
@@ -80,19 +69,21 @@ fn text_of(alloc: Global, certificate: &Certificate) -> Option<Vec<u8>>
 }
 
 /// The image and the certificate of what a filter becomes.
-pub(crate) fn conversion(alloc: Global, given: Given<'_>, asked: Asked) -> Result<Made, Unmade>
-    requires { asked.size ≤ max_context }
-    ensures ok { IfOk result (λ made. IsConvertedAs given.entry.order given.entry.filter.now asked.form asked.size asked.order made.told made.image.items made.text.items) }
-    ensures err { IfErr result (IsTold (IsNotConverted given.entry.order given.entry.filter.now asked.form)) }
+pub(crate) fn conversion(alloc: Global, given: Given<'_>, wanted: Wanted) -> Result<Made, Unmade>
+    requires { wanted.length ≤ max_context }
+    ensures ok { IfOk result (λ made. IsConvertedAs given.entry.order given.entry.filter.now wanted made.told made.image.items made.text.items) }
+    ensures err { IfErr result (IsTold (IsNotConverted given.entry.order given.entry.filter.now wanted.form)) }
 {
     let raws = match raws_in(alloc, given.filter, given.order) {
         Ok(raws) => raws,
-        Err(TextFault::Part { at }) => return Err(Unmade::Refused(of_filter(CUT, at as u64))),
+        Err(TextFault::Part { at }) => {
+            return Err(Unmade::Refused(refusal_of(&TextFault::Part { at })));
+        }
         Err(TextFault::Row { .. } | TextFault::Count { .. } | TextFault::Memory) => {
             return Err(Unmade::Memory);
         }
     };
-    let made = match converted(alloc, &raws, asked.form, asked.size, asked.order) {
+    let made = match converted(alloc, &raws, wanted) {
         Ok(made) => made,
         Err(error) => return Err(of_conversion(error)),
     };

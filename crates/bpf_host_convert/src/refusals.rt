@@ -1,13 +1,11 @@
 //! Why no program is made of a filter, as C sees it.
 
 ghost use Rattle.std.specs.Prelude.{◌≡◌};
-ghost use Rattle.bpf_host_convert.specs.Told.{TellsFilter, TellsConversion};
+ghost use Rattle.bpf_host_convert.specs.Told.{TellsConversion};
 
 use bpf_convert_checked::ConvertError;
-use bpf_host_runs::{BpfRefusal, letter};
-
-/// The number of the refusal where memory ran out.
-const NO_MEMORY: u8 = 9;
+use bpf_host_runs::{BpfRefusal, told_refusal};
+use bpf_refusals::{FILTER_MEMORY, Tells};
 
 /// Why no image is made of a filter.
 #[derive(Clone, Copy)]
@@ -18,25 +16,13 @@ pub(crate) enum Unmade {
     Refused(BpfRefusal),
 }
 
-/// A refusal B of an instruction.
-pub(crate) fn of_filter(number: u32, place: u64) -> BpfRefusal
-    ensures { TellsFilter number place result }
-{
-    BpfRefusal {
-        kind: letter(b'B'),
-        number,
-        place,
-        condition: 0,
-    }
-}
-
 /// Why no program is made of instructions.
 pub(crate) fn of_conversion(error: ConvertError) -> Unmade
     ensures { TellsConversion error result }
 {
-    let number = error.number();
-    if number == NO_MEMORY {
+    let told = error.told();
+    if told.number == FILTER_MEMORY {
         return Unmade::Memory;
     }
-    Unmade::Refused(of_filter(u32::from(number), u64::from(error.place())))
+    Unmade::Refused(told_refusal(told))
 }

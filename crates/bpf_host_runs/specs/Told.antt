@@ -5,16 +5,17 @@ use Rattle.bpf_insn.specs.declared.order.Order.{Order}
 use Rattle.bpf_insn.specs.declared.order.Order.TheVariants.{Little, Big}
 use Rattle.bpf_insn.specs.declared.refusal.DecodeError.{DecodeError}
 use Rattle.bpf_semantics.specs.ReasonNumbers.{reason_number}
-use Rattle.bpf_cert.specs.RefusalNumbers.{refusal_number as cert_number, refusal_line}
 use Rattle.bpf_cert.specs.View.{CertificateView}
 use Rattle.bpf_cert.specs.declared.error.CertError.{CertError}
-use Rattle.bpf_check.specs.RefusalNumbers.{refusal_number as check_number, refusal_slot}
 use Rattle.bpf_check.specs.declared.refusal.Refusal.{Refusal}
 use Rattle.bpf_check.specs.declared.verifier.Verdict.{Verdict}
 use Rattle.bpf_check.specs.declared.verifier.VerifyError.{VerifyError}
 use Rattle.bpf_check.specs.declared.verifier.VerifyError.TheVariants.{Image as InImage, Cert as InCert, Check as InCheck}
 use Rattle.bpf_machine.specs.declared.outcome.Outcome.{Outcome}
 use Rattle.bpf_machine.specs.declared.outcome.Outcome.TheVariants.{Done, Fault, OutOfFuel}
+use Rattle.bpf_refusals.specs.Letters.{code_of}
+use Rattle.bpf_refusals.specs.Told.{at_number, named, told_image, told_certificate, told_check}
+use Rattle.bpf_refusals.specs.declared.told.Told.{Told}
 use Rattle.bpf_host_runs.specs.declared.answers.BpfVerdict.{BpfVerdict}
 use Rattle.bpf_host_runs.specs.declared.answers.BpfRefusal.{BpfRefusal}
 use Rattle.bpf_host_runs.specs.declared.answers.BpfOutcome.{BpfOutcome}
@@ -32,17 +33,19 @@ IsVerdictOf c verdict = (verdict.least ≡ c.least) × (verdict.most ≡ c.most)
 abbrev pub TellsVerdict : Verdict → BpfVerdict → Type 0
 TellsVerdict v told = told ≡ record { least = v.least; most = v.most; bound = v.bound }
 
--- a refusal of an image: E (69), its number and its slot
+-- a refusal: its letter, its number, and 0 in the place of what it doesn't name
+abbrev pub refusal_of : Told → BpfRefusal
+refusal_of t = record { kind = code_of t.letter; number = t.number; place = at_number t.at; condition = named t.condition }
+
+-- of an image, E, of a certificate, K, and of a program by its certificate, C
 abbrev pub TellsImage : DecodeError → BpfRefusal → Type 0
-TellsImage e r = r ≡ record { kind = 69; number = decode_number e; place = decode_slot e; condition = 0 }
+TellsImage e r = r ≡ refusal_of (told_image e)
 
--- of a certificate: K (75), its number and its line
 abbrev pub TellsCertificate : CertError → BpfRefusal → Type 0
-TellsCertificate e r = r ≡ record { kind = 75; number = cert_number e; place = refusal_line e; condition = 0 }
+TellsCertificate e r = r ≡ refusal_of (told_certificate e)
 
--- of a program by its certificate: C (67), its number and its slot
 abbrev pub TellsCheck : Refusal → BpfRefusal → Type 0
-TellsCheck e r = r ≡ record { kind = 67; number = check_number e; place = refusal_slot e; condition = 0 }
+TellsCheck e r = r ≡ refusal_of (told_check e)
 
 -- whichever it is
 abbrev pub TellsRefusal : VerifyError → BpfRefusal → Type 0

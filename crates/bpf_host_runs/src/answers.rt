@@ -2,12 +2,13 @@
 
 ghost use Rattle.std.specs.Prelude.{◌≡◌, ◌<◌, ◌≤◌, IfSome, IfNone};
 ghost use Rattle.bpf_check.specs.Verdicts.{IsUnread};
-ghost use Rattle.bpf_host_runs.specs.Told.{TellsRefusal, order_named, TellsImage, TellsCertificate, TellsCheck, TellsVerdict, TellsOutcome, TellsUnrun};
+ghost use Rattle.bpf_host_runs.specs.Told.{TellsRefusal, order_named, refusal_of, TellsVerdict, TellsOutcome, TellsUnrun};
 
 use bpf_cert::CertError;
-use bpf_check::{Refusal, Verdict, VerifyError};
+use bpf_check::{Verdict, VerifyError};
 use bpf_insn::{DecodeError, Order};
 use bpf_machine::Outcome;
+use bpf_refusals::{Tells, Told};
 
 /// The call did what it is for.
 pub const YES: i32 = 1;
@@ -49,7 +50,7 @@ pub struct BpfRefusal {
     pub number: u32,
     /// The slot that is named, from 0 to 65,535; of K and N the line, from 1; of B the instruction, from 0.
     pub place: u64,
-    /// Of I4 and H7 the number of the checker's condition, from 3 to 12; else 0.
+    /// The number of the condition that the refusal names, or of H14 the bound; else 0.
     pub condition: u64,
 }
 
@@ -82,47 +83,23 @@ pub fn order_of(order: u64) -> Option<Order>
     }
 }
 
-/// A letter as a number.
-pub fn letter(kind: u8) -> u32
-    ensures { result ≡ kind }
-{
-    u32::from(kind)
-}
-
-/// Why an image is refused.
-pub fn of_image(error: DecodeError) -> BpfRefusal
-    ensures { TellsImage error result }
+/// What is told of a refusal: 0 in the place of what it doesn't name.
+pub fn told_refusal(told: Told) -> BpfRefusal
+    ensures { result ≡ refusal_of told }
 {
     BpfRefusal {
-        kind: letter(b'E'),
-        number: u32::from(error.number()),
-        place: u64::from(error.slot()),
-        condition: 0,
+        kind: told.letter.code(),
+        number: u32::from(told.number),
+        place: told.at.number(),
+        condition: told.named(),
     }
 }
 
-/// Why a certificate is refused.
-fn of_certificate(error: CertError) -> BpfRefusal
-    ensures { TellsCertificate error result }
+/// An error that is a refusal.
+pub fn refusal_of<R: Tells>(error: &R) -> BpfRefusal
+    ensures { result ≡ refusal_of (R.told_of error.now) }
 {
-    BpfRefusal {
-        kind: letter(b'K'),
-        number: u32::from(error.number()),
-        place: error.line() as u64,
-        condition: 0,
-    }
-}
-
-/// Why a program is refused by its certificate.
-pub fn of_check(refusal: Refusal) -> BpfRefusal
-    ensures { TellsCheck refusal result }
-{
-    BpfRefusal {
-        kind: letter(b'C'),
-        number: u32::from(refusal.number()),
-        place: u64::from(refusal.slot()),
-        condition: 0,
-    }
+    told_refusal(error.told())
 }
 
 /// Why an image and a certificate are refused; None where the certificate wasn't read to its end. The bytes of a slice are
@@ -133,9 +110,9 @@ pub fn of_verify(error: VerifyError) -> Option<BpfRefusal>
 {
     match error {
         VerifyError::Cert(CertError::Memory | CertError::Read { .. }) => None,
-        VerifyError::Cert(error) => Some(of_certificate(error)),
-        VerifyError::Image(error) => Some(of_image(error)),
-        VerifyError::Check(error) => Some(of_check(error)),
+        VerifyError::Cert(error) => Some(refusal_of(&error)),
+        VerifyError::Image(error) => Some(refusal_of(&error)),
+        VerifyError::Check(error) => Some(refusal_of(&error)),
     }
 }
 

@@ -24,7 +24,7 @@ mod runs;
 
 pub use answers::{
     BAD_CALL, BAD_LENGTH, BAD_WORDS, BpfOutcome, BpfRefusal, BpfVerdict, NO, NO_MEMORY, TOO_LONG,
-    TOO_SMALL, YES, letter, of_check, of_image, of_verify, order_of,
+    TOO_SMALL, YES, of_verify, order_of, refusal_of, told_refusal,
 };
 use answers::{of_outcome, unrun};
 use bpf_insn::{MAX_CONTEXT, MAX_IMAGE, ProgramView};

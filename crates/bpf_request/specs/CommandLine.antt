@@ -13,6 +13,7 @@ use Rattle.bpf_request.specs.declared.converting.Converting.{Converting}
 use Rattle.bpf_request.specs.declared.contexts.Contexts.TheVariants.{Word, Bytes, Lines, Nothing, Several}
 use Rattle.bpf_request.specs.declared.following.Following.{Following}
 use Rattle.bpf_request.specs.declared.hardening.Hardening.{Hardening}
+use Rattle.bpf_request.specs.declared.asking.Inferring.{Inferring}
 use Rattle.bpf_request.specs.declared.replaying.Replaying.{Replaying}
 use Rattle.bpf_request.specs.declared.words.Request.{Request}
 use Rattle.bpf_request.specs.declared.words.Request.TheVariants.{Groups, Asm, List as ListOf, Run, Check, RunChecked, Replay, Infer, Harden, Certify, Convert, ToC, Follows, Migrate, Explain}
@@ -133,7 +134,9 @@ abbrev pub IsConverting : List Row → Converting → Type 0
 IsConverting rows c =
     IsInput rows c.input.now c.order × IsCount 32 0 (one_of (codes "LEN") rows) c.length
     × (c.output.now ≡ word_of (codes "OUT") rows) × (c.certificate.now ≡ word_of (codes "CERT") rows)
-    × IsFlag (one_of (codes "plain") rows) c.plain × IsFlag (one_of (codes "seccomp") rows) c.seccomp × IsFlag (one_of (codes "raw") rows) c.raw
+    × IsFlag (one_of (codes "plain") rows) c.plain × IsFlag (one_of (codes "seccomp") rows) c.seccomp
+    × IsFlag (one_of (codes "extensions") rows) c.extensions × IsFlag (one_of (codes "raw") rows) c.raw
+    × (option_map (λ s. s.now) c.listing ≡ first_of (codes "listing") rows) × IsNumber (one_of (codes "turns") rows) c.turns
 
 -- the name of a function of C, where none is given
 abbrev pub usual_name : Text
@@ -152,37 +155,42 @@ IsFollowing rows f =
     × IsCount 32 0 (one_of (codes "LEN") rows) f.length × IsCount 32 usual_turns (one_of (codes "turns") rows) f.turns
     × IsCount 32 0 (one_of (codes "untouched") rows) f.untouched × IsFlag (one_of (codes "padded") rows) f.padded × IsOrder rows f.order
 
+-- for which image and contexts a certificate is to be found, how, and where it goes
+abbrev pub IsInferring : List Row → Inferring → Type 0
+IsInferring rows i =
+    IsInput rows i.input.now i.order × IsCount 32 0 (one_of (codes "LEN") rows) i.least × IsCount 32 i.least (one_of (codes "most") rows) i.most
+    × IsFlag (one_of (codes "deep") rows) i.deep × (i.output.now ≡ word_of (codes "OUT") rows)
+
 -- the request of a subcommand with these matches
 abbrev pub Asks : Text → List Row → Request → Type 0
-Asks name rows (Groups input order) =
+Asks name rows (Groups g) =
     (name ≢ codes "asm") × (name ≢ codes "list") × (name ≢ codes "run") × (name ≢ codes "check") × (name ≢ codes "run-checked") × (name ≢ codes "infer")
-    × (name ≢ codes "harden") × (name ≢ codes "certify") × (name ≢ codes "convert") × (name ≢ codes "to-c") × (name ≢ codes "follows") × (name ≢ codes "migrate") × (name ≢ codes "explain") × IsInput rows input.now order
-Asks name rows (Asm input output order) = (name ≡ codes "asm") × IsInput rows input.now order × (output.now ≡ word_of (codes "OUT") rows)
-Asks name rows (ListOf input slots bytes order) =
-    (name ≡ codes "list") × IsInput rows input.now order × IsFlag (one_of (codes "slots") rows) slots × IsFlag (one_of (codes "bytes") rows) bytes
-Asks name rows (Run input contexts count trace order) =
-    (name ≡ codes "run") × IsInput rows input.now order × AreContexts rows contexts
-    × IsCount 32 0 (one_of (codes "steps") rows) count × IsNumber (one_of (codes "trace") rows) trace
-Asks name rows (Check input certificate work order) =
-    (name ≡ codes "check") × IsInput rows input.now order × (certificate.now ≡ word_of (codes "CERT") rows) × IsFlag (one_of (codes "work") rows) work
-Asks name rows (RunChecked input certificate contexts order) =
-    (name ≡ codes "run-checked") × IsInput rows input.now order × (certificate.now ≡ word_of (codes "CERT") rows) × AreContexts rows contexts
+    × (name ≢ codes "harden") × (name ≢ codes "certify") × (name ≢ codes "convert") × (name ≢ codes "to-c") × (name ≢ codes "follows") × (name ≢ codes "migrate") × (name ≢ codes "explain")
+    × IsInput rows g.input.now g.order
+Asks name rows (Asm a) = (name ≡ codes "asm") × IsInput rows a.input.now a.order × (a.output.now ≡ word_of (codes "OUT") rows)
+Asks name rows (ListOf l) =
+    (name ≡ codes "list") × IsInput rows l.input.now l.order × IsFlag (one_of (codes "slots") rows) l.slots × IsFlag (one_of (codes "bytes") rows) l.bytes
+Asks name rows (Run r) =
+    (name ≡ codes "run") × IsInput rows r.input.now r.order × AreContexts rows r.contexts
+    × IsCount 32 0 (one_of (codes "steps") rows) r.steps × IsNumber (one_of (codes "trace") rows) r.trace
+Asks name rows (Check c) =
+    (name ≡ codes "check") × IsInput rows c.input.now c.order × (c.certificate.now ≡ word_of (codes "CERT") rows) × IsFlag (one_of (codes "work") rows) c.work
+Asks name rows (RunChecked r) =
+    (name ≡ codes "run-checked") × IsInput rows r.input.now r.order × (r.certificate.now ≡ word_of (codes "CERT") rows) × AreContexts rows r.contexts
     × (first_of (codes "packets") rows ≡ None) × IsFlag (one_of (codes "counts") rows) false
 Asks name rows (Replay r) = (name ≡ codes "run-checked") × IsReplaying rows r × ((is_some r.packets || r.counts) ≡ true)
-Asks name rows (Infer input least most deep output order) =
-    (name ≡ codes "infer") × IsInput rows input.now order × IsCount 32 0 (one_of (codes "LEN") rows) least
-    × IsCount 32 least (one_of (codes "most") rows) most × IsFlag (one_of (codes "deep") rows) deep × (output.now ≡ word_of (codes "OUT") rows)
+Asks name rows (Infer i) = (name ≡ codes "infer") × IsInferring rows i
 Asks name rows (Harden hardening) = (name ≡ codes "harden") × IsHardening rows hardening
 Asks name rows (Certify certifying) = (name ≡ codes "certify") × IsCertifying rows certifying
 Asks name rows (Convert converting) = (name ≡ codes "convert") × IsConverting rows converting
 Asks name rows (ToC emitting) = (name ≡ codes "to-c") × IsEmitting rows emitting
 Asks name rows (Follows following) = (name ≡ codes "follows") × IsFollowing rows following
-Asks name rows (Explain input subject lines order) =
-    (name ≡ codes "explain") × IsInput rows input.now order × IsSubject rows subject × (option_map (λ s. s.now) lines ≡ first_of (codes "lines") rows)
-Asks name rows (Migrate certificate output) = (name ≡ codes "migrate") × (certificate.now ≡ word_of (codes "CERT") rows) × (output.now ≡ word_of (codes "OUT") rows)
+Asks name rows (Explain e) =
+    (name ≡ codes "explain") × IsInput rows e.input.now e.order × IsSubject rows e.subject × (option_map (λ s. s.now) e.lines ≡ first_of (codes "lines") rows)
+Asks name rows (Migrate m) = (name ≡ codes "migrate") × (m.certificate.now ≡ word_of (codes "CERT") rows) × (m.output.now ≡ word_of (codes "OUT") rows)
 
 -- the request of a command line on which the parser found this subcommand
 abbrev pub IsAsked : Option (Text × List Row) → Request → Type 0
 IsAsked (Some s) request = Asks s.0 s.1 request
-IsAsked None (Groups input order) = (input.now ≡ []) × (order ≡ Little)
+IsAsked None (Groups g) = (g.input.now ≡ []) × (g.order ≡ Little)
 IsAsked None _ = ⊥

@@ -17,7 +17,13 @@ pub struct Converting<'a> {
     pub plain: bool,
     /// The filter is seccomp's, and contexts are `struct seccomp_data`.
     pub seccomp: bool,
+    /// Contexts are blocks with sixteen words of Linux's auxiliary data between the length and the packet, which the filter may load.
+    pub extensions: bool,
     /// The filter is the bytes of `struct sock_filter`, in the order of the image; else the text of `tcpdump`.
     pub raw: bool,
+    /// Where the listing of the filter with its program goes.
+    pub listing: Option<&'a str>,
+    /// How often a run of the filter may jump back, from 1 to 65,535; the usual number where none is given.
+    pub turns: Option<u32>,
     pub order: Order,
 }

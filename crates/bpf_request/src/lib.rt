@@ -1,6 +1,7 @@
 //! What a command line asks for.
 #![tactic(auto)]
 
+mod asking;
 mod certifying;
 mod contexts;
 mod converting;
@@ -11,6 +12,10 @@ mod replaying;
 mod subject;
 mod words;
 
+pub use asking::{
+    Assembling, CheckedRunning, Checking, Explaining, Grouping, Inferring, Listing, Migrating,
+    Running,
+};
 pub use certifying::Certifying;
 pub use contexts::Contexts;
 pub use converting::Converting;

@@ -3,9 +3,13 @@
 ghost use Rattle.std.specs.Prelude.{◌≡◌, IfOk, IfErr, codes, map, option_map, true, unwrap_or};
 ghost use Rattle.std.specs.String.{string_bytes};
 ghost use Rattle.clap.specs.Words.{FailsBy, first_of, found_of, kind_of, one_of, rows_of, subcommand_of, takes};
-ghost use Rattle.bpf_request.specs.CommandLine.{AreContexts, Asks, GivenBy, IsAsked, IsCertifying, IsConverting, IsCount, IsEmitting, IsFlag, IsFollowing, IsHardening, IsNumber, IsOrder, IsReplaying, IsSubject, bpf, faults_in, word_of};
+ghost use Rattle.bpf_request.specs.CommandLine.{AreContexts, Asks, GivenBy, IsAsked, IsCertifying, IsConverting, IsCount, IsEmitting, IsFlag, IsFollowing, IsHardening, IsInferring, IsNumber, IsOrder, IsReplaying, IsSubject, bpf, faults_in, word_of};
 ghost use Rattle.clap.specs.declared.error.ErrorKind.TheVariants.{OutOfMemory};
 
+use crate::asking::{
+    Assembling, CheckedRunning, Checking, Explaining, Grouping, Inferring, Listing, Migrating,
+    Running,
+};
 use crate::certifying::Certifying;
 use crate::contexts::Contexts;
 use crate::converting::Converting;
@@ -29,57 +33,21 @@ pub const USUAL_NAME: &str = "filter";
 #[derive(Clone, Copy)]
 pub enum Request<'a> {
     /// The conformance groups that occur in an image.
-    Groups {
-        input: &'a str,
-        order: Order,
-    },
+    Groups(Grouping<'a>),
     /// The image of a text.
-    Asm {
-        input: &'a str,
-        output: &'a str,
-        order: Order,
-    },
+    Asm(Assembling<'a>),
     /// The text of an image, with each instruction's slot and bytes in comments where they are asked for.
-    List {
-        input: &'a str,
-        slots: bool,
-        bytes: bool,
-        order: Order,
-    },
-    /// Runs of an image on contexts, each for at most so many instructions, and how many lines are told of each run's last steps.
-    Run {
-        input: &'a str,
-        contexts: Contexts<'a>,
-        steps: u32,
-        trace: Option<u32>,
-        order: Order,
-    },
-    /// A certificate's verdict on an image, and the work of judging where it is asked for.
-    Check {
-        input: &'a str,
-        certificate: &'a str,
-        work: bool,
-        order: Order,
-    },
+    List(Listing<'a>),
+    /// Runs of an image on contexts.
+    Run(Running<'a>),
+    /// A certificate's verdict on an image.
+    Check(Checking<'a>),
     /// Runs of an image on contexts, once its certificate certifies it.
-    RunChecked {
-        input: &'a str,
-        certificate: &'a str,
-        contexts: Contexts<'a>,
-        order: Order,
-    },
+    RunChecked(CheckedRunning<'a>),
     /// The same on the packets of a capture.
     Replay(Replaying<'a>),
-    /// A certificate for an image and contexts of `least` to `most` bytes, by the deep search where that is asked for. `most`
-    /// may be below `least`.
-    Infer {
-        input: &'a str,
-        least: u32,
-        most: u32,
-        deep: bool,
-        output: &'a str,
-        order: Order,
-    },
+    /// A certificate for an image.
+    Infer(Inferring<'a>),
     /// A hardened image.
     Harden(Hardening<'a>),
     /// An image with its certificate, hardened where it needs to be.
@@ -92,17 +60,9 @@ pub enum Request<'a> {
     Follows(Following<'a>),
     /// What the checker or the inferrer sees of a program, or why an input is refused, in words, with the lines of its source at a
     /// name.
-    Explain {
-        input: &'a str,
-        subject: Subject<'a>,
-        lines: Option<&'a str>,
-        order: Order,
-    },
+    Explain(Explaining<'a>),
     /// A certificate of the newest version with the same content.
-    Migrate {
-        certificate: &'a str,
-        output: &'a str,
-    },
+    Migrate(Migrating<'a>),
 }
 
 /// The word of a required argument; the parse has made sure that it is there.
@@ -206,6 +166,21 @@ fn subject_in<'a>(matches: &ArgMatches<'a>) -> Subject<'a>
     })
 }
 
+/// Which certificate is to be found.
+fn inferring_in<'a>(matches: &ArgMatches<'a>) -> Inferring<'a>
+    ensures { IsInferring (rows_of (found_of matches.now)) result }
+{
+    let least = number(matches, "LEN", 0);
+    Inferring {
+        input: word(matches, "IN"),
+        least,
+        most: number(matches, "most", least),
+        deep: has_flag(matches, "deep"),
+        output: word(matches, "OUT"),
+        order: order_of(matches),
+    }
+}
+
 /// What is to be hardened.
 fn hardening_in<'a>(matches: &ArgMatches<'a>) -> Hardening<'a>
     ensures { IsHardening (rows_of (found_of matches.now)) result }
@@ -257,7 +232,10 @@ fn converting_in<'a>(matches: &ArgMatches<'a>) -> Converting<'a>
         certificate: word(matches, "CERT"),
         plain: has_flag(matches, "plain"),
         seccomp: has_flag(matches, "seccomp"),
+        extensions: has_flag(matches, "extensions"),
         raw: has_flag(matches, "raw"),
+        listing: word_if(matches, "listing"),
+        turns: number_if(matches, "turns"),
         order: order_of(matches),
     }
 }
@@ -311,12 +289,12 @@ fn run_checked_in<'a>(matches: &ArgMatches<'a>) -> Request<'a>
 {
     let asked = replaying_in(matches);
     match (asked.packets, asked.counts) {
-        (None, false) => Request::RunChecked {
+        (None, false) => Request::RunChecked(CheckedRunning {
             input: asked.input,
             certificate: asked.certificate,
             contexts: asked.contexts,
             order: asked.order,
-        },
+        }),
         (Some(_), _) | (None, true) => Request::Replay(asked),
     }
 }
@@ -328,58 +306,48 @@ fn request_in<'a>(name: &str, matches: &ArgMatches<'a>) -> Request<'a>
     let input = word(matches, "IN");
     let order = order_of(matches);
     match name {
-        "asm" => Request::Asm {
+        "asm" => Request::Asm(Assembling {
             input,
             output: word(matches, "OUT"),
             order,
-        },
-        "list" => Request::List {
+        }),
+        "list" => Request::List(Listing {
             input,
             slots: has_flag(matches, "slots"),
             bytes: has_flag(matches, "bytes"),
             order,
-        },
-        "run" => Request::Run {
+        }),
+        "run" => Request::Run(Running {
             input,
             contexts: contexts_of(matches),
             steps: number(matches, "steps", 0),
             trace: number_if(matches, "trace"),
             order,
-        },
-        "check" => Request::Check {
+        }),
+        "check" => Request::Check(Checking {
             input,
             certificate: word(matches, "CERT"),
             work: has_flag(matches, "work"),
             order,
-        },
+        }),
         "run-checked" => run_checked_in(matches),
-        "infer" => {
-            let least = number(matches, "LEN", 0);
-            Request::Infer {
-                input,
-                least,
-                most: number(matches, "most", least),
-                deep: has_flag(matches, "deep"),
-                output: word(matches, "OUT"),
-                order,
-            }
-        }
+        "infer" => Request::Infer(inferring_in(matches)),
         "harden" => Request::Harden(hardening_in(matches)),
         "certify" => Request::Certify(certifying_in(matches)),
         "convert" => Request::Convert(converting_in(matches)),
         "to-c" => Request::ToC(emitting_in(matches)),
         "follows" => Request::Follows(following_in(matches)),
-        "explain" => Request::Explain {
+        "explain" => Request::Explain(Explaining {
             input,
             subject: subject_in(matches),
             lines: word_if(matches, "lines"),
             order,
-        },
-        "migrate" => Request::Migrate {
+        }),
+        "migrate" => Request::Migrate(Migrating {
             certificate: word(matches, "CERT"),
             output: word(matches, "OUT"),
-        },
-        _ => Request::Groups { input, order },
+        }),
+        _ => Request::Groups(Grouping { input, order }),
     }
 }
 
@@ -396,9 +364,9 @@ pub fn request_of<'a>(alloc: Global, words: &'a [String]) -> Result<Request<'a>,
     };
     Ok(match matches.subcommand() {
         Some((name, matches)) => request_in(name, matches),
-        None => Request::Groups {
+        None => Request::Groups(Grouping {
             input: "",
             order: Order::Little,
-        },
+        }),
     })
 }

@@ -126,12 +126,18 @@ certify =
     with_rule (with_rule (with_rule (with_rule (with_rule (with_rule (with_rule (with_rule (with_rule certify_places bound) turns) otherwise) (flag (codes "padded")))
     (flag (codes "unproved"))) (option (codes "notes"))) (option (codes "changes"))) (option (codes "lines"))) big
 
+-- the option `--turns` of a filter, with a number from 1, below 2 ^ 16
+abbrev pub jumps_back : Rule
+jumps_back = number (codes "turns") (pos 1) (pos 65535)
+
 abbrev pub convert_places : App
 convert_places =
     with_rule (with_rule (with_rule (with_rule (new_app (codes "convert")) (place (codes "IN"))) context_length) (place (codes "OUT"))) (place (codes "CERT"))
 
 abbrev pub convert : App
-convert = with_rule (with_rule (with_rule (with_rule convert_places (flag (codes "plain"))) (flag (codes "seccomp"))) (flag (codes "raw"))) big
+convert =
+    with_rule (with_rule (with_rule (with_rule (with_rule (with_rule (with_rule convert_places (flag (codes "plain"))) (flag (codes "seccomp"))) (flag (codes "extensions")))
+    (flag (codes "raw"))) (option (codes "listing"))) jumps_back) big
 
 abbrev pub to_c_places : App
 to_c_places = with_rule (with_rule (with_rule (new_app (codes "to-c")) (place (codes "IN"))) (place (codes "CERT"))) (place (codes "OUT"))

@@ -239,8 +239,23 @@ pub const LAST: [Entry; 6] = [
                 "IN is a filter of seccomp, and contexts are struct seccomp_data",
             ),
             Flag(
+                "extensions",
+                "IN may load Linux's auxiliary data, and blocks have its 16 words of 4 bytes between the length and the packet",
+            ),
+            Flag(
                 "raw",
                 "IN is struct sock_filter, 8 bytes for each instruction",
+            ),
+            Named(
+                "listing",
+                "a listing goes to FILE: each instruction of IN, and the slots that stand for it",
+            ),
+            Number(
+                "turns",
+                "N",
+                1,
+                u16::MAX as i64,
+                "how often a run may jump back in IN, at most 65535, else once for each 8 bytes of a packet",
             ),
             BIG,
         ],

@@ -2,32 +2,66 @@
 
 ghost use Rattle.std.specs.Prelude.{◌≡◌, ◌≤◌, IfOk, IfErr, IfSome, false, IsTrue};
 ghost use Rattle.bpf_insn.specs.Limits.{max_context};
-ghost use Rattle.bpf_insn.specs.Written.{AppendsBeginning};
 ghost use Rattle.bpf_certify.specs.Certified.{Answers as IsAnswer, IsRefused};
-ghost use Rattle.bpf_answers.specs.Answer.{Answered, Says, Unfinished, text_of as answer_text};
 ghost use Rattle.bpf_answers.specs.Both.{pairing};
-ghost use Rattle.bpf_answers.specs.Told.{OutputFails};
 ghost use Rattle.bpf_follows_notes.specs.NotesText.{notes_text};
 ghost use Rattle.bpf_places.specs.Made.{making};
-ghost use Rattle.bpf_command.specs.Certified.{AllPut, CertifyFails, CertifySays, CertifyWithFails, CertifyWithSays, NotAllPut, NotAllStand, NotCertified, NotCertifiedWith, made_of, notes_of, refused_as, rewriting_of, told_of, wish_of};
+ghost use Rattle.bpf_command.specs.Certified.{AllPut, CertifyFails, CertifySays, CertifyWithFails, CertifyWithSays, NotAllPut, NotAllStand, NotCertified, NotCertifiedWith, assessment_answer, made_of, notes_of, refused_as, rewriting_of, told_of, wish_of};
 
-use crate::aside::Aside;
 use crate::commands::explain::lines_at;
-use crate::commands::harden::{Beside, NOT_SHOWN, changes_of, put_beside, text_of};
-use crate::sentences::{Source, tell_image, tell_refusal};
-use bpf_answers::{
-    Certification, Failure, Rewriting, program_at, put_both, refuse_at, refuse_dear, refuse_image,
-    refuse_uncertified, say_certified,
-};
+use crate::commands::harden::{Beside, changes_of, put_beside, text_of};
+use bpf_answers::{Answer, Certification, Failure, Rewriting, program_at, put_both};
 use bpf_cert::Certificate;
 use bpf_certify::{Certified, CertifyError, MOST_BOUND, Wish, certify};
 use bpf_follows_law::Place;
 use bpf_harden::HardenError;
-use bpf_insn::{Code, MAX_CONTEXT, Program};
+use bpf_insn::{Code, DecodeError, MAX_CONTEXT, Program};
 use bpf_places::Places;
 use bpf_request::Certifying;
 use std::alloc::{AllocError, Global};
-use std::io::Write;
+
+/// What the certification of an image came to.
+#[derive(Clone, Copy)]
+pub enum Assessment {
+    /// What is at the name is no image.
+    NoImage(DecodeError),
+    /// Its program isn't certified.
+    Refused(CertifyError),
+    /// The image and its certificate stand at their names.
+    Passed(Certification),
+}
+
+/// The same with the table of the lines of the program's source, which may be empty.
+#[derive(Drop)]
+pub struct Assessed {
+    pub assessment: Assessment,
+    pub lines: String,
+}
+
+/// What is answered where a program isn't certified.
+fn refused_as(error: CertifyError) -> Answer
+    ensures { result ≡ refused_as error }
+{
+    match error {
+        CertifyError::Unhardened(error) => Answer::NotHardened(error),
+        CertifyError::Unshown(mismatch) => Answer::NotShown(mismatch),
+        CertifyError::TooDear { .. } => Answer::TooDear,
+        CertifyError::Uncertified(_) => Answer::Uncertified,
+    }
+}
+
+impl Assessment {
+    /// What is answered of it.
+    pub fn answer(self) -> Answer
+        ensures { result ≡ assessment_answer self }
+    {
+        match self {
+            Assessment::NoImage(error) => Answer::NoImage(error),
+            Assessment::Refused(error) => refused_as(error),
+            Assessment::Passed(told) => Answer::Certified(told),
+        }
+    }
+}
 
 /// How a program is certified.
 fn wish_of(asked: Certifying<'_>) -> Wish
@@ -110,35 +144,7 @@ fn beside_of(
         None => String::new(alloc),
         Some(rewritten) => changes_of(alloc, asked.hardening(), &rewritten.hardened)?,
     };
-    Ok(Beside {
-        notes,
-        changes,
-        said: None,
-    })
-}
-
-/// Prints why a program isn't certified.
-fn refuse_certifying<'a, W: Write>(
-    alloc: Global,
-    out: &mut W,
-    error: CertifyError,
-) -> Result<u8, Failure<'a>>
-    ensures ok { IfOk result (λ status. Says (refused_as error) status (W.contents out.old) (W.contents out.new)) }
-    ensures err { IfErr result OutputFails }
-    ensures begun { IfErr result (λ _. AppendsBeginning (W.contents out.old) (W.contents out.new) (answer_text (refused_as error))) }
-{
-    match error {
-        CertifyError::Unhardened(error) => {
-            let slot = u64::from(error.slot());
-            refuse_at(alloc, out, "H", error.number(), " at slot ", slot)
-        }
-        CertifyError::Unshown(mismatch) => {
-            let slot = u64::from(mismatch.slot());
-            refuse_at(alloc, out, "H", NOT_SHOWN, " at slot ", slot)
-        }
-        CertifyError::TooDear { .. } => refuse_dear(alloc, out),
-        CertifyError::Uncertified(_) => refuse_uncertified(alloc, out),
-    }
+    Ok(Beside { notes, changes })
 }
 
 /// Writes the image and its certificate, both or neither, and then the texts, each where a name for it is given.
@@ -188,68 +194,53 @@ fn found_for(
     }
 }
 
-/// Writes an image and its certificate, with the lines of the source where they are known.
-fn certified_with<'a, P: Places, W: Write, H: Aside>(
+/// Writes an image and its certificate, and the texts beside them.
+fn assess<'a, P: Places>(
     alloc: Global,
     places: &mut P,
-    out: &mut W,
-    aside: &H,
-    source: Source<'a, '_>,
-) -> Result<u8, Failure<'a>>
-    ensures ok { IfOk result (Answered (CertifySays P.opens (making P.creates P.ends P.Writer.contents) (pairing P.creates P.ends P.Writer.contents)
-        places.old source.entry.asked places.new) (W.contents out.old) (W.contents out.new)) }
+    asked: Certifying<'a>,
+) -> Result<Assessment, Failure<'a>>
+    ensures ok { IfOk result (CertifySays P.opens (making P.creates P.ends P.Writer.contents) (pairing P.creates P.ends P.Writer.contents)
+        places.old asked.entry places.new) }
     ensures err { IfErr result (CertifyFails P.opens (making P.creates P.ends P.Writer.contents) (pairing P.creates P.ends P.Writer.contents)
-        places.old source.entry.asked places.new) }
-    ensures begun { IfErr result (λ _. Unfinished (CertifySays P.opens (making P.creates P.ends P.Writer.contents)
-        (pairing P.creates P.ends P.Writer.contents) places.old source.entry.asked places.new) (W.contents out.old) (W.contents out.new)) }
+        places.old asked.entry places.new) }
     ensures names { IfErr result (λ _. NotCertified P.opens (making P.creates P.ends P.Writer.contents) (pairing P.creates P.ends P.Writer.contents)
-        places.old source.entry.asked places.new) }
+        places.old asked.entry places.new) }
 {
-    let asked = source.asked;
     let program = match program_at(alloc, places, asked.input, asked.order)? {
         Ok(program) => program,
-        Err(error) => {
-            let answer = refuse_image(alloc, out, error);
-            tell_image(aside, error);
-            return answer;
-        }
+        Err(error) => return Ok(Assessment::NoImage(error)),
     };
     let length = length_of(asked);
     let found = match found_for(alloc, &program, asked, length) {
         Ok(found) => found,
-        Err(error) => {
-            let answer = refuse_certifying(alloc, out, error);
-            tell_refusal(aside, source, error);
-            return answer;
-        }
+        Err(error) => return Ok(Assessment::Refused(error)),
     };
     let Found { certified, beside } = &found;
     let told = told_of(asked, length, certified);
     let made = made_of(&program, certified);
     put_all(places, asked, made, &certified.certificate, beside)?;
-    say_certified(alloc, out, told)
+    Ok(Assessment::Passed(told))
 }
 
 /// Writes the image of a program that has a certificate within the bound that is asked for: the program as it stands, or hardened; and its
-/// certificate, notes that `follows` reads, and what was done. The places for them are made only where there is something to write. Of a
-/// refusal the sentence stands on standard error, whether or not people read there: it is the one thing that scripts are told beside the line.
-pub fn certified<'a, P: Places, W: Write, H: Aside>(
+/// certificate, notes that `follows` reads, and what was done. The places for them are made only where there is something to write. The lines of
+/// the source are read first.
+pub fn certified<'a, P: Places>(
     alloc: Global,
     places: &mut P,
-    out: &mut W,
-    aside: &H,
     asked: Certifying<'a>,
-) -> Result<u8, Failure<'a>>
-    ensures ok { IfOk result (Answered (CertifyWithSays P.opens (making P.creates P.ends P.Writer.contents)
-        (pairing P.creates P.ends P.Writer.contents) places.old asked.entry places.new) (W.contents out.old) (W.contents out.new)) }
+) -> Result<Assessed, Failure<'a>>
+    ensures ok { IfOk result (CertifyWithSays P.opens (making P.creates P.ends P.Writer.contents)
+        (pairing P.creates P.ends P.Writer.contents) places.old asked.entry places.new) }
     ensures err { IfErr result (CertifyWithFails P.opens (making P.creates P.ends P.Writer.contents) (pairing P.creates P.ends P.Writer.contents)
         places.old asked.entry places.new) }
-    ensures begun { IfErr result (λ _. Unfinished (CertifyWithSays P.opens (making P.creates P.ends P.Writer.contents)
-        (pairing P.creates P.ends P.Writer.contents) places.old asked.entry places.new) (W.contents out.old) (W.contents out.new)) }
     ensures names { IfErr result (λ _. NotCertifiedWith P.opens (making P.creates P.ends P.Writer.contents) (pairing P.creates P.ends P.Writer.contents)
         places.old asked.entry places.new) }
 {
-    let table = lines_at(alloc, places, asked.lines)?;
-    let lines = table.as_str().as_bytes();
-    certified_with(alloc, places, out, aside, Source { asked, lines })
+    let lines = lines_at(alloc, places, asked.lines)?;
+    match assess(alloc, places, asked) {
+        Ok(assessment) => Ok(Assessed { assessment, lines }),
+        Err(failure) => Err(failure),
+    }
 }

@@ -8,16 +8,13 @@ ghost use Rattle.bpf_safety.specs.Certified.{IsLeastFlaw};
 ghost use Rattle.bpf_check.specs.CheckedProgram.{IsCertifiedBy};
 ghost use Rattle.bpf_check.specs.RefusalNumbers.{refusal_number, refusal_slot};
 ghost use Rattle.bpf_infer_error.specs.RefusalNumbers.{infer_slot};
-ghost use Rattle.bpf_command.specs.Names.{behind_lines, names_explained};
+ghost use Rattle.bpf_command.specs.Names.{behind_lines, names_explained, names_opened};
 ghost use Rattle.bpf_answers.specs.Loaded.{CertificateAt, CertificateFails, CertificateRefused, ImageFails, OpensFirst, ReadableFails, Tried};
 ghost use Rattle.bpf_command.specs.Explained.{Answers, ExplainFails, ExplainSays, ExplainWithFails, ExplainWithSays, HardenedSays, JudgesOf, LinesAt, LinesFail, SoughtSays, TaskSays, TextSays};
 ghost use Rattle.bpf_command_core.specs.Printed.{ImageSays, JudgedSays, ListSays, LoadedFails, LoadedSays, YesSays};
 ghost use Rattle.bpf_answers.specs.Told.{OutputFails};
 
-use bpf_answers::{
-    DONE, Failure, REFUSED, image_at, readable_text_at, refuse_certificate, refuse_image,
-    refuse_text, text_at,
-};
+use bpf_answers::{Answer, DONE, Failure, REFUSED, image_at, print, readable_text_at, text_at};
 use bpf_cert::{CertError, Certificate, read};
 use bpf_check::Refusal;
 use bpf_explain::{
@@ -28,7 +25,7 @@ use bpf_explain_harden::{Hardening, explain_hardening};
 use bpf_infer::{Wanted, Watch};
 use bpf_insn::{Code, DecodeError, MAX_CONTEXT, Order, Program, ProgramView, decode};
 use bpf_places::{Keeping, Places};
-use bpf_request::{Aspect, Subject, USUAL_TURNS};
+use bpf_request::{Aspect, Explaining, Subject, USUAL_TURNS};
 use bpf_text::{TextError, assemble};
 use std::alloc::Global;
 use std::io::{self, Write};
@@ -74,7 +71,7 @@ fn explained_image<'a, P: Places, W: Write>(
 {
     let bytes = match image_at(alloc, places, input)? {
         Ok(bytes) => bytes,
-        Err(error) => return refuse_image(alloc, out, error),
+        Err(error) => return print(out, &Answer::NoImage(error)),
     };
     match ProgramView::of(&bytes, order) {
         Ok(program) => told(write_alone(&program, is_graph, out), DONE),
@@ -97,7 +94,7 @@ fn explained_text<'a, P: Places, W: Write>(
     let text = readable_text_at(alloc, places, input)?;
     match assemble(alloc, text.as_str(), order) {
         Ok(program) => told(write_program(&program, out), DONE),
-        Err(TextError::Memory) => refuse_text(alloc, out, TextError::Memory),
+        Err(TextError::Memory) => print(out, &Answer::NoText(TextError::Memory)),
         Err(error) => told(
             write_text_refusal(alloc, text.as_str().as_bytes(), error, out),
             REFUSED,
@@ -176,7 +173,7 @@ fn explained_with<'a, P: Places, C: Code, W: Write>(
     let (answer, bytes) = certificate_kept(alloc, places, certificate)?;
     match answer {
         Ok(certificate) => say_program(out, program, &certificate, shown),
-        Err(CertError::Memory) => refuse_certificate(alloc, out, CertError::Memory),
+        Err(CertError::Memory) => print(out, &Answer::NoCertificate(CertError::Memory)),
         Err(error) => refused_text(out, bytes, error),
     }
 }
@@ -198,7 +195,7 @@ fn explained_certified<'a, P: Places, W: Write>(
 {
     let bytes = match image_at(alloc, places, input)? {
         Ok(bytes) => bytes,
-        Err(error) => return refuse_image(alloc, out, error),
+        Err(error) => return print(out, &Answer::NoImage(error)),
     };
     match ProgramView::of(&bytes, order) {
         Ok(program) => explained_with(alloc, places, out, &program, certificate, shown),
@@ -312,11 +309,11 @@ fn explained_made<'a, P: Places, W: Write, H: Watch>(
 {
     let bytes = match image_at(alloc, places, input)? {
         Ok(bytes) => bytes,
-        Err(error) => return refuse_image(alloc, out, error),
+        Err(error) => return print(out, &Answer::NoImage(error)),
     };
     match decode(alloc, &bytes, order) {
         Ok(program) => say_made(alloc, out, watch, &program, task),
-        Err(DecodeError::Memory) => refuse_image(alloc, out, DecodeError::Memory),
+        Err(DecodeError::Memory) => print(out, &Answer::NoImage(DecodeError::Memory)),
         Err(error) => refused_image(out, &bytes, order, error),
     }
 }
@@ -358,16 +355,15 @@ fn explained_subject<'a, P: Places, W: Write, H: Watch>(
     places: &mut P,
     out: &mut W,
     watch: &mut H,
-    input: &'a str,
-    subject: Subject<'a>,
+    asked: Explaining<'a>,
     lines: &[u8],
-    order: Order,
 ) -> Result<u8, Failure<'a>>
-    ensures ok { IfOk result (ExplainSays P.opens order places.old input.entry.now subject.entry places.new) }
-    ensures err { IfErr result (ExplainFails P.opens order places.old input.entry.now subject.entry places.new) }
-    ensures opened { OpensFirst P.opens (names_explained input.entry.now subject.entry) places.old places.new }
+    ensures ok { IfOk result (ExplainSays P.opens asked.entry.order places.old asked.entry.input.now asked.entry.subject places.new) }
+    ensures err { IfErr result (ExplainFails P.opens asked.entry.order places.old asked.entry.input.now asked.entry.subject places.new) }
+    ensures opened { OpensFirst P.opens (names_explained asked.entry.input.now asked.entry.subject) places.old places.new }
 {
-    match subject {
+    let Explaining { input, order, .. } = asked;
+    match asked.subject {
         Subject::Image => explained_image(alloc, places, out, input, order, false),
         Subject::GraphAlone => explained_image(alloc, places, out, input, order, true),
         Subject::Text => explained_text(alloc, places, out, input, order),
@@ -418,16 +414,12 @@ pub fn explained<'a, P: Places, W: Write, H: Watch>(
     places: &mut P,
     out: &mut W,
     watch: &mut H,
-    input: &'a str,
-    subject: Subject<'a>,
-    lines: Option<&'a str>,
-    order: Order,
+    asked: Explaining<'a>,
 ) -> Result<u8, Failure<'a>>
-    ensures ok { IfOk result (ExplainWithSays P.opens order places.old input.entry.now subject.entry lines.entry places.new) }
-    ensures err { IfErr result (ExplainWithFails P.opens order places.old input.entry.now subject.entry lines.entry places.new) }
-    ensures opened { OpensFirst P.opens (behind_lines lines.entry (names_explained input.entry.now subject.entry)) places.old places.new }
+    ensures ok { IfOk result (ExplainWithSays P.opens places.old asked.entry places.new) }
+    ensures err { IfErr result (ExplainWithFails P.opens places.old asked.entry places.new) }
+    ensures opened { OpensFirst P.opens (names_opened asked.entry) places.old places.new }
 {
-    let table = lines_at(alloc, places, lines)?;
-    let bytes = table.as_str().as_bytes();
-    explained_subject(alloc, places, out, watch, input, subject, bytes, order)
+    let table = lines_at(alloc, places, asked.lines)?;
+    explained_subject(alloc, places, out, watch, asked, table.as_str().as_bytes())
 }

@@ -1,74 +1,70 @@
 //! `bpf harden IN LEN OUT`.
 
-ghost use Rattle.bpf_insn.specs.Written.{AppendsBeginning};
-ghost use Rattle.std.specs.Prelude.{◌≡◌, ◌<◌, ℕ, List, Option, IfOk, IfErr, IfSome, MatchOption, false};
+ghost use Rattle.std.specs.Prelude.{◌≡◌, ◌<◌, ℕ, List, Option, IfOk, IfErr, IfSome, MatchOption, None, false};
 ghost use Rattle.bpf_follows.specs.Mismatches.{IsMismatch};
 ghost use Rattle.bpf_insn.specs.Instruction.{slots};
 ghost use Rattle.bpf_insn.specs.Image.{IsProgram};
 ghost use Rattle.bpf_harden_notes.specs.RefusalNumbers.{harden_slot};
-ghost use Rattle.bpf_answers.specs.Answer.{Answered, Says, Unfinished, text_of as answer_text};
-ghost use Rattle.bpf_answers.specs.Answer.Answer.{NotHardened, NotShown};
 ghost use Rattle.bpf_follows_law.specs.declared.notes.Place.{Place};
 ghost use Rattle.bpf_follows_law.specs.Matching.{Matches};
 ghost use Rattle.bpf_follows_notes.specs.NotesText.{notes_text};
-ghost use Rattle.bpf_command.specs.Hardened.{AreLeft, BothStand, HardenFails, HardenSays, IsLeft, IsLeftSaid, IsUnshown, NotAllMade, NotBothPut, NotBothStand, Stands, Unput, asked_bytes, bounds_of, said_answer};
+ghost use Rattle.bpf_command.specs.Hardened.{AreLeft, BothStand, HardenFails, HardenSays, IsKept, IsLeft, IsLeftSaid, IsUnshown, NotAllMade, NotBothPut, NotBothStand, Stands, Unput, asked_bytes, attempt_answer, bounds_of};
 ghost use Rattle.bpf_places.specs.Made.{making};
-ghost use Rattle.bpf_answers.specs.Told.{OutputFails};
 
-use crate::advice::{
-    Judged, after_hardening, after_image, after_mismatch, after_proof, after_unshown,
-};
-use crate::aside::Terminal;
 use crate::commands::changes::changes_text;
-use bpf_answers::{Content, DONE, Failure, program_at, put, refuse_at, refuse_image, say};
+use bpf_answers::{Answer, Content, DONE, Failure, program_at, put};
 use bpf_follows::Mismatch;
 use bpf_follows_law::{Bounds, Place, matching_keeps_meaning};
 use bpf_follows_notes::write;
 use bpf_harden::{HardenError, Hardened, Options, harden};
 use bpf_harden_follows::{Evidence, evidence_for, evidence_of};
-use bpf_insn::{Code, MAX_CONTEXT, Program};
+use bpf_insn::{Code, DecodeError, MAX_CONTEXT, Program};
 use bpf_places::Places;
 use bpf_request::Hardening;
 use std::alloc::{AllocError, Global};
-use std::io::Write;
 
-/// The number of the refusal of a hardened program that isn't shown to keep the meaning, behind those of hardening itself.
-pub(super) const NOT_SHOWN: u8 = 13;
-
-/// Prints why a program isn't hardened, and tells people what explains it.
-fn refuse_hardening<'a, W: Write, H: Terminal>(
-    alloc: Global,
-    out: &mut W,
-    aside: &H,
-    asked: Hardening<'_>,
-    error: HardenError,
-) -> Result<u8, Failure<'a>>
-    ensures ok { IfOk result (λ status. Says (NotHardened error) status (W.contents out.old) (W.contents out.new)) }
-    ensures err { IfErr result OutputFails }
-    ensures begun { IfErr result (λ _. AppendsBeginning (W.contents out.old) (W.contents out.new) (answer_text (NotHardened error))) }
-{
-    let slot = u64::from(error.slot());
-    let answer = refuse_at(alloc, out, "H", error.number(), " at slot ", slot);
-    after_hardening(aside, asked, error);
-    answer
+/// What is shown of a hardened program by its notes.
+#[derive(Clone, Copy)]
+pub struct Kept {
+    /// The contexts and runs of which it is judged.
+    pub bounds: Bounds,
+    /// What fails of the notes; None where they show that the program keeps the meaning.
+    pub mismatch: Option<Mismatch>,
+    /// The bytes of each frame that runs leave to r10, where they are some and nobody asked for them.
+    pub said: Option<u32>,
 }
 
-/// Prints that a hardened program isn't shown to keep the meaning, and tells people what explains it.
-fn refuse_unshown<'a, W: Write, H: Terminal>(
-    alloc: Global,
-    out: &mut W,
-    aside: &H,
-    asked: Hardening<'_>,
-    mismatch: Mismatch,
-) -> Result<u8, Failure<'a>>
-    ensures ok { IfOk result (λ status. Says (NotShown mismatch) status (W.contents out.old) (W.contents out.new)) }
-    ensures err { IfErr result OutputFails }
-    ensures begun { IfErr result (λ _. AppendsBeginning (W.contents out.old) (W.contents out.new) (answer_text (NotShown mismatch))) }
-{
-    let slot = u64::from(mismatch.slot());
-    let answer = refuse_at(alloc, out, "H", NOT_SHOWN, " at slot ", slot);
-    after_unshown(aside, asked, mismatch);
-    answer
+/// What the hardening of an image came to.
+#[derive(Clone, Copy)]
+pub enum Attempt {
+    /// What is at the name is no image.
+    NoImage(DecodeError),
+    /// Its program isn't hardened.
+    NotHardened(HardenError),
+    /// It is, and isn't shown to keep its meaning.
+    NotShown(Mismatch),
+    /// The hardened image stands at its name.
+    Hardened(Kept),
+}
+
+impl Attempt {
+    /// What is answered of it.
+    pub fn answer(self) -> Answer
+        ensures { result ≡ attempt_answer self }
+    {
+        match self {
+            Attempt::NoImage(error) => Answer::NoImage(error),
+            Attempt::NotHardened(error) => Answer::NotHardened(error),
+            Attempt::NotShown(mismatch) => Answer::NotShown(mismatch),
+            Attempt::Hardened(Kept { said: None, .. }) => Answer::Written,
+            Attempt::Hardened(
+                Kept {
+                    said: Some(untouched),
+                    ..
+                },
+            ) => Answer::WrittenFor(untouched),
+        }
+    }
 }
 
 /// How a program is hardened.
@@ -193,48 +189,39 @@ fn said_of(asked: Hardening<'_>, untouched: u32) -> Option<u32>
     }
 }
 
-/// Notes of a hardened program. They show that it keeps the meaning, or it is refused, but with `--unproved`. People are told whether they
-/// show it, and for which runs.
-fn shown<H: Terminal>(
+/// Notes of a hardened program. They show that it keeps the meaning, or it is refused, but with `--unproved`.
+fn shown(
     alloc: Global,
-    aside: &H,
     program: &Program,
     hardened: &Hardened,
     asked: Hardening<'_>,
 ) -> Result<Evidence, Unshown>
     ensures left { IfOk result (λ found. AreLeft asked.entry found.untouched) }
-    ensures matches { IfOk result (λ found. asked.entry.unproved ≡ false
-        → Matches program.now hardened.now.program found.notes.items (bounds_of asked.entry found.untouched)) }
+    ensures kept { IfOk result (λ found. MatchOption found.mismatch
+        (Matches program.now hardened.now.program found.notes.items (bounds_of asked.entry found.untouched))
+        (IsMismatch program.now hardened.now.program found.notes.items (bounds_of asked.entry found.untouched))) }
+    ensures proved { IfOk result (λ found. asked.entry.unproved ≡ false → found.mismatch ≡ None) }
     ensures err { IfErr result (IsUnshown program.now hardened.now.program asked.entry) }
 {
     let found = evidence(alloc, program, hardened, asked)?;
-    let mismatch = found.mismatch;
-    let judged = Judged {
-        old: program,
-        new: &hardened.program,
-        notes: &found.notes,
-        bounds: bounds_of(asked, found.untouched),
-    };
-    match mismatch {
-        None => {
-            after_proof(alloc, aside, judged);
-            Ok(found)
-        }
-        Some(mismatch) if asked.unproved => {
-            after_mismatch(aside, judged, mismatch);
-            Ok(found)
-        }
-        Some(mismatch) => Err(Unshown::Differs(mismatch)),
+    match found.mismatch {
+        Some(mismatch) if !asked.unproved => Err(Unshown::Differs(mismatch)),
+        Some(_) | None => Ok(found),
     }
 }
 
-/// What goes beside the hardened image: the text of its notes and that of the changes, empty where no name for it is given; and what is
-/// said of untouched bytes.
+/// What goes beside the hardened image: the text of its notes and that of the changes, empty where no name for it is given.
 #[derive(Drop)]
 pub(super) struct Beside {
     pub(super) notes: Vec<u8>,
     pub(super) changes: String,
-    pub(super) said: Option<u32>,
+}
+
+/// The same with what is shown by the notes.
+#[derive(Drop)]
+struct Noted {
+    beside: Beside,
+    kept: Kept,
 }
 
 /// The text of notes, if a name for it is given.
@@ -263,41 +250,28 @@ pub(super) fn changes_of(
     }
 }
 
-/// What goes beside a hardened program.
-fn beside_of<H: Terminal>(
+/// What goes beside a hardened program, and what is shown of it.
+fn notes_for(
     alloc: Global,
-    aside: &H,
     program: &Program,
     hardened: &Hardened,
     asked: Hardening<'_>,
-) -> Result<Beside, Unshown>
-    ensures shown { IfOk result (λ beside. (notes : List (Option Place)) × (untouched : ℕ) × IsLeftSaid asked.entry untouched beside.said
-        × (asked.entry.unproved ≡ false → Matches program.now hardened.now.program notes (bounds_of asked.entry untouched))
-        × IfSome asked.entry.notes (λ _. beside.notes.items ≡ notes_text notes)) }
+) -> Result<Noted, Unshown>
+    ensures kept { IfOk result (λ n. (notes : List (Option Place)) × IsKept program.now hardened.now.program asked.entry notes n.kept
+        × IfSome asked.entry.notes (λ _. n.beside.notes.items ≡ notes_text notes)) }
     ensures err { IfErr result (IsUnshown program.now hardened.now.program asked.entry) }
 {
-    let found = shown(alloc, aside, program, hardened, asked)?;
+    let found = shown(alloc, program, hardened, asked)?;
     let notes = text_of(alloc, asked, &found.notes)?;
     let changes = changes_of(alloc, asked, hardened)?;
-    Ok(Beside {
-        notes,
-        changes,
-        said: said_of(asked, found.untouched),
+    Ok(Noted {
+        beside: Beside { notes, changes },
+        kept: Kept {
+            bounds: bounds_of(asked, found.untouched),
+            mismatch: found.mismatch,
+            said: said_of(asked, found.untouched),
+        },
     })
-}
-
-/// Says for runs with how many untouched bytes it is shown, where nobody asked for that.
-fn say_left<'a, W: Write>(alloc: Global, out: &mut W, said: Option<u32>) -> Result<u8, Failure<'a>>
-    ensures ok { IfOk result (λ status. Says (said_answer said) status (W.contents out.old) (W.contents out.new)) }
-    ensures err { IfErr result OutputFails }
-    ensures begun { IfErr result (λ _. AppendsBeginning (W.contents out.old) (W.contents out.new) (answer_text (said_answer said))) }
-{
-    let Some(untouched) = said else {
-        return Ok(DONE);
-    };
-    let line = format!(in alloc; "untouched {untouched}\n")?;
-    say(out, line.as_str())?;
-    Ok(DONE)
 }
 
 /// Puts content at a name, if one is given.
@@ -332,45 +306,32 @@ pub(super) fn put_beside<'a, P: Places>(
     put_if(places, asked.changes, &beside.changes)
 }
 
-/// Writes the hardened image of an image, notes that `follows` reads, and what was done, and says where it is shown for fewer runs than all, which
-/// nobody asked for. The places for what is written are made only where there is an image to write.
-pub fn hardened<'a, P: Places, W: Write, H: Terminal>(
+/// Writes the hardened image of an image, notes that `follows` reads, and what was done. The places for what is written are made only where there
+/// is an image to write.
+pub fn hardened<'a, P: Places>(
     alloc: Global,
     places: &mut P,
-    out: &mut W,
-    aside: &H,
     asked: Hardening<'a>,
-) -> Result<u8, Failure<'a>>
-    ensures ok { IfOk result (Answered (HardenSays P.opens (making P.creates P.ends P.Writer.contents) places.old asked.entry places.new)
-        (W.contents out.old) (W.contents out.new)) }
+) -> Result<Attempt, Failure<'a>>
+    ensures ok { IfOk result (HardenSays P.opens (making P.creates P.ends P.Writer.contents) places.old asked.entry places.new) }
     ensures err { IfErr result (HardenFails P.opens (making P.creates P.ends P.Writer.contents) places.old asked.entry places.new) }
-    ensures begun { IfErr result (λ _. Unfinished (HardenSays P.opens (making P.creates P.ends P.Writer.contents) places.old asked.entry places.new)
-        (W.contents out.old) (W.contents out.new)) }
     ensures names { IfErr result (λ _. NotAllMade P.opens (making P.creates P.ends P.Writer.contents) places.old asked.entry places.new) }
 {
     matching_keeps_meaning();
     let program = match program_at(alloc, places, asked.input, asked.order)? {
         Ok(program) => program,
-        Err(error) => {
-            let answer = refuse_image(alloc, out, error);
-            after_image(aside, asked.input, asked.order);
-            return answer;
-        }
+        Err(error) => return Ok(Attempt::NoImage(error)),
     };
     let hardened = match answer_of(alloc, &program, asked) {
         Ok(hardened) => hardened,
-        Err(error) => return refuse_hardening(alloc, out, aside, asked, error),
+        Err(error) => return Ok(Attempt::NotHardened(error)),
     };
-    let beside = match beside_of(alloc, aside, &program, &hardened, asked) {
-        Ok(beside) => beside,
-        Err(Unshown::Memory) => {
-            return refuse_hardening(alloc, out, aside, asked, HardenError::Memory);
-        }
-        Err(Unshown::Differs(mismatch)) => return refuse_unshown(
-            alloc, out, aside, asked, mismatch,
-        ),
+    let Noted { beside, kept } = match notes_for(alloc, &program, &hardened, asked) {
+        Ok(noted) => noted,
+        Err(Unshown::Memory) => return Ok(Attempt::NotHardened(HardenError::Memory)),
+        Err(Unshown::Differs(mismatch)) => return Ok(Attempt::NotShown(mismatch)),
     };
     put(places, asked.output, &hardened.program)?;
     put_beside(places, asked, &beside)?;
-    say_left(alloc, out, beside.said)
+    Ok(Attempt::Hardened(kept))
 }

@@ -1,103 +1,82 @@
 //! `bpf infer IN LEN OUT`, and the same with `--deep`.
 
-ghost use Rattle.bpf_insn.specs.Written.{AppendsBeginning};
-ghost use Rattle.std.specs.Prelude.{◌≡◌, IfOk, IfErr};
-ghost use Rattle.std.specs.String.{string_bytes};
-ghost use Rattle.bpf_answers.specs.Answer.{Answered, Says, text_of, Unfinished};
-ghost use Rattle.bpf_answers.specs.Answer.Answer.{NotProposed};
+ghost use Rattle.std.specs.Prelude.{◌≡◌, ◌≤◌, IfOk, IfErr};
+ghost use Rattle.bpf_insn.specs.Limits.{max_context};
 ghost use Rattle.bpf_places.specs.Made.{making};
-ghost use Rattle.bpf_command.specs.Inferred.{InferSays, InferFails, NotInferred};
-ghost use Rattle.bpf_answers.specs.Told.{OutputFails};
+ghost use Rattle.bpf_command.specs.Inferred.{InferFails, InferSays, NotInferred, inference_answer};
 
-use crate::advice::{Sought, after_image, after_search};
-use crate::aside::Aside;
-use bpf_answers::{Failure, REFUSED, program_at, put, refuse_image, say};
-use bpf_infer::{InferError, Wanted, propose};
-use bpf_insn::{MAX_CONTEXT, Order};
+use bpf_answers::{Answer, Failure, program_at, put};
+use bpf_explain::may_be_found;
+use bpf_infer::{InferError, Wanted, Watch, propose};
+use bpf_insn::{DecodeError, MAX_CONTEXT};
 use bpf_places::Places;
-use std::alloc::{AllocError, Global};
-use std::io::Write;
+use bpf_request::Inferring;
+use std::alloc::Global;
 
-/// The line of a refusal.
-fn line_of(alloc: Global, error: InferError) -> Result<String, AllocError>
-    ensures { IfOk result (λ line. string_bytes line ≡ text_of (NotProposed error)) }
-{
-    match error {
-        InferError::Unstable { slot } => format!(in alloc; "no I1 at slot {slot}\n"),
-        InferError::NoBudget { slot } => format!(in alloc; "no I2 at slot {slot}\n"),
-        InferError::Recursion { slot } => format!(in alloc; "no I3 at slot {slot}\n"),
-        InferError::Fault { slot, condition } => {
-            let number = condition.number();
-            format!(in alloc; "no I4 (C{number}) at slot {slot}\n")
+/// What the search for a certificate came to.
+#[derive(Clone, Copy)]
+pub enum Inference {
+    /// What is at the name is no image.
+    NoImage(DecodeError),
+    /// No certificate was found; and whether the deep search may find one, where it wasn't made.
+    NotProposed { error: InferError, may_deepen: bool },
+    /// The certificate that was found stands at its name.
+    Proposed,
+}
+
+impl Inference {
+    /// What is answered of it.
+    pub fn answer(self) -> Answer
+        ensures { result ≡ inference_answer self }
+    {
+        match self {
+            Inference::NoImage(error) => Answer::NoImage(error),
+            Inference::NotProposed { error, .. } => Answer::NotProposed(error),
+            Inference::Proposed => Answer::Written,
         }
-        InferError::Memory => String::from_str(alloc, "no I5 at slot 0\n"),
     }
 }
 
-/// Prints why no certificate is proposed.
-fn refuse_inference<'a, W: Write>(
-    alloc: Global,
-    out: &mut W,
-    error: InferError,
-) -> Result<u8, Failure<'a>>
-    ensures ok { IfOk result (λ status. Says (NotProposed error) status (W.contents out.old) (W.contents out.new)) }
-    ensures err { IfErr result OutputFails }
-    ensures begun { IfErr result (λ _. AppendsBeginning (W.contents out.old) (W.contents out.new) (text_of (NotProposed error))) }
+/// Which certificate is sought.
+fn wanted_of(asked: Inferring<'_>) -> Wanted
+    ensures order { result.least ≤ result.most }
+    ensures short { result.most ≤ max_context }
+    ensures least { asked.entry.least ≤ asked.entry.most → asked.entry.most ≤ max_context → result.least ≡ asked.entry.least }
+    ensures most { asked.entry.most ≤ max_context → result.most ≡ asked.entry.most }
 {
-    let line = line_of(alloc, error)?;
-    say(out, line.as_str())?;
-    Ok(REFUSED)
+    // `respond` has seen that the lengths are in order, and the words' parser that they are at most the greatest.
+    let most = asked.most.min(MAX_CONTEXT as u32);
+    Wanted {
+        least: asked.least.min(most),
+        most,
+        deep: asked.deep,
+    }
 }
 
 /// Writes a certificate for an image and contexts of `least` to `most` bytes. The place for it is made only where there is
 /// one.
-pub fn inferred<'a, P: Places, W: Write, H: Aside>(
+pub fn inferred<'a, P: Places, H: Watch>(
     alloc: Global,
     places: &mut P,
-    out: &mut W,
-    aside: &mut H,
-    input: &'a str,
-    least: u32,
-    most: u32,
-    deep: bool,
-    output: &'a str,
-    order: Order,
-) -> Result<u8, Failure<'a>>
-    ensures ok { IfOk result (Answered (InferSays P.opens (making P.creates P.ends P.Writer.contents) order places.old input.entry.now least most
-        output.entry.now places.new) (W.contents out.old) (W.contents out.new)) }
-    ensures err { IfErr result (InferFails P.opens (making P.creates P.ends P.Writer.contents) order places.old input.entry.now least most
-        output.entry.now places.new) }
-    ensures begun { IfErr result (λ _. Unfinished (InferSays P.opens (making P.creates P.ends P.Writer.contents) order places.old input.entry.now
-        least most output.entry.now places.new) (W.contents out.old) (W.contents out.new)) }
-    ensures names { IfErr result (λ _. NotInferred P.opens (making P.creates P.ends P.Writer.contents) order places.old input.entry.now least most
-        output.entry.now places.new) }
+    watch: &mut H,
+    asked: Inferring<'a>,
+) -> Result<Inference, Failure<'a>>
+    ensures ok { IfOk result (InferSays P.opens (making P.creates P.ends P.Writer.contents) places.old asked.entry places.new) }
+    ensures err { IfErr result (InferFails P.opens (making P.creates P.ends P.Writer.contents) places.old asked.entry places.new) }
+    ensures names { IfErr result (λ _. NotInferred P.opens (making P.creates P.ends P.Writer.contents) places.old asked.entry places.new) }
 {
-    let program = match program_at(alloc, places, input, order)? {
+    let program = match program_at(alloc, places, asked.input, asked.order)? {
         Ok(program) => program,
-        Err(error) => {
-            let answer = refuse_image(alloc, out, error);
-            after_image(&*aside, input, order);
-            return answer;
-        }
+        Err(error) => return Ok(Inference::NoImage(error)),
     };
-    // `respond` has seen that the lengths are in order, and the words' parser that they are at most the greatest.
-    let most = most.min(MAX_CONTEXT as u32);
-    let wanted = Wanted {
-        least: least.min(most),
-        most,
-        deep,
-    };
-    match propose(alloc, &program, wanted, aside) {
-        Ok(certificate) => put(places, output, &certificate),
-        Err(error) => {
-            let status = refuse_inference(alloc, out, error)?;
-            let sought = Sought {
-                input,
-                wanted,
-                order,
-            };
-            after_search(&*aside, &program, sought, error);
-            Ok(status)
-        }
+    match propose(alloc, &program, wanted_of(asked), watch) {
+        Ok(certificate) => match put(places, asked.output, &certificate) {
+            Ok(_) => Ok(Inference::Proposed),
+            Err(failure) => Err(failure),
+        },
+        Err(error) => Ok(Inference::NotProposed {
+            error,
+            may_deepen: !asked.deep && may_be_found(&program, error),
+        }),
     }
 }

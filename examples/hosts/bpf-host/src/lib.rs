@@ -555,6 +555,8 @@ pub enum Form {
     Plain = 1,
     /// `struct seccomp_data`, 64 bytes.
     Seccomp = 2,
+    /// As blocks, with sixteen words of Linux's auxiliary data, in the image's order, between the length and the packet.
+    Extended = 3,
 }
 
 /// An image that was made of a filter of classic BPF, with a certificate.

@@ -1,4 +1,4 @@
-use Rattle.std.proofs.Common.{◌≡◌, ◌≢◌, [], ◌∷◌, subst, refl, inl, inr, rules}
+use Rattle.std.proofs.Common.{◌≢◌, [], ◌∷◌, subst, refl, inl, inr, rules}
 use Rattle.clap.specs.Words.{HasKind, Kinds, kind_of}
 use Rattle.clap.specs.declared.error.Error.{Error}
 use Rattle.clap.specs.declared.error.ErrorKind.TheVariants.{OutOfMemory}
@@ -18,8 +18,4 @@ at_fault (k ∷ ks) e h other = λ is. subst IsThere is tt
 pub returns-in-Err-2 : goal.returns-in-Err-2
 returns-in-Err-2 g c =
     let other : kind_of c.in-Err-2.error ≢ OutOfMemory = search rules in
-    inr (inr (inr (at_fault _ c.in-Err-2.error c.in-Err-2.ensures.judged other, refl, (refl, keeps _))))
-
-pub returns-else-status-eq-REFUSED : goal.returns-else-status-eq-REFUSED
-returns-else-status-eq-REFUSED g c =
-    inl (c.in-Ok.request, search rules, c.in-Ok.ensures.ok, search rules, search rules, keeps _)
+    inr (inl (at_fault _ c.in-Err-2.error c.in-Err-2.ensures.judged other, refl, (refl, keeps _)))

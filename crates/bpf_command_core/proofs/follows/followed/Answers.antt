@@ -1,7 +1,5 @@
 use Rattle.std.proofs.Common.{rules}
 use Rattle.bpf_answers.specs.Loaded.{LoadsImage}
-use Rattle.bpf_answers.specs.Answer.Answer.{NoOld}
-use Rattle.bpf_answers.proofs.MadeLemmas.{not_all_printed, unfinished_by}
 use Rattle.bpf_command_core.proofs.JudgedLemmas.{says_so}
 use Rattle.bpf_command_core.proofs.FollowedLemmas.{follows_fails, follows_says}
 use Rattle.bpf_command_core.specs.Followed.{FollowsSays}
@@ -12,7 +10,7 @@ returns-in-Ok-clause-ok g c =
     let at = g.P.Places.opens in
     let asked = c.args.asked in
     let loads : LoadsImage at asked.order c.args.places.now asked.original.now c.program_at.new.places c.in-Ok.old = search rules in
-    says_so c.rewritten.result _ _ _ (FollowsSays at c.args.places.now asked c.rewritten.new.places) (follows_says at c.args.places.now asked c.program_at.new.places c.rewritten.new.places c.in-Ok.old loads) c.rewritten.ensures.ok
+    says_so c.rewritten.result _ (FollowsSays at c.args.places.now asked c.rewritten.new.places) (follows_says at c.args.places.now asked c.program_at.new.places c.rewritten.new.places c.in-Ok.old loads) c.rewritten.ensures.ok
 
 pub returns-in-Ok-clause-err : goal.returns-in-Ok-clause-err
 returns-in-Ok-clause-err g c =
@@ -20,13 +18,3 @@ returns-in-Ok-clause-err g c =
     let asked = c.args.asked in
     let loads : LoadsImage at asked.order c.args.places.now asked.original.now c.program_at.new.places c.in-Ok.old = search rules in
     follows_fails c.rewritten.result at c.args.places.now asked c.program_at.new.places c.rewritten.new.places c.in-Ok.old loads c.rewritten.ensures.err
-
-pub returns-in-Ok-clause-begun : goal.returns-in-Ok-clause-begun
-returns-in-Ok-clause-begun g c =
-    let at = g.P.Places.opens in
-    let asked = c.args.asked in
-    let loads : LoadsImage at asked.order c.args.places.now asked.original.now c.program_at.new.places c.in-Ok.old = search rules in
-    unfinished_by c.rewritten.result _ _ _ (FollowsSays at c.args.places.now asked c.rewritten.new.places) (follows_says at c.args.places.now asked c.program_at.new.places c.rewritten.new.places c.in-Ok.old loads) c.rewritten.ensures.begun
-
-pub returns-in-Err-clause-begun : goal.returns-in-Err-clause-begun
-returns-in-Err-clause-begun g c = not_all_printed c.refuse_old.result _ _ (NoOld c.in-Err.error) _ c.refuse_old.ensures.begun (search rules)

@@ -1,7 +1,5 @@
 use Rattle.std.proofs.Common.{rules}
 use Rattle.bpf_answers.specs.Loaded.{LoadsImage}
-use Rattle.bpf_answers.specs.Answer.Answer.{NoNew}
-use Rattle.bpf_answers.proofs.MadeLemmas.{not_all_printed, unfinished_by}
 use Rattle.bpf_command_core.proofs.JudgedLemmas.{says_so}
 use Rattle.bpf_command_core.proofs.FollowedLemmas.{rewritten_fails, rewritten_says}
 use Rattle.bpf_command_core.specs.Followed.{RewrittenSays}
@@ -12,7 +10,7 @@ returns-in-Ok-clause-ok g c =
     let at = g.P.Places.opens in
     let asked = c.args.asked in
     let loads : LoadsImage at asked.order c.args.places.now asked.rewritten.now c.program_at.new.places c.in-Ok.new = search rules in
-    says_so c.noted.result _ _ _ (RewrittenSays at c.args.places.now asked c.noted.new.places c.args.old.now) (rewritten_says at c.args.places.now asked c.program_at.new.places c.noted.new.places c.args.old.now c.in-Ok.new loads) c.noted.ensures.ok
+    says_so c.noted.result _ (RewrittenSays at c.args.places.now asked c.noted.new.places c.args.old.now) (rewritten_says at c.args.places.now asked c.program_at.new.places c.noted.new.places c.args.old.now c.in-Ok.new loads) c.noted.ensures.ok
 
 pub returns-in-Ok-clause-err : goal.returns-in-Ok-clause-err
 returns-in-Ok-clause-err g c =
@@ -20,13 +18,3 @@ returns-in-Ok-clause-err g c =
     let asked = c.args.asked in
     let loads : LoadsImage at asked.order c.args.places.now asked.rewritten.now c.program_at.new.places c.in-Ok.new = search rules in
     rewritten_fails c.noted.result at c.args.places.now asked c.program_at.new.places c.noted.new.places c.in-Ok.new loads c.noted.ensures.err
-
-pub returns-in-Ok-clause-begun : goal.returns-in-Ok-clause-begun
-returns-in-Ok-clause-begun g c =
-    let at = g.P.Places.opens in
-    let asked = c.args.asked in
-    let loads : LoadsImage at asked.order c.args.places.now asked.rewritten.now c.program_at.new.places c.in-Ok.new = search rules in
-    unfinished_by c.noted.result _ _ _ (RewrittenSays at c.args.places.now asked c.noted.new.places c.args.old.now) (rewritten_says at c.args.places.now asked c.program_at.new.places c.noted.new.places c.args.old.now c.in-Ok.new loads) c.noted.ensures.begun
-
-pub returns-in-Err-clause-begun : goal.returns-in-Err-clause-begun
-returns-in-Err-clause-begun g c = not_all_printed c.refuse_new.result _ _ (NoNew c.in-Err.error) _ c.refuse_new.ensures.begun (search rules)

@@ -5,7 +5,7 @@ use Rattle.bpf_replay.specs.Lines.{IsTold}
 use Rattle.bpf_replay.specs.Stops.{Replayed}
 use Rattle.bpf_replay.specs.declared.turn.Stop.TheVariants.{Failed}
 use Rattle.bpf_command_core.specs.Replayed.{Gives}
-use Rattle.bpf_command_core.proofs.ReplayedLemmas.{Stopped, left_early, replay_fails, replay_leaves, replay_says}
+use Rattle.bpf_command_core.proofs.ReplayedLemmas.{Stopped, replay_fails, replay_leaves, replay_says}
 use Rattle.bpf_command_core.proofs.packets.replay_from.Goals as goal
 
 pub returns-in-Ok-clause-ok : goal.returns-in-Ok-clause-ok
@@ -16,7 +16,7 @@ returns-in-Ok-clause-ok g c =
     let at = g.W.Write.contents in
     let said : Stopped packets k known (at c.args.out.now) (at c.replay.new.out) c.in-Ok.stop
     = subst (λ n. (values : List ℕ) × (text : List ℕ) × Replayed (Gives k) (record { order = packets.order; size = n }) known c.in-Ok.stop values × IsTold packets.counts values text × Appends (at c.args.out.now) (at c.replay.new.out) text) c.most.ensures c.in-Ok.ensures.ok in
-    replay_says packets k known (at c.args.out.now) (at c.replay.new.out) (at c.ended.new.out) c.in-Ok.stop c.ended.result said c.ended.ensures.ok
+    replay_says packets k known (at c.args.out.now) (at c.replay.new.out) c.in-Ok.stop c.ended.result said c.ended.ensures.ok
 
 pub returns-in-Ok-clause-err : goal.returns-in-Ok-clause-err
 returns-in-Ok-clause-err g c =
@@ -26,7 +26,7 @@ returns-in-Ok-clause-err g c =
     let at = g.W.Write.contents in
     let said : Stopped packets k known (at c.args.out.now) (at c.replay.new.out) c.in-Ok.stop
     = subst (λ n. (values : List ℕ) × (text : List ℕ) × Replayed (Gives k) (record { order = packets.order; size = n }) known c.in-Ok.stop values × IsTold packets.counts values text × Appends (at c.args.out.now) (at c.replay.new.out) text) c.most.ensures c.in-Ok.ensures.ok in
-    replay_fails packets k known (at c.args.out.now) (at c.replay.new.out) (at c.ended.new.out) c.in-Ok.stop c.ended.result said c.ended.ensures.err
+    replay_fails packets k known (at c.args.out.now) (at c.replay.new.out) c.in-Ok.stop c.ended.result said c.ended.ensures.err
 
 pub returns-in-Ok-clause-begun : goal.returns-in-Ok-clause-begun
 returns-in-Ok-clause-begun g c =
@@ -36,7 +36,7 @@ returns-in-Ok-clause-begun g c =
     let at = g.W.Write.contents in
     let said : Stopped packets k known (at c.args.out.now) (at c.replay.new.out) c.in-Ok.stop
     = subst (λ n. (values : List ℕ) × (text : List ℕ) × Replayed (Gives k) (record { order = packets.order; size = n }) known c.in-Ok.stop values × IsTold packets.counts values text × Appends (at c.args.out.now) (at c.replay.new.out) text) c.most.ensures c.in-Ok.ensures.ok in
-    replay_leaves packets k known (at c.args.out.now) (at c.replay.new.out) (at c.ended.new.out) c.in-Ok.stop c.ended.result said c.ended.ensures.begun
+    replay_leaves packets k known (at c.args.out.now) (at c.replay.new.out) c.in-Ok.stop c.ended.result said c.ended.ensures.err
 
 pub returns-in-Err-Output-clause-begun : goal.returns-in-Err-Output-clause-begun
 returns-in-Err-Output-clause-begun g c =
@@ -44,8 +44,7 @@ returns-in-Err-Output-clause-begun g c =
     let packets = c.args.packets in
     let known = g.R.Read.remaining c.args.reader.now in
     let at = g.W.Write.contents in
-    left_early packets k known (at c.args.out.now) (at c.replay.new.out)
-    (subst (λ n. (values : List ℕ) × (text : List ℕ) × Replayed (Gives k) (record { order = packets.order; size = n }) known Failed values × IsTold packets.counts values text × AppendsBeginning (at c.args.out.now) (at c.replay.new.out) text) c.most.ensures c.in-Err-Output.ensures.err)
+    subst (λ n. (values : List ℕ) × (text : List ℕ) × Replayed (Gives k) (record { order = packets.order; size = n }) known Failed values × IsTold packets.counts values text × AppendsBeginning (at c.args.out.now) (at c.replay.new.out) text) c.most.ensures c.in-Err-Output.ensures.err
 
 pub returns-in-Err-Memory-clause-begun : goal.returns-in-Err-Memory-clause-begun
 returns-in-Err-Memory-clause-begun g c =
@@ -53,5 +52,4 @@ returns-in-Err-Memory-clause-begun g c =
     let packets = c.args.packets in
     let known = g.R.Read.remaining c.args.reader.now in
     let at = g.W.Write.contents in
-    left_early packets k known (at c.args.out.now) (at c.replay.new.out)
-    (subst (λ n. (values : List ℕ) × (text : List ℕ) × Replayed (Gives k) (record { order = packets.order; size = n }) known Failed values × IsTold packets.counts values text × AppendsBeginning (at c.args.out.now) (at c.replay.new.out) text) c.most.ensures c.in-Err-Memory.ensures.err)
+    subst (λ n. (values : List ℕ) × (text : List ℕ) × Replayed (Gives k) (record { order = packets.order; size = n }) known Failed values × IsTold packets.counts values text × AppendsBeginning (at c.args.out.now) (at c.replay.new.out) text) c.most.ensures c.in-Err-Memory.ensures.err

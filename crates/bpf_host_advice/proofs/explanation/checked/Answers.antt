@@ -18,4 +18,4 @@ returns-in-Ok-None c =
 
 pub returns-in-Ok-Some : goal.returns-in-Ok-Some
 returns-in-Ok-Some c =
-    by_flaw c.args.given.order c.args.given.image.now c.args.certificate.now c.in-Ok.program c.in-Ok-read.certificate c.in-Ok-Some.refusal c.of_check.result c.in-Ok.ensures.ok.0 c.in-Ok.ensures.ok.1 c.in-Ok.ensures.program c.in-Ok-read.ensures.ok (subst (λ o. IfSome o (λ r. IsLeastFlaw c.in-Ok.program c.in-Ok-read.certificate (refusal_slot r) (refusal_number r))) c.in-Ok-Some.field-0-is c.in-Ok-Some.ensures.refused) c.of_check.ensures
+    by_flaw c.args.given.order c.args.given.image.now c.args.certificate.now c.in-Ok.program c.in-Ok-read.certificate c.in-Ok-Some.refusal c.refusal_of.result c.in-Ok.ensures.ok.0 c.in-Ok.ensures.ok.1 c.in-Ok.ensures.program c.in-Ok-read.ensures.ok (subst (λ o. IfSome o (λ r. IsLeastFlaw c.in-Ok.program c.in-Ok-read.certificate (refusal_slot r) (refusal_number r))) c.in-Ok-Some.field-0-is c.in-Ok-Some.ensures.refused) c.refusal_of.ensures

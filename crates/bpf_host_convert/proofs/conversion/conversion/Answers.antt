@@ -6,7 +6,7 @@ use Rattle.bpf_host_convert.proofs.conversion.conversion.Goals as goal
 pub returns-clause-ok : goal.returns-clause-ok
 returns-clause-ok c =
     let given = c.args.given in
-    let asked = c.args.asked in
+    let wanted = c.args.wanted in
     let raws = c.deref.result.now in
     let made = c.in-Ok-converted.made in
     let bytes = c.in-Some.image.items in
@@ -17,6 +17,6 @@ returns-clause-ok c =
     let image_length : c.len.result ≡ length bytes = search rules in
     let text_length : c.len-2.result ≡ length text = search rules in
     let bound_is : c.steps.result ≡ made.certificate.steps = search rules in
-    converted_as given.order given.filter.now asked.form asked.size asked.order
+    converted_as given.order given.filter.now wanted
     (record { image_len = c.len.result; certificate_len = c.len-2.result; bound = c.steps.result }) raws made bytes text
     spelled c.in-Ok-converted.ensures.ok program bytes_are c.in-Some-text_of.ensures image_length text_length bound_is

@@ -1,4 +1,4 @@
-use Rattle.std.proofs.Common.{rules, ◌≡◌, ◌<◌, ◌≤◌, subst, sym, arith, length}
+use Rattle.std.proofs.Common.{rules, ◌<◌, ◌≤◌, subst, sym, length}
 use Rattle.bpf_classic.specs.Valid.{max_filter, IsFilter}
 use Rattle.bpf_classic.proofs.FilterLemmas.{are_faultless}
 use Rattle.bpf_classic.proofs.filter.Filter.new.Goals as goal

@@ -1,6 +1,6 @@
 use Rattle.std.proofs.Common.{◌≡◌, refl, false, inl, inr, rules}
 use Rattle.bpf_answers.specs.Loaded.{LoadsImage, NoSpaceFor}
-use Rattle.bpf_answers.specs.Answer.Answer.{NoImage}
+use Rattle.bpf_answers.specs.declared.answer.Answer.TheVariants.{NoImage}
 use Rattle.bpf_command_core.specs.Printed.{LoadedSays, YesSays}
 use Rattle.bpf_answers.proofs.LoadedLemmas.{read_of}
 use Rattle.bpf_command.proofs.ExplainedLemmas.{answered_so, loaded_so, printed_so}
@@ -10,7 +10,7 @@ pub returns-in-Err-clause-ok : goal.returns-in-Err-clause-ok
 returns-in-Err-clause-ok g c =
     let at = g.P.Places.opens in
     let none : NoSpaceFor at c.args.places.now c.args.input.now c.image_at.new.places c.in-Err.error = rw c.in-Err.is at c.in_ok-bytes.ensures.ok in
-    printed_so c.refuse_image.result (NoImage c.in-Err.error) _ _ (LoadedSays at c.args.order c.args.places.now c.args.input.now c.args.certificate.now c.image_at.new.places (λ bytes. YesSays false)) (inl none) c.refuse_image.ensures.ok
+    printed_so c.print.result (NoImage c.in-Err.error) _ _ (LoadedSays at c.args.order c.args.places.now c.args.input.now c.args.certificate.now c.image_at.new.places (λ bytes. YesSays false)) (inl none) c.print.ensures.ok
 
 pub returns-in-Ok-of-clause-ok : goal.returns-in-Ok-of-clause-ok
 returns-in-Ok-of-clause-ok g c =

@@ -1,7 +1,7 @@
 use Rattle.std.proofs.Common.{◌≡◌, refl, inl, rules}
 use Rattle.bpf_insn.specs.declared.refusal.DecodeError.TheVariants.{Memory}
 use Rattle.bpf_answers.specs.Loaded.{ImageRefused, LoadsImage, NoSpaceFor}
-use Rattle.bpf_answers.specs.Answer.Answer.{NoImage}
+use Rattle.bpf_answers.specs.declared.answer.Answer.TheVariants.{NoImage}
 use Rattle.bpf_command_core.specs.Printed.{ImageSays}
 use Rattle.bpf_command.specs.Explained.{TaskSays}
 use Rattle.bpf_answers.proofs.LoadedLemmas.{decoded, read_of}
@@ -12,7 +12,7 @@ pub returns-in-Err-clause-ok : goal.returns-in-Err-clause-ok
 returns-in-Err-clause-ok g c =
     let at = g.P.Places.opens in
     let none : NoSpaceFor at c.args.places.now c.args.input.now c.image_at.new.places c.in-Err.error = rw c.in-Err.is at c.in_ok-bytes.ensures.ok in
-    printed_so c.refuse_image.result (NoImage c.in-Err.error) _ _ (ImageSays at c.args.order c.args.places.now c.args.input.now c.image_at.new.places (TaskSays c.args.task)) (inl none) c.refuse_image.ensures.ok
+    printed_so c.print.result (NoImage c.in-Err.error) _ _ (ImageSays at c.args.order c.args.places.now c.args.input.now c.image_at.new.places (TaskSays c.args.task)) (inl none) c.print.ensures.ok
 
 pub returns-in-Ok-decode-clause-ok : goal.returns-in-Ok-decode-clause-ok
 returns-in-Ok-decode-clause-ok g c =
@@ -28,7 +28,7 @@ returns-in-Err-Memory-clause-ok g c =
     let at = g.P.Places.opens in
     let same : c.in-Ok.bytes.items ≡ c.deref.result.now = search rules in
     let read = read_of at (λ v. v.items) c.args.places.now c.args.input.now c.image_at.new.places c.in_ok-bytes.field-0 c.in-Ok.bytes c.deref.result.now c.in-Ok.is same c.in_ok-bytes.ensures.ok in
-    printed_so c.refuse_image-in-Err-Memory.result (NoImage Memory) _ _ (ImageSays at c.args.order c.args.places.now c.args.input.now c.image_at.new.places (TaskSays c.args.task)) (inl ((read.known, read.opened), refl)) c.refuse_image-in-Err-Memory.ensures.ok
+    printed_so c.print-in-Err-Memory.result (NoImage Memory) _ _ (ImageSays at c.args.order c.args.places.now c.args.input.now c.image_at.new.places (TaskSays c.args.task)) (inl ((read.known, read.opened), refl)) c.print-in-Err-Memory.ensures.ok
 
 pub returns : goal.returns
 returns g c =

@@ -1,6 +1,6 @@
 use Rattle.std.proofs.Common.{refl, false, rules}
 use Rattle.bpf_answers.specs.Loaded.{CertificateAt, CertificateRefused}
-use Rattle.bpf_answers.specs.Answer.Answer.{NoCertificate}
+use Rattle.bpf_answers.specs.declared.answer.Answer.TheVariants.{NoCertificate}
 use Rattle.bpf_command_core.specs.Printed.{JudgedSays, YesSays}
 use Rattle.bpf_cert.specs.declared.error.CertError.TheVariants.{Memory}
 use Rattle.bpf_command.proofs.ExplainedLemmas.{answered_so, judged_so, printed_so}
@@ -18,7 +18,7 @@ returns-in-Err-Memory-clause-ok g c =
     let at = g.P.Places.opens in
     let p = g.C.Code.program c.args.program.now in
     let refused : CertificateRefused at c.args.places.now c.args.certificate.now c.certificate_kept.new.places Memory = search rules in
-    printed_so c.refuse_certificate.result (NoCertificate Memory) _ _ (JudgedSays at c.args.places.now c.args.certificate.now c.certificate_kept.new.places p (YesSays false)) refused c.refuse_certificate.ensures.ok
+    printed_so c.print.result (NoCertificate Memory) _ _ (JudgedSays at c.args.places.now c.args.certificate.now c.certificate_kept.new.places p (YesSays false)) refused c.print.ensures.ok
 
 pub returns-in-Err-clause-ok : goal.returns-in-Err-clause-ok
 returns-in-Err-clause-ok g c =

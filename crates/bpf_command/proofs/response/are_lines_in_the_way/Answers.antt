@@ -1,5 +1,0 @@
-use Rattle.std.proofs.Common.{refl}
-use Rattle.bpf_command.proofs.response.are_lines_in_the_way.Goals as goal
-
-pub returns : goal.returns
-returns g c = (c.in_ok-output.output, c.in_ok-certificate.certificate, c.in_ok-notes.notes, c.in_ok-changes.changes, c.in_ok-output.ensures, c.in_ok-certificate.ensures, c.in_ok-notes.ensures, c.in_ok-changes.ensures, refl)

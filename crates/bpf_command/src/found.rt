@@ -1,0 +1,104 @@
+//! What each command gives back, as it is found.
+
+ghost use Rattle.std.specs.Prelude.{◌≡◌, IfOk, IfErr, Ok, Err};
+
+use crate::commands::{Assessed, Attempt, Inference};
+use crate::finding::Finding;
+use bpf_answers::{Answer, Failure, Reply};
+use bpf_command_convert::Conversion;
+
+/// What a command gives back.
+pub trait Found {
+    ghost use Rattle.std.specs.Prelude.{◌≡◌};
+    ghost use Rattle.bpf_command.specs.declared.finding.Finding.{Finding};
+
+    ghost finding: { Self → Finding };
+
+    /// What it found.
+    fn finding(self) -> Finding
+        ensures { result ≡ finding self };
+}
+
+impl Found for Answer {
+    ghost use Rattle.bpf_answers.specs.declared.reply.Reply.TheVariants.{One};
+    ghost use Rattle.bpf_command.specs.declared.finding.Finding.TheVariants.{Given};
+
+    ghost finding = { λ answer. Given (One answer) };
+
+    fn finding(self) -> Finding {
+        Finding::Given(Reply::One(self))
+    }
+}
+
+impl Found for Reply {
+    ghost use Rattle.bpf_command.specs.declared.finding.Finding.TheVariants.{Given};
+
+    ghost finding = { λ reply. Given reply };
+
+    fn finding(self) -> Finding {
+        Finding::Given(self)
+    }
+}
+
+/// The status of words that were printed.
+impl Found for u8 {
+    ghost use Rattle.bpf_answers.specs.declared.reply.Reply.TheVariants.{Each};
+    ghost use Rattle.bpf_command.specs.declared.finding.Finding.TheVariants.{Given};
+
+    ghost finding = { λ status. Given (Each status) };
+
+    fn finding(self) -> Finding {
+        Finding::Given(Reply::Each(self))
+    }
+}
+
+impl Found for Inference {
+    ghost use Rattle.bpf_command.specs.declared.finding.Finding.TheVariants.{Inferred};
+
+    ghost finding = { λ found. Inferred found };
+
+    fn finding(self) -> Finding {
+        Finding::Inferred(self)
+    }
+}
+
+impl Found for Attempt {
+    ghost use Rattle.bpf_command.specs.declared.finding.Finding.TheVariants.{Hardened};
+
+    ghost finding = { λ found. Hardened found };
+
+    fn finding(self) -> Finding {
+        Finding::Hardened(self)
+    }
+}
+
+impl Found for Assessed {
+    ghost use Rattle.bpf_command.specs.declared.finding.Finding.TheVariants.{Certified};
+
+    ghost finding = { λ found. Certified found };
+
+    fn finding(self) -> Finding {
+        Finding::Certified(self)
+    }
+}
+
+impl Found for Conversion {
+    ghost use Rattle.bpf_command.specs.declared.finding.Finding.TheVariants.{Converted};
+
+    ghost finding = { λ found. Converted found };
+
+    fn finding(self) -> Finding {
+        Finding::Converted(self)
+    }
+}
+
+/// What a command found, if it came to its end.
+pub fn finding_of<'a, T: Found>(given: Result<T, Failure<'a>>) -> Result<Finding, Failure<'a>>
+    ensures ok { IfOk given.entry (λ x. result ≡ Ok (T.finding x)) }
+    ensures err { IfErr given.entry (λ e. result ≡ Err e) }
+{
+    match given {
+        Ok(found) => Ok(found.finding()),
+        Err(failure) => Err(failure),
+    }
+}

@@ -1,7 +1,0 @@
-use Rattle.std.proofs.Common.{rules}
-use Rattle.bpf_answers.proofs.MadeLemmas.{not_all_printed}
-use Rattle.bpf_answers.specs.Answer.Answer.{NoImage}
-use Rattle.bpf_command_c.proofs.command.emitted.Goals as goal
-
-pub returns-in-Err-clause-begun : goal.returns-in-Err-clause-begun
-returns-in-Err-clause-begun g c = not_all_printed c.refuse_image.result _ _ (NoImage c.in-Err.error) _ c.refuse_image.ensures.begun (search rules)

@@ -1,0 +1,2 @@
+-- the listing of a filter's program
+pub mod Listed

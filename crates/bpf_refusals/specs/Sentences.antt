@@ -1,0 +1,49 @@
+-- What the refusals say whose crates have no table, by their numbers and without the place. There is no number 0.
+use Rattle.std.specs.Prelude.{◌++◌, ◌∷◌, ℕ, List, [], codes}
+use Rattle.bpf_harden_notes.specs.RefusalNumbers.{harden_texts}
+
+-- why a text is no program, A1 to A7
+abbrev pub text_texts : List (List ℕ)
+text_texts =
+    [] ∷
+    codes "the line has no form of the language" ∷
+    codes "a number on the line is out of its range" ∷
+    codes "a label on the line is defined a second time" ∷
+    codes "the label on the line is not defined" ∷
+    codes "the label on the line is too far away" ∷
+    codes "the instructions are no program" ∷
+    codes "out of memory" ∷
+    []
+
+-- why no program is made of a filter, B1 to B10
+abbrev pub filter_texts : List (List ℕ)
+filter_texts =
+    [] ∷
+    codes "a filter has from 1 to 4,096 instructions" ∷
+    codes "no instruction of classic BPF has this code" ∷
+    codes "the scratch memory has the cells M[0] to M[15] alone" ∷
+    codes "it divides by the constant 0, or shifts by a constant of 32 or more" ∷
+    codes "it leads past the last instruction, or back past the first" ∷
+    codes "a seccomp filter loads aligned words of its 64 bytes alone, by constant offsets, and has no mod and no jump back" ∷
+    codes "it loads one of Linux's extensions, which a packet doesn't hold" ∷
+    codes "the bytes end inside of an instruction: each has 8" ∷
+    codes "out of memory" ∷
+    codes "the checker doesn't take the certificate that was made" ∷
+    []
+
+-- why a program isn't hardened or certified, H1 to H15
+abbrev pub hardening_texts : List (List ℕ)
+hardening_texts =
+    harden_texts
+    ++ codes "the hardened program isn't shown to keep the meaning" ∷
+    codes "a run of the hardened program may take more instructions than are paid for" ∷
+    codes "the checker refuses the certificate that was found" ∷
+    []
+
+-- why a text is none of notes, N1 and N2
+abbrev pub notes_texts : List (List ℕ)
+notes_texts =
+    [] ∷
+    codes "the line has no form of a line of notes" ∷
+    codes "out of memory" ∷
+    []
