@@ -1,4 +1,4 @@
-use Rattle.std.proofs.Common.{ap, subst, ◌∙◌, ◌≤◌, arith}
+use Rattle.std.proofs.Common.{ap, subst, ◌∙◌, ◌≤◌}
 use Rattle.bpf_check.proofs.SearchLemmas.{back_rises, found_from}
 use Rattle.bpf_check.proofs.labels.few_from.Goals as goal
 
