@@ -1,9 +1,10 @@
 -- The old program's two runs and the new program's, side by side: what is known in front of an old instruction, and how extra ones keep it.
-use Rattle.std.proofs.Common.{◌≡◌, ℕ, zero, suc, ◌+◌, ◌*◌, ◌^◌, ◌<◌, ◌≤◌, ◌==◌, inl, inr, refl, sym, ap, ◌∙◌, subst, arith, Bool, true, false, [], length, Some, None, cond}
-use Rattle.std.specs.Prelude.{ℤ, get_or, option_and_then, option_map}
-use Rattle.std.specs.List.{AllByRecursion}
-use Rattle.std.proofs.lemmas.Bool.{cond-true, cond-false, eqb-true, cases_Bool}
-use Rattle.std.proofs.lemmas.Option.{same_Some, option_and_then_some, cond_some}
+use Rattle.std.proofs.Common.{◌≡◌, ℕ, zero, suc, ◌+◌, ◌*◌, ◌^◌, ◌<◌, ◌≤◌, ◌==◌, inl, inr, refl, sym, ap, ◌∙◌, subst, arith, Bool, true, false, [], ◌∷◌, length, Option, Some, None, cond}
+use Rattle.std.specs.Prelude.{ℤ, option_and_then, nat_le, ◌&&◌}
+use Rattle.std.specs.List.{AllByRecursion, list_all, list_any}
+use Rattle.std.specs.Option.{option_map_or}
+use Rattle.std.proofs.lemmas.Bool.{and_parts, eqb-true, leb-true, false≢true}
+use Rattle.std.proofs.lemmas.Option.{same_Some, option_and_then_some}
 use Rattle.bpf_insn.specs.Arithmetic.{extended}
 use Rattle.bpf_insn.specs.Effects.{is_frame_pointer}
 use Rattle.bpf_insn.specs.Image.{HasEncoding}
@@ -21,23 +22,28 @@ use Rattle.bpf_semantics.specs.Run.{Steps}
 use Rattle.bpf_semantics.specs.Flat.{FlatState, addresses, frame_start, flat_register, flat_next, flat_does}
 use Rattle.bpf_semantics.specs.Placement.{IsPlacement, Fits}
 use Rattle.bpf_semantics.specs.declared.value.Value.TheVariants.{Number}
-use Rattle.bpf_semantics.proofs.FlatBase.{stands}
+use Rattle.bpf_semantics.proofs.FlatBase.{stands as stands_in}
 use Rattle.bpf_semantics.proofs.NumberLemmas.{modulo_below}
 use Rattle.bpf_semantics.proofs.StateLemmas.{encoding_at, option_map_some}
 use Rattle.bpf_kept_law.specs.Far.{near, wide}
 use Rattle.bpf_kept_law.specs.Zero.{zero_start, zero_does, zero_step, zero_after, IsZeroState}
 use Rattle.bpf_kept_law.specs.Meaning.{most_for_one}
-use Rattle.bpf_kept_law.specs.Terms.{Form, Forms, Holds}
-use Rattle.bpf_kept_law.specs.Rules.{put_into, extra_form, with_form}
-use Rattle.bpf_kept_law.specs.Guards.{is_tested, passes, accesses_ahead, farthest_ahead}
-use Rattle.bpf_kept_law.specs.Matching.{Place, place_at, form_in, extra, extras, most_extras, Arrives}
+use Rattle.bpf_kept_law.specs.declared.notes.Fact.{Fact}
+use Rattle.bpf_kept_law.specs.declared.notes.Note.{Note}
+use Rattle.bpf_kept_law.specs.declared.notes.Change.{Change}
+use Rattle.bpf_kept_law.specs.declared.notes.Change.TheVariants.{Kept, Made}
+use Rattle.bpf_kept_law.specs.Terms.{Facts, DiffersBy, Holds, AllHold, value_in}
+use Rattle.bpf_kept_law.specs.Rules.{is_register, put_into, holds_behind}
+use Rattle.bpf_kept_law.specs.Guards.{Front, guarded, is_tested, passes, accesses_ahead, farthest_ahead}
+use Rattle.bpf_kept_law.specs.Matching.{note_at, most_extras, suits, arrives, makes, extra, adds, IsExtra}
 use Rattle.bpf_kept_law.proofs.FarLaw.{far_is_placement}
 use Rattle.bpf_kept_law.proofs.ZeroLaw.{zero_step_is_step}
-use Rattle.bpf_kept_law.proofs.HoldsLaw.{with_holds}
-use Rattle.bpf_kept_law.proofs.PutLaw.{put_value, put_does, AtOnce, end_left, extra_holds}
+use Rattle.bpf_kept_law.proofs.HoldsLaw.{any_holds, register_value}
+use Rattle.bpf_kept_law.proofs.PutLaw.{put_value, put_does, AtOnce, end_left}
+use Rattle.bpf_kept_law.proofs.ExtraLaw.{kept_hold, made_hold}
 use Rattle.bpf_kept_law.proofs.AheadLaw.{Inside, goes_on, all_inside}
 use Rattle.bpf_kept_law.proofs.GuardLaw.{guard_passes}
-use Rattle.bpf_kept_law.proofs.Simulation.{none_first, program, put_next, not_exit, no_returns, no_waiting, gives_hold, guard_number, guard_is, guard_does, test_turns, does_there, steps_on, fits_on}
+use Rattle.bpf_kept_law.proofs.Simulation.{none_first, program, put_next, not_exit, no_returns, no_waiting, guard_number, guard_is, guard_does, test_turns, does_there, steps_on, fits_on}
 use Rattle.bpf_kept_law.proofs.Setting.{Setting}
 
 module _ (given : Setting) where
@@ -77,11 +83,11 @@ module _ (given : Setting) where
     pub slots_same : fw.slot ≡ fn.slot
 
   -- the new program's state, and how it lies in flat states at both
-  pub record NewAt (forms : Forms) (n : ℕ) (s : State) (fn fw gn gw : FlatState) : Type 0 where
+  pub record NewAt (facts : Facts) (n : ℕ) (s : State) (fn fw gn gw : FlatState) : Type 0 where
     pub run : Steps new n (start context) s
     pub alone : s.waiting ≡ []
-    pub near_at : AtOnce near_own forms fn gn
-    pub wide_at : AtOnce wide_own forms fw gw
+    pub near_at : AtOnce near_own facts fn gn
+    pub wide_at : AtOnce wide_own facts fw gw
     pub near_fits : Fits order (near false) s gn
     pub wide_fits : Fits order (wide false) s gw
 
@@ -93,9 +99,9 @@ module _ (given : Setting) where
     pub near_fits : Fits order (near false) t hn
     pub wide_fits : Fits order (wide false) t hw
 
-  pub new_next : (forms : Forms) (n : ℕ) (s : State) (fn fw gn gw hn hw : FlatState) (m : Insn) → NewAt forms n s fn fw gn gw → insn_at js s.top.slot ≡ Some m → flat_does order m gn ≡ Some hn → flat_does order m gw ≡ Some hw → hn.returns ≡ gn.returns
+  pub new_next : (facts : Facts) (n : ℕ) (s : State) (fn fw gn gw hn hw : FlatState) (m : Insn) → NewAt facts n s fn fw gn gw → insn_at js s.top.slot ≡ Some m → flat_does order m gn ≡ Some hn → flat_does order m gw ≡ Some hw → hn.returns ≡ gn.returns
       → (t : State) × Step new s t × NewNext n hn hw t
-  new_next forms n s fn fw gn gw hn hw m at there en ew same =
+  new_next facts n s fn fw gn gw hn hw m at there en ew same =
       let x = steps_on order js new_valid context bytes short never n s m at.run there (not_exit order m gn hn en) in
       let nf = fits_on order js new_valid context bytes short never (near false) n s x.0 m gn hn near_placed at.run at.near_fits there x.1 en in
       let wf = fits_on order js new_valid context bytes short never (wide false) n s x.0 m gw hw wide_placed at.run at.wide_fits there x.1 ew in (
@@ -109,24 +115,36 @@ module _ (given : Setting) where
         },
       )
 
-  pub record Moved (made : Forms) (n : ℕ) (m : Insn) (s : State) (fn fw : FlatState) : Type 0 where
+  -- behind an extra instruction the new program has what a change leaves of the facts
+  pub record Extended (facts : Facts) (change : Change) (n : ℕ) (m : Insn) (s : State) (fn fw : FlatState) : Type 0 where
     pub state : State
     pub hn : FlatState
     pub hw : FlatState
-    pub new_at : NewAt made (suc n) state fn fw hn hw
+    pub new_at : (wants : Facts) → list_all (holds_behind facts change) wants ≡ true → NewAt wants (suc n) state fn fw hn hw
     pub at : state.top.slot ≡ s.top.slot + slot_count m
 
-  put_extra : (forms : Forms) (n : ℕ) (s : State) (fn fw gn gw : FlatState) (m : Insn) (r : Reg) (form : Form) → NewAt forms n s fn fw gn gw → insn_at js s.top.slot ≡ Some m → put_into m ≡ Some r → is_frame_pointer r ≡ false → extra_form forms m ≡ Some form → Moved (with_form forms r form) n m s fn fw
-  put_extra forms n s fn fw gn gw m r form at there into other ef =
+  pub new_kept : (facts wants : Facts) (n : ℕ) (s : State) (fn fw gn gw : FlatState) → NewAt facts n s fn fw gn gw → list_all (holds_behind facts Kept) wants ≡ true → NewAt wants n s fn fw gn gw
+  new_kept facts wants n s fn fw gn gw at e =
+      record {
+        run = at.run;
+        alone = at.alone;
+        near_at = record { high = at.near_at.high; flat = at.near_at.flat; new_flat = at.near_at.new_flat; memory_same = at.near_at.memory_same; pointers = at.near_at.pointers; all = kept_hold near_own fn facts wants gn.registers at.near_at.high at.near_at.all e };
+        wide_at = record { high = at.wide_at.high; flat = at.wide_at.flat; new_flat = at.wide_at.new_flat; memory_same = at.wide_at.memory_same; pointers = at.wide_at.pointers; all = kept_hold wide_own fw facts wants gw.registers at.wide_at.high at.wide_at.all e };
+        near_fits = at.near_fits;
+        wide_fits = at.wide_fits;
+      }
+
+  put_extra : (facts : Facts) (n : ℕ) (s : State) (fn fw gn gw : FlatState) (m : Insn) (r : Reg) → NewAt facts n s fn fw gn gw → insn_at js s.top.slot ≡ Some m → put_into m ≡ Some r → is_frame_pointer r ≡ false → Extended facts (Made r m) n m s fn fw
+  put_extra facts n s fn fw gn gw m r at there into other =
       let hn : FlatState = put_next order m r gn in
       let hw : FlatState = put_next order m r gw in
-      let x = new_next forms n s fn fw gn gw hn hw m at there (put_does order m r gn into) (put_does order m r gw into) refl in
+      let x = new_next facts n s fn fw gn gw hn hw m at there (put_does order m r gn into) (put_does order m r gw into) refl in
       let enc : HasEncoding m = encoding_at js new_valid.encoding s.top.slot m there in
       record {
         state = x.0;
         hn = hn;
         hw = hw;
-        new_at = record {
+        new_at = λ wants e. record {
           run = x.2.run;
           alone = x.2.alone;
           near_at = record {
@@ -135,7 +153,7 @@ module _ (given : Setting) where
             new_flat = x.2.near_fits.flat;
             memory_same = at.near_at.memory_same;
             pointers = (at.near_at.pointers.0, end_left near_own gn.registers r (put_value order m gn) other at.near_at.pointers.1);
-            all = with_holds near_own fn forms gn.registers r form (put_value order m gn) at.near_at.new_flat.eleven at.near_at.all (extra_holds order near_own forms m form fn gn enc at.near_at.pointers.1 at.near_at.all ef);
+            all = made_hold order near_own fn gn facts wants r m at.near_at.high enc at.near_at.new_flat.eleven at.near_at.pointers.1 at.near_at.all e;
           };
           wide_at = record {
             high = at.wide_at.high;
@@ -143,7 +161,7 @@ module _ (given : Setting) where
             new_flat = x.2.wide_fits.flat;
             memory_same = at.wide_at.memory_same;
             pointers = (at.wide_at.pointers.0, end_left wide_own gw.registers r (put_value order m gw) other at.wide_at.pointers.1);
-            all = with_holds wide_own fw forms gw.registers r form (put_value order m gw) at.wide_at.new_flat.eleven at.wide_at.all (extra_holds order wide_own forms m form fw gw enc at.wide_at.pointers.1 at.wide_at.all ef);
+            all = made_hold order wide_own fw gw facts wants r m at.wide_at.high enc at.wide_at.new_flat.eleven at.wide_at.pointers.1 at.wide_at.all e;
           };
           near_fits = x.2.near_fits;
           wide_fits = x.2.wide_fits;
@@ -161,118 +179,123 @@ module _ (given : Setting) where
       subst (λ slot. AllByRecursion (Inside (wide false) bounds.length (flat_register fw r)) (accesses_ahead old r farthest_ahead slot)) o.slots_same
       (subst (λ n. AllByRecursion (Inside (wide false) n (flat_register fw r)) (accesses_ahead old r farthest_ahead fw.slot)) long (all_inside (wide false) old old_valid context bounds v l wide_ends r farthest_ahead j fw o.wide_run o.wide_before o.wide_outer o.wide_state))
 
-  guarded : (forms : Forms) (j n : ℕ) (s : State) (fn fw gn gw : FlatState) (dst : Reg) (imm off : ℤ) → OldAt j fn fw → NewAt forms n s fn fw gn gw → insn_at js s.top.slot ≡ Some (JumpIf Gt W64 dst (Imm imm) off)
-      → is_tested (record { old = old; slot = fn.slot; length = bounds.length }) (extended imm) (forms (register_number dst)) ≡ true → Moved forms n (JumpIf Gt W64 dst (Imm imm) off) s fn fw
-  guarded forms j n s fn fw gn gw dst imm off o at there tested =
+  -- in front of which old instruction
+  abbrev pub front_at : ℕ → Front
+  front_at slot = record { old = old; slot = slot; length = bounds.length }
+
+  -- what is known of the register at both placements
+  abbrev pub Known : (fn fw gn gw : FlatState) (fact : Fact) → Type 0
+  Known fn fw gn gw fact = Holds near_own fn gn.registers fact × Holds wide_own fw gw.registers fact
+
+  both_known : (fn fw gn gw : FlatState) (facts : Facts) → AllHold near_own fn facts gn.registers → AllHold wide_own fw facts gw.registers → AllByRecursion (λ fact. Known fn fw gn gw fact) facts
+  both_known fn fw gn gw [] p q = tt
+  both_known fn fw gn gw (fact ∷ facts) p q = ((p.0, q.0), both_known fn fw gn gw facts p.1 q.1)
+
+  guard_goes : (facts : Facts) (j n : ℕ) (s : State) (fn fw gn gw : FlatState) (dst : Reg) (imm off : ℤ) → OldAt j fn fw → NewAt facts n s fn fw gn gw → insn_at js s.top.slot ≡ Some (JumpIf Gt W64 dst (Imm imm) off)
+      → list_any (guarded (front_at fn.slot) dst (extended imm)) facts ≡ true → Extended facts Kept n (JumpIf Gt W64 dst (Imm imm) off) s fn fw
+  guard_goes facts j n s fn fw gn gw dst imm off o at there tested =
       let m : Insn = JumpIf Gt W64 dst (Imm imm) off in
       let y = steps_on order js new_valid context bytes short never n s m at.run there (test_turns m Gt W64 dst (Imm imm) off refl) in
       let number = guard_number order s y.0 dst imm off (does_there order js new_valid context bytes short never s y.0 m there y.1) in
       let x : ℕ = number.0 in
-      let in_near : flat_register gn dst ≡ x = stands at.near_fits dst (Number x) number.1 in
-      let in_wide : flat_register gw dst ≡ x = stands at.wide_fits dst (Number x) number.1 in
+      let in_near : flat_register gn dst ≡ x = stands_in at.near_fits dst (Number x) number.1 in
+      let in_wide : flat_register gw dst ≡ x = stands_in at.wide_fits dst (Number x) number.1 in
       let small : x < addresses = subst (λ z. z < addresses) in_near (at.near_at.new_flat.numbers (register_number dst)) in
-      let le : x ≤ extended imm = guard_passes old bounds.length (extended imm) fn.slot x fn fw matches.short (modulo_below imm) small o.near_state.flat o.wide_state.flat (near_inside j fn fw o) (wide_inside j fn fw o) (forms (register_number dst))
-      (subst (λ z. Holds near_own fn (forms (register_number dst)) z) in_near (at.near_at.all (register_number dst) (reg_below dst))) (subst (λ z. Holds wide_own fw (forms (register_number dst)) z) in_wide (at.wide_at.all (register_number dst) (reg_below dst))) tested in
+      let known = any_holds (guarded (front_at fn.slot) dst (extended imm)) (λ fact. Known fn fw gn gw fact) facts tested (both_known fn fw gn gw facts at.near_at.all at.wide_at.all) in
+      let c = and_parts (is_register dst known.0.of) (is_tested (front_at fn.slot) (extended imm) known.0) known.1 in
+      let le : x ≤ extended imm = guard_passes old bounds.length (extended imm) fn.slot x fn fw matches.short (modulo_below imm) small o.near_state.flat o.wide_state.flat (near_inside j fn fw o) (wide_inside j fn fw o) known.0
+      (subst (λ z. DiffersBy near_own known.0.by (value_in fn.registers known.0.base) z) (register_value gn.registers dst known.0.of c.0 ∙ in_near) known.2.0)
+      (subst (λ z. DiffersBy wide_own known.0.by (value_in fw.registers known.0.base) z) (register_value gw.registers dst known.0.of c.0 ∙ in_wide) known.2.1) c.1 in
       let hn : FlatState = flat_next m gn in
       let hw : FlatState = flat_next m gw in
-      let z = new_next forms n s fn fw gn gw hn hw m at there (guard_does order dst imm off gn (subst (λ z. z ≤ extended imm) (sym in_near) le)) (guard_does order dst imm off gw (subst (λ z. z ≤ extended imm) (sym in_wide) le)) refl in
+      let z = new_next facts n s fn fw gn gw hn hw m at there (guard_does order dst imm off gn (subst (λ z. z ≤ extended imm) (sym in_near) le)) (guard_does order dst imm off gw (subst (λ z. z ≤ extended imm) (sym in_wide) le)) refl in
+      let next : NewAt facts (suc n) z.0 fn fw hn hw = record {
+        run = z.2.run;
+        alone = z.2.alone;
+        near_at = record { high = at.near_at.high; flat = at.near_at.flat; new_flat = z.2.near_fits.flat; memory_same = at.near_at.memory_same; pointers = at.near_at.pointers; all = at.near_at.all };
+        wide_at = record { high = at.wide_at.high; flat = at.wide_at.flat; new_flat = z.2.wide_fits.flat; memory_same = at.wide_at.memory_same; pointers = at.wide_at.pointers; all = at.wide_at.all };
+        near_fits = z.2.near_fits;
+        wide_fits = z.2.wide_fits;
+      } in
       record {
         state = z.0;
         hn = hn;
         hw = hw;
-        new_at = record {
-          run = z.2.run;
-          alone = z.2.alone;
-          near_at = record { high = at.near_at.high; flat = at.near_at.flat; new_flat = z.2.near_fits.flat; memory_same = at.near_at.memory_same; pointers = at.near_at.pointers; all = at.near_at.all };
-          wide_at = record { high = at.wide_at.high; flat = at.wide_at.flat; new_flat = z.2.wide_fits.flat; memory_same = at.wide_at.memory_same; pointers = at.wide_at.pointers; all = at.wide_at.all };
-          near_fits = z.2.near_fits;
-          wide_fits = z.2.wide_fits;
-        };
+        new_at = λ wants e. new_kept facts wants (suc n) z.0 fn fw hn hw next e;
         at = sym z.2.near_fits.slot_is ∙ ap (λ z. z + slot_count m) at.near_fits.slot_is;
       }
 
   -- ---- extra instructions
 
-  one_extra : (forms made : Forms) (j n : ℕ) (s : State) (fn fw gn gw : FlatState) (m : Insn) → OldAt j fn fw → NewAt forms n s fn fw gn gw → insn_at js s.top.slot ≡ Some m → extra (record { old = old; slot = fn.slot; length = bounds.length }) forms m ≡ Some made → Moved made n m s fn fw
-  one_extra forms made j n s fn fw gn gw m o at there e = by_pass (passes (record { old = old; slot = fn.slot; length = bounds.length }) forms m) refl e
+  one_extra : (facts : Facts) (change : Change) (j n : ℕ) (s : State) (fn fw gn gw : FlatState) (m : Insn) → OldAt j fn fw → NewAt facts n s fn fw gn gw → insn_at js s.top.slot ≡ Some m → extra (front_at fn.slot) facts m ≡ Some change → Extended facts change n m s fn fw
+  unfolding extra
+  one_extra facts change j n s fn fw gn gw m o at there e = by_pass (passes (front_at fn.slot) facts m) refl e
     where
-      by_pass : (b : Bool) → passes (record { old = old; slot = fn.slot; length = bounds.length }) forms m ≡ b → cond b (Some forms) (option_and_then (λ r. cond (is_frame_pointer r) None (option_map (with_form forms r) (extra_form forms m))) (put_into m)) ≡ Some made → Moved made n m s fn fw
+      by_pass : (b : Bool) → passes (front_at fn.slot) facts m ≡ b → cond b (Some Kept) (makes m) ≡ Some change → Extended facts change n m s fn fw
       by_pass true eb h =
-          let g = guard_is (record { old = old; slot = fn.slot; length = bounds.length }) forms m eb in
-          subst (λ made. Moved made n m s fn fw) (same_Some forms made h)
-          (subst (λ m. Moved forms n m s fn fw) (sym g.is) (guarded forms j n s fn fw gn gw g.dst g.imm g.off o at (there ∙ ap Some g.is) g.tested))
-      by_pass false eb h = option_and_then_some _ (put_into m) made h (λ r er h1.
-          let c = none_first (is_frame_pointer r) (option_map (with_form forms r) (extra_form forms m)) made h1 in
-          let x = option_map_some (with_form forms r) (extra_form forms m) made c.1 in
-          subst (λ made. Moved made n m s fn fw) x.2 (put_extra forms n s fn fw gn gw m r x.0 at there er c.0 x.1))
+          let g = guard_is (front_at fn.slot) facts m eb in
+          subst (λ change. Extended facts change n m s fn fw) (same_Some Kept change h)
+          (subst (λ m. Extended facts Kept n m s fn fw) (sym g.is) (guard_goes facts j n s fn fw gn gw g.dst g.imm g.off o at (there ∙ ap Some g.is) g.tested))
+      by_pass false eb h = option_and_then_some _ (put_into m) change h (λ r er h1.
+          let c = none_first (is_frame_pointer r) (Some (Made r m)) change h1 in
+          subst (λ change. Extended facts change n m s fn fw) (same_Some (Made r m) change c.1) (put_extra facts n s fn fw gn gw m r at there er c.0))
 
-  pub record Gone (made : Forms) (most : ℕ) (fn fw : FlatState) (to : ℕ) : Type 0 where
-    pub count : ℕ
-    pub few : count ≤ most
-    pub state : State
-    pub gn : FlatState
-    pub gw : FlatState
-    pub new_at : NewAt made count state fn fw gn gw
-    pub at : state.top.slot ≡ to
-
-  there_already : (forms made : Forms) (fuel slot to n : ℕ) (s : State) (fn fw gn gw : FlatState) → NewAt forms n s fn fw gn gw → s.top.slot ≡ slot → slot ≡ to → forms ≡ made → Gone made (n + fuel) fn fw to
-  there_already forms made fuel slot to n s fn fw gn gw at es e same =
-      record { count = n; few = omega arith; state = s; gn = gn; gw = gw; new_at = subst (λ forms. NewAt forms n s fn fw gn gw) same at; at = es ∙ e }
-
-  pub extras_go : (fuel slot to : ℕ) (forms made : Forms) (j n : ℕ) (s : State) (fn fw gn gw : FlatState) → OldAt j fn fw → NewAt forms n s fn fw gn gw → s.top.slot ≡ slot
-      → extras new (record { old = old; slot = fn.slot; length = bounds.length }) fuel slot to forms ≡ Some made → Gone made (n + fuel) fn fw to
-  unfolding extras
-  extras_go zero slot to forms made j n s fn fw gn gw o at es e =
-      let h = cond_some (slot == to) forms made e in there_already forms made 0 slot to n s fn fw gn gw at es (eqb-true slot to h.0) h.1
-  extras_go (suc fuel) slot to forms made j n s fn fw gn gw o at es e = elim (cases_Bool (slot == to)) [
-    | inl here ↦ there_already forms made (suc fuel) slot to n s fn fw gn gw at es (eqb-true slot to here) (same_Some forms made (sym (cond-true (slot == to) (Some forms) _ here) ∙ e))
-    | inr before ↦ option_and_then_some _ (insn_at js slot) made (sym (cond-false (slot == to) (Some forms) _ before) ∙ e) (λ m there e1. option_and_then_some _ (extra (record { old = old; slot = fn.slot; length = bounds.length }) forms m) made e1 (λ forms' em e2.
-        let x = one_extra forms forms' j n s fn fw gn gw m o at (ap (insn_at js) es ∙ there) em in
-        let y = extras_go fuel (slot + slot_count m) to forms' made j (suc n) x.state fn fw x.hn x.hw o x.new_at (x.at ∙ ap (λ z. z + slot_count m) es) e2 in
-        let few = y.few in
-        record { count = y.count; few = omega arith; state = y.state; gn = y.gn; gw = y.gw; new_at = y.new_at; at = y.at }))
-  ]
-
-  -- ---- in front of an old instruction
+  -- ---- at a slot of which something is noted
 
   pub record Ready (j : ℕ) : Type 0 where
     pub n : ℕ
-    pub few : n ≤ most_extras + most_for_one * j
     pub state : State
     pub fn : FlatState
     pub fw : FlatState
     pub gn : FlatState
     pub gw : FlatState
-    pub place : Place
-    pub noted : place_at notes fn.slot ≡ Some place
+    pub note : Note
+    pub noted : note_at notes state.top.slot ≡ Some note
+    pub old_is : fn.slot ≡ note.old
+    pub few : n + note.extras ≤ most_extras + most_for_one * j
     pub old_at : OldAt j fn fw
-    pub new_at : NewAt (form_in place.forms) n state fn fw gn gw
-    pub at : state.top.slot ≡ place.first
+    pub new_at : NewAt note.facts n state fn fw gn gw
 
-  pub arrived : (forms : Forms) (j n : ℕ) (s : State) (fn fw gn gw : FlatState) → n ≤ most_extras + most_for_one * j → OldAt j fn fw → NewAt forms n s fn fw gn gw → Arrives notes fn.slot s.top.slot forms → Ready j
-  arrived forms j n s fn fw gn gw few o at a =
-      let wanted : Forms = form_in a.place.forms in
-      record {
-        n = n;
-        few = few;
-        state = s;
-        fn = fn;
-        fw = fw;
-        gn = gn;
-        gw = gw;
-        place = a.place;
-        noted = a.noted;
-        old_at = o;
-        new_at = record {
-          run = at.run;
-          alone = at.alone;
-          near_at = record { high = at.near_at.high; flat = at.near_at.flat; new_flat = at.near_at.new_flat; memory_same = at.near_at.memory_same; pointers = at.near_at.pointers; all = λ n lt. gives_hold near_own fn (forms n) (wanted n) (get_or gn.registers n 0) at.near_at.high (at.near_at.all n lt) (a.gives n lt) };
-          wide_at = record { high = at.wide_at.high; flat = at.wide_at.flat; new_flat = at.wide_at.new_flat; memory_same = at.wide_at.memory_same; pointers = at.wide_at.pointers; all = λ n lt. gives_hold wide_own fw (forms n) (wanted n) (get_or gw.registers n 0) at.wide_at.high (at.wide_at.all n lt) (a.gives n lt) };
-          near_fits = at.near_fits;
-          wide_fits = at.wide_fits;
-        };
-        at = a.slot_is;
-      }
+  -- an edge leads there
+  pub arrived : (facts : Facts) (change : Change) (j n slot most new_slot : ℕ) (s : State) (fn fw gn gw : FlatState) → arrives notes facts change slot most new_slot ≡ true → s.top.slot ≡ new_slot → fn.slot ≡ slot → n + most ≤ most_extras + most_for_one * j
+      → OldAt j fn fw → ((wants : Facts) → list_all (holds_behind facts change) wants ≡ true → NewAt wants n s fn fw gn gw) → (r : Ready j) × (r.note.extras ≤ most)
+  unfolding arrives
+  arrived facts change j n slot most new_slot s fn fw gn gw e at old_at few o new_at = by_note (note_at notes new_slot) refl e
+    where
+      by_note : (c : Option Note) → note_at notes new_slot ≡ c → option_map_or (suits facts change slot most) c false ≡ true → (r : Ready j) × (r.note.extras ≤ most)
+      by_note None ec h = absurd (false≢true h)
+      by_note (Some note) ec h =
+          let a = and_parts (note.old == slot) (nat_le note.extras most && list_all (holds_behind facts change) note.facts) h in
+          let b = and_parts (nat_le note.extras most) (list_all (holds_behind facts change) note.facts) a.1 in
+          let little : note.extras ≤ most = leb-true note.extras most b.0 in (
+            record {
+              n = n;
+              state = s;
+              fn = fn;
+              fw = fw;
+              gn = gn;
+              gw = gw;
+              note = note;
+              noted = ap (note_at notes) at ∙ ec;
+              old_is = old_at ∙ sym (eqb-true note.old slot a.0);
+              few = omega arith;
+              old_at = o;
+              new_at = new_at note.facts b.1;
+            },
+            little,
+          )
+
+  -- an extra instruction
+  pub extra_step : (j left : ℕ) (r : Ready j) → r.note.extras ≡ suc left → IsExtra old new notes bounds.length r.state.top.slot r.note left → (q : Ready j) × (q.note.extras ≤ left)
+  unfolding adds
+  extra_step j left r e x = by_change (extra (front_at r.note.old) r.note.facts x.moved) refl x.good
+    where
+      by_change : (c : Option Change) → extra (front_at r.note.old) r.note.facts x.moved ≡ c → option_map_or (λ change. arrives notes r.note.facts change r.note.old left (r.state.top.slot + slot_count x.moved)) c false ≡ true → (q : Ready j) × (q.note.extras ≤ left)
+      by_change None ec h = absurd (false≢true h)
+      by_change (Some change) ec h =
+          let y = one_extra r.note.facts change j r.n r.state r.fn r.fw r.gn r.gw x.moved r.old_at r.new_at x.moved_is (subst (λ slot. extra (front_at slot) r.note.facts x.moved ≡ Some change) (sym r.old_is) ec) in
+          let few = r.few in
+          arrived r.note.facts change j (suc r.n) r.note.old left (r.state.top.slot + slot_count x.moved) y.state r.fn r.fw y.hn y.hw h y.at r.old_is (omega arith) r.old_at y.new_at
 
   -- ---- one instruction of the old program
 

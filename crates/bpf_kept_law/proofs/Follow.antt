@@ -1,34 +1,45 @@
 -- Each instruction of the old program is followed by one of the new one's, to the end.
-use Rattle.std.proofs.Common.{◌≡◌, ℕ, zero, suc, ◌+◌, ◌*◌, ◌^◌, ◌<◌, ◌≤◌, ◌⊎◌, inl, inr, refl, sym, ap, ◌∙◌, subst, arith, Bool, true, false, length, Option, Some, None}
-use Rattle.std.specs.Prelude.{get_or, option_and_then}
-use Rattle.std.proofs.lemmas.Bool.{cases_order}
-use Rattle.std.proofs.lemmas.Option.{none-some, same_Some}
+use Rattle.std.proofs.Common.{◌≡◌, ℕ, zero, suc, ◌+◌, ◌*◌, ◌^◌, ◌<◌, ◌≤◌, ◌⊎◌, inl, inr, refl, sym, ap, ◌∙◌, subst, arith, Bool, true, false, length, Option, Some, None, cond}
+use Rattle.std.specs.Prelude.{ℤ, pos, ◌↔◌, IsTrue, ◌&&◌, ◌||◌, option_and_then, option_map}
+use Rattle.std.specs.Option.{option_map_or}
+use Rattle.std.proofs.lemmas.Bool.{and_parts, or_cases, cases_order, false≢true}
+use Rattle.std.proofs.lemmas.Option.{none-some, same_Some, option_and_then_some}
 use Rattle.bpf_insn.specs.Arithmetic.{jumps}
 use Rattle.bpf_insn.specs.Image.{HasEncoding}
 use Rattle.bpf_insn.specs.Instruction.{Instructions, slot_count, insn_at, target}
+use Rattle.bpf_insn.specs.Effects.{is_frame_pointer}
+use Rattle.bpf_insn.specs.declared.instruction.Reg.{Reg}
 use Rattle.bpf_insn.specs.declared.instruction.Reg.TheVariants.{R0}
+use Rattle.bpf_insn.specs.declared.instruction.Operand.{Operand}
+use Rattle.bpf_insn.specs.declared.instruction.Operand.TheVariants.{Reg as FromReg}
+use Rattle.bpf_insn.specs.declared.instruction.Width.{Width}
+use Rattle.bpf_insn.specs.declared.instruction.Width.TheVariants.{W64}
+use Rattle.bpf_insn.specs.declared.instruction.Cond.{Cond}
 use Rattle.bpf_insn.specs.declared.instruction.Insn.{Insn}
-use Rattle.bpf_insn.specs.declared.instruction.Insn.TheVariants.{JumpIf, Exit}
+use Rattle.bpf_insn.specs.declared.instruction.Insn.TheVariants.{Store, StoreImm, Ja, JaLong, JumpIf, Exit}
 use Rattle.bpf_semantics.specs.State.{State}
 use Rattle.bpf_semantics.specs.Step.{Finish}
 use Rattle.bpf_semantics.specs.Flat.{FlatState, flat_register, flat_operand, flat_at, flat_next, flat_does}
-use Rattle.bpf_semantics.proofs.FlatBase.{stands}
 use Rattle.bpf_semantics.proofs.FlatInsn.{number_stands}
 use Rattle.bpf_semantics.proofs.StateLemmas.{encoding_at, option_map_some}
 use Rattle.bpf_kept_law.specs.Far.{near, wide}
 use Rattle.bpf_kept_law.specs.Zero.{zero_start, zero_does, zero_step, zero_after}
 use Rattle.bpf_kept_law.specs.Meaning.{EndsAt, most_for_one}
-use Rattle.bpf_kept_law.specs.Terms.{Forms, Holds}
-use Rattle.bpf_kept_law.specs.Rules.{behind}
-use Rattle.bpf_kept_law.specs.Matching.{Place, place_at, form_in, most_extras, Arrives, Puts, Jumps, Tests, Stores, Exits, StandsForExit}
-use Rattle.bpf_kept_law.proofs.HoldsLaw.{same_value, behind_holds}
-use Rattle.bpf_kept_law.proofs.PutLaw.{put_value, put_does, IsEnd, end_left, puts_differ}
-use Rattle.bpf_kept_law.proofs.TestLaw.{tests_agree}
+use Rattle.bpf_kept_law.specs.declared.notes.Term.{Term}
+use Rattle.bpf_kept_law.specs.declared.notes.Change.{Change}
+use Rattle.bpf_kept_law.specs.declared.notes.Change.TheVariants.{Kept, Put}
+use Rattle.bpf_kept_law.specs.Terms.{Facts, AllHold}
+use Rattle.bpf_kept_law.specs.Rules.{same_register, is_same, put_into, turned_test, are_offsets, are, by_order, undirected, is_jump, is_kept, keeps, put_by, put, puts, paired, stores_alike}
+use Rattle.bpf_kept_law.specs.Matching.{most_extras, arrives, led, falls, leads_to, leads, goes, stands, IsBody, IsEither, StandsForExit}
+use Rattle.bpf_kept_law.proofs.HoldsLaw.{same_value, still_holds}
+use Rattle.bpf_kept_law.proofs.PutLaw.{put_value, put_does, AtOnce, IsEnd, end_left, register_is, put_both}
+use Rattle.bpf_kept_law.proofs.ExtraLaw.{put_hold}
+use Rattle.bpf_kept_law.proofs.TestLaw.{same_test, order_test}
 use Rattle.bpf_kept_law.proofs.AheadLaw.{earlier, onward, goes_on, ends_here}
 use Rattle.bpf_kept_law.proofs.StoreLaw.{stored}
-use Rattle.bpf_kept_law.proofs.Simulation.{more, in_time, program, put_next, not_exit, zero_plain, still_holds, answers, test_jumps, test_jumps_back, test_falls, jump_does, jump_back, test_back, jump_turns, test_turns, put_turns, does_there, steps_on, ends_on, answers_same}
+use Rattle.bpf_kept_law.proofs.Simulation.{more, in_time, none_first, program, put_next, not_exit, zero_plain, answers, test_jumps, test_jumps_back, test_falls, jump_does, jump_back, test_back, jump_turns, test_turns, put_turns, does_there, steps_on, ends_on, answers_same, same_tests, same_exit}
 use Rattle.bpf_kept_law.proofs.Setting.{Setting}
-use Rattle.bpf_kept_law.proofs.Beside.{OldAt, NewAt, new_next, extras_go, Ready, arrived, near_does, old_next, near_own, wide_own}
+use Rattle.bpf_kept_law.proofs.Beside.{OldAt, NewAt, new_next, new_kept, Ready, arrived, extra_step, near_does, old_next, near_own, wide_own}
 
 module _ (given : Setting) where
   open given use {order, is, js, notes, bounds, old_valid, new_valid, matches, context, bytes, long, never, v, k, l, near_ends, wide_ends}
@@ -42,185 +53,212 @@ module _ (given : Setting) where
   short : length context < 2 ^ 32
   short = subst (λ n. n < 2 ^ 32) (sym long) matches.short
 
+  -- in front of the old instruction itself, and what stands for it
+  record At (j : ℕ) (i moved : Insn) : Type 0 where
+    ready : Ready given j
+    body : ready.note.extras ≡ 0
+    here : insn_at is ready.fn.slot ≡ Some i
+    there : insn_at js ready.state.top.slot ≡ Some moved
+
+  few_at : (j : ℕ) (i moved : Insn) (at : At j i moved) → at.ready.n ≤ most_extras + most_for_one * j
+  few_at j i moved at = let few = at.ready.few in let body = at.body in omega arith
+
   -- both put a number into a register
-  by_puts : (j n : ℕ) (forms : Forms) (place : Place) (s : State) (fn fw gn gw : FlatState) (i moved : Insn) → n ≤ (most_extras + most_for_one * j) + most_extras → OldAt given j fn fw → NewAt given forms n s fn fw gn gw → s.top.slot ≡ place.body
-      → insn_at is fn.slot ≡ Some i → insn_at js place.body ≡ Some moved → Puts notes fn.slot place.body forms i moved → Ready given (suc j)
-  by_puts j n forms place s fn fw gn gw i moved few o at here there stands p =
-      let hn : FlatState = put_next order i p.into fn in
-      let hw : FlatState = put_next order i p.into fw in
-      let kn : FlatState = put_next order moved p.into gn in
-      let kw : FlatState = put_next order moved p.into gw in
-      let enc : HasEncoding i = encoding_at is old_valid.encoding fn.slot i there in
-      let o' = old_next given j fn fw hn hw i o there (zero_plain (near false) order i fn hn (put_does order i p.into fn p.old_into)) (zero_plain (wide false) order i fw hw (put_does order i p.into fw p.old_into)) (put_turns i p.into p.old_into) refl refl (ap (λ z. z + slot_count i) o.slots_same) in
-      let x = new_next given forms n s fn fw gn gw kn kw moved at (ap (insn_at js) here ∙ stands) (put_does order moved p.into gn p.new_into) (put_does order moved p.into gw p.new_into) refl in
-      let to : x.0.top.slot ≡ place.body + slot_count moved = sym x.2.near_fits.slot_is ∙ ap (λ z. z + slot_count moved) (at.near_fits.slot_is ∙ here) in
-      arrived given (behind forms p.into p.result) (suc j) (suc n) x.0 hn hw kn kw (more j n few) o'
-      (record {
+  by_puts : (j : ℕ) (i moved : Insn) (at : At j i moved) (same : Bool) (r : Reg) (by : Option Term) → IsTrue same ↔ (undirected moved ≡ undirected i) → put_into i ≡ Some r → is_frame_pointer r ≡ false → put_by at.ready.note.facts same i moved ≡ Some by
+      → arrives notes at.ready.note.facts (put r by) (at.ready.fn.slot + slot_count i) most_extras (at.ready.state.top.slot + slot_count moved) ≡ true → Ready given (suc j)
+  by_puts j i moved at same r by same_is into no_pointer result goes =
+      let q = at.ready in
+      let o = q.old_at in
+      let new_at = q.new_at in
+      let facts : Facts = q.note.facts in
+      let enc : HasEncoding i = encoding_at is old_valid.encoding q.fn.slot i at.here in
+      let pn = put_both order (near_own given) facts same i moved r by q.fn q.gn same_is into enc new_at.near_at result in
+      let pw = put_both order (wide_own given) facts same i moved r by q.fw q.gw same_is into enc new_at.wide_at result in
+      let hn : FlatState = put_next order i r q.fn in
+      let hw : FlatState = put_next order i r q.fw in
+      let kn : FlatState = put_next order moved r q.gn in
+      let kw : FlatState = put_next order moved r q.gw in
+      let o' = old_next given j q.fn q.fw hn hw i o at.here (zero_plain (near false) order i q.fn hn (put_does order i r q.fn into)) (zero_plain (wide false) order i q.fw hw (put_does order i r q.fw into)) (put_turns i r into) refl refl (ap (λ z. z + slot_count i) o.slots_same) in
+      let x = new_next given facts q.n q.state q.fn q.fw q.gn q.gw kn kw moved new_at at.there (put_does order moved r q.gn pn.into) (put_does order moved r q.gw pn.into) refl in
+      let to : x.0.top.slot ≡ q.state.top.slot + slot_count moved = sym x.2.near_fits.slot_is ∙ ap (λ z. z + slot_count moved) new_at.near_fits.slot_is in
+      (arrived given facts (put r by) (suc j) (suc q.n) (q.fn.slot + slot_count i) most_extras (q.state.top.slot + slot_count moved) x.0 hn hw kn kw goes to refl (more j q.n (few_at j i moved at)) o'
+      (λ wants e. record {
         run = x.2.run;
         alone = x.2.alone;
         near_at = record {
-          high = at.near_at.high;
+          high = new_at.near_at.high;
           flat = o'.near_state.flat;
           new_flat = x.2.near_fits.flat;
-          memory_same = at.near_at.memory_same;
-          pointers = (end_left (near_own given) fn.registers p.into (put_value order i fn) p.no_pointer at.near_at.pointers.0, end_left (near_own given) gn.registers p.into (put_value order moved gn) p.no_pointer at.near_at.pointers.1);
-          all = behind_holds (near_own given) (flat_next i fn) forms gn.registers p.into p.result (put_value order i fn) (put_value order moved gn) at.near_at.flat.eleven at.near_at.new_flat.eleven
-              (λ n lt. still_holds (near_own given) fn (flat_next i fn) (forms n) (get_or gn.registers n 0) refl (at.near_at.all n lt)) (puts_differ order (near_own given) forms i moved p.into fn gn p.result p.old_into enc at.near_at p.alike);
+          memory_same = new_at.near_at.memory_same;
+          pointers = (end_left (near_own given) q.fn.registers r (put_value order i q.fn) no_pointer new_at.near_at.pointers.0, end_left (near_own given) q.gn.registers r (put_value order moved q.gn) no_pointer new_at.near_at.pointers.1);
+          all = put_hold (near_own given) (flat_next i q.fn) facts wants q.gn.registers r by (put_value order i q.fn) (put_value order moved q.gn) new_at.near_at.high new_at.near_at.flat.eleven new_at.near_at.new_flat.eleven
+              (still_holds (near_own given) q.fn (flat_next i q.fn) q.gn.registers facts refl new_at.near_at.all) pn.value e;
         };
         wide_at = record {
-          high = at.wide_at.high;
+          high = new_at.wide_at.high;
           flat = o'.wide_state.flat;
           new_flat = x.2.wide_fits.flat;
-          memory_same = at.wide_at.memory_same;
-          pointers = (end_left (wide_own given) fw.registers p.into (put_value order i fw) p.no_pointer at.wide_at.pointers.0, end_left (wide_own given) gw.registers p.into (put_value order moved gw) p.no_pointer at.wide_at.pointers.1);
-          all = behind_holds (wide_own given) (flat_next i fw) forms gw.registers p.into p.result (put_value order i fw) (put_value order moved gw) at.wide_at.flat.eleven at.wide_at.new_flat.eleven
-              (λ n lt. still_holds (wide_own given) fw (flat_next i fw) (forms n) (get_or gw.registers n 0) refl (at.wide_at.all n lt)) (puts_differ order (wide_own given) forms i moved p.into fw gw p.result p.old_into enc at.wide_at p.alike);
+          memory_same = new_at.wide_at.memory_same;
+          pointers = (end_left (wide_own given) q.fw.registers r (put_value order i q.fw) no_pointer new_at.wide_at.pointers.0, end_left (wide_own given) q.gw.registers r (put_value order moved q.gw) no_pointer new_at.wide_at.pointers.1);
+          all = put_hold (wide_own given) (flat_next i q.fw) facts wants q.gw.registers r by (put_value order i q.fw) (put_value order moved q.gw) new_at.wide_at.high new_at.wide_at.flat.eleven new_at.wide_at.new_flat.eleven
+              (still_holds (wide_own given) q.fw (flat_next i q.fw) q.gw.registers facts refl new_at.wide_at.all) pw.value e;
         };
         near_fits = x.2.near_fits;
         wide_fits = x.2.wide_fits;
-      })
-      (subst (λ z. Arrives notes (fn.slot + slot_count i) z (behind forms p.into p.result)) (sym to) p.falls)
+      })).0
 
   -- both go elsewhere, and nothing else
-  by_moves : (j n x y : ℕ) (forms : Forms) (place : Place) (s : State) (fn fw gn gw : FlatState) (i moved : Insn) → n ≤ (most_extras + most_for_one * j) + most_extras → OldAt given j fn fw → NewAt given forms n s fn fw gn gw → s.top.slot ≡ place.body
-      → insn_at is fn.slot ≡ Some i → insn_at js place.body ≡ Some moved → (i ≡ Exit → ⊥) → flat_does order i fn ≡ Some (flat_at x fn) → flat_does order i fw ≡ Some (flat_at x fw)
-      → flat_does order moved gn ≡ Some (flat_at y gn) → flat_does order moved gw ≡ Some (flat_at y gw) → Arrives notes x y forms → Ready given (suc j)
-  by_moves j n x y forms place s fn fw gn gw i moved few o at here there stands other en ew dn dw a =
-      let hn : FlatState = flat_at x fn in
-      let hw : FlatState = flat_at x fw in
-      let kn : FlatState = flat_at y gn in
-      let kw : FlatState = flat_at y gw in
-      let o' = old_next given j fn fw hn hw i o there (zero_plain (near false) order i fn hn en) (zero_plain (wide false) order i fw hw ew) other refl refl refl in
-      let z = new_next given forms n s fn fw gn gw kn kw moved at (ap (insn_at js) here ∙ stands) dn dw refl in
-      arrived given forms (suc j) (suc n) z.0 hn hw kn kw (more j n few) o'
-      (record {
+  by_moves : (j : ℕ) (i moved : Insn) (at : At j i moved) (x y : ℕ) → (i ≡ Exit → ⊥) → flat_does order i at.ready.fn ≡ Some (flat_at x at.ready.fn) → flat_does order i at.ready.fw ≡ Some (flat_at x at.ready.fw)
+      → flat_does order moved at.ready.gn ≡ Some (flat_at y at.ready.gn) → flat_does order moved at.ready.gw ≡ Some (flat_at y at.ready.gw) → arrives notes at.ready.note.facts Kept x most_extras y ≡ true → Ready given (suc j)
+  by_moves j i moved at x y other en ew dn dw goes =
+      let q = at.ready in
+      let facts : Facts = q.note.facts in
+      let new_at = q.new_at in
+      let hn : FlatState = flat_at x q.fn in
+      let hw : FlatState = flat_at x q.fw in
+      let kn : FlatState = flat_at y q.gn in
+      let kw : FlatState = flat_at y q.gw in
+      let o' = old_next given j q.fn q.fw hn hw i q.old_at at.here (zero_plain (near false) order i q.fn hn en) (zero_plain (wide false) order i q.fw hw ew) other refl refl refl in
+      let z = new_next given facts q.n q.state q.fn q.fw q.gn q.gw kn kw moved new_at at.there dn dw refl in
+      let next : NewAt given facts (suc q.n) z.0 hn hw kn kw = record {
         run = z.2.run;
         alone = z.2.alone;
-        near_at = record { high = at.near_at.high; flat = o'.near_state.flat; new_flat = z.2.near_fits.flat; memory_same = at.near_at.memory_same; pointers = at.near_at.pointers; all = λ n lt. still_holds (near_own given) fn hn (forms n) (get_or gn.registers n 0) refl (at.near_at.all n lt) };
-        wide_at = record { high = at.wide_at.high; flat = o'.wide_state.flat; new_flat = z.2.wide_fits.flat; memory_same = at.wide_at.memory_same; pointers = at.wide_at.pointers; all = λ n lt. still_holds (wide_own given) fw hw (forms n) (get_or gw.registers n 0) refl (at.wide_at.all n lt) };
+        near_at = record { high = new_at.near_at.high; flat = o'.near_state.flat; new_flat = z.2.near_fits.flat; memory_same = new_at.near_at.memory_same; pointers = new_at.near_at.pointers; all = still_holds (near_own given) q.fn hn q.gn.registers facts refl new_at.near_at.all };
+        wide_at = record { high = new_at.wide_at.high; flat = o'.wide_state.flat; new_flat = z.2.wide_fits.flat; memory_same = new_at.wide_at.memory_same; pointers = new_at.wide_at.pointers; all = still_holds (wide_own given) q.fw hw q.gw.registers facts refl new_at.wide_at.all };
         near_fits = z.2.near_fits;
         wide_fits = z.2.wide_fits;
-      })
-      (subst (λ z. Arrives notes x z forms) z.2.near_fits.slot_is a)
+      } in
+      (arrived given facts Kept (suc j) (suc q.n) x most_extras y z.0 hn hw kn kw goes (sym z.2.near_fits.slot_is) refl (more j q.n (few_at j i moved at)) o' (λ wants e. new_kept given facts wants (suc q.n) z.0 hn hw kn kw next e)).0
 
   -- both store the same at one address
-  by_stores : (j n : ℕ) (forms : Forms) (place : Place) (s : State) (fn fw gn gw : FlatState) (i moved : Insn) → n ≤ (most_extras + most_for_one * j) + most_extras → OldAt given j fn fw → NewAt given forms n s fn fw gn gw → s.top.slot ≡ place.body
-      → insn_at is fn.slot ≡ Some i → insn_at js place.body ≡ Some moved → Stores notes fn.slot place.body forms i moved → Ready given (suc j)
-  by_stores j n forms place s fn fw gn gw i moved few o at here there stands p =
-      let a = stored order (near_own given) forms i moved fn gn at.near_at p.alike in
-      let b = stored order (wide_own given) forms i moved fw gw at.wide_at p.alike in
-      let o' = old_next given j fn fw a.old b.old i o there (zero_plain (near false) order i fn a.old a.old_does) (zero_plain (wide false) order i fw b.old b.old_does) (not_exit order i fn a.old a.old_does) a.old_returns b.old_returns
+  by_stores : (j : ℕ) (i moved : Insn) (at : At j i moved) → stores_alike at.ready.note.facts i moved ≡ true → arrives notes at.ready.note.facts Kept (at.ready.fn.slot + slot_count i) most_extras (at.ready.state.top.slot + slot_count moved) ≡ true → Ready given (suc j)
+  by_stores j i moved at alike goes =
+      let q = at.ready in
+      let facts : Facts = q.note.facts in
+      let new_at = q.new_at in
+      let o = q.old_at in
+      let a = stored order (near_own given) facts i moved q.fn q.gn new_at.near_at alike in
+      let b = stored order (wide_own given) facts i moved q.fw q.gw new_at.wide_at alike in
+      let o' = old_next given j q.fn q.fw a.old b.old i o at.here (zero_plain (near false) order i q.fn a.old a.old_does) (zero_plain (wide false) order i q.fw b.old b.old_does) (not_exit order i q.fn a.old a.old_does) a.old_returns b.old_returns
       (b.old_slot ∙ ap (λ z. z + slot_count i) o.slots_same ∙ sym a.old_slot) in
-      let x = new_next given forms n s fn fw gn gw a.new b.new moved at (ap (insn_at js) here ∙ stands) a.new_does b.new_does a.new_returns in
-      let to : x.0.top.slot ≡ place.body + slot_count moved = sym x.2.near_fits.slot_is ∙ a.new_slot ∙ ap (λ z. z + slot_count moved) (at.near_fits.slot_is ∙ here) in
-      arrived given forms (suc j) (suc n) x.0 a.old b.old a.new b.new (more j n few) o'
-      (record {
+      let x = new_next given facts q.n q.state q.fn q.fw q.gn q.gw a.new b.new moved new_at at.there a.new_does b.new_does a.new_returns in
+      let to : x.0.top.slot ≡ q.state.top.slot + slot_count moved = sym x.2.near_fits.slot_is ∙ a.new_slot ∙ ap (λ z. z + slot_count moved) new_at.near_fits.slot_is in
+      let next : NewAt given facts (suc q.n) x.0 a.old b.old a.new b.new = record {
         run = x.2.run;
         alone = x.2.alone;
         near_at = record {
-          high = at.near_at.high;
+          high = new_at.near_at.high;
           flat = o'.near_state.flat;
           new_flat = x.2.near_fits.flat;
           memory_same = a.memory_same;
-          pointers = (subst (IsEnd (near_own given)) (sym a.old_registers) at.near_at.pointers.0, subst (IsEnd (near_own given)) (sym a.new_registers) at.near_at.pointers.1);
-          all = λ n lt. still_holds (near_own given) fn a.old (forms n) (get_or a.new.registers n 0) a.old_registers (subst (λ rs. Holds (near_own given) fn (forms n) (get_or rs n 0)) (sym a.new_registers) (at.near_at.all n lt));
+          pointers = (subst (IsEnd (near_own given)) (sym a.old_registers) new_at.near_at.pointers.0, subst (IsEnd (near_own given)) (sym a.new_registers) new_at.near_at.pointers.1);
+          all = still_holds (near_own given) q.fn a.old a.new.registers facts a.old_registers (subst (λ rs. AllHold (near_own given) q.fn facts rs) (sym a.new_registers) new_at.near_at.all);
         };
         wide_at = record {
-          high = at.wide_at.high;
+          high = new_at.wide_at.high;
           flat = o'.wide_state.flat;
           new_flat = x.2.wide_fits.flat;
           memory_same = b.memory_same;
-          pointers = (subst (IsEnd (wide_own given)) (sym b.old_registers) at.wide_at.pointers.0, subst (IsEnd (wide_own given)) (sym b.new_registers) at.wide_at.pointers.1);
-          all = λ n lt. still_holds (wide_own given) fw b.old (forms n) (get_or b.new.registers n 0) b.old_registers (subst (λ rs. Holds (wide_own given) fw (forms n) (get_or rs n 0)) (sym b.new_registers) (at.wide_at.all n lt));
+          pointers = (subst (IsEnd (wide_own given)) (sym b.old_registers) new_at.wide_at.pointers.0, subst (IsEnd (wide_own given)) (sym b.new_registers) new_at.wide_at.pointers.1);
+          all = still_holds (wide_own given) q.fw b.old b.new.registers facts b.old_registers (subst (λ rs. AllHold (wide_own given) q.fw facts rs) (sym b.new_registers) new_at.wide_at.all);
         };
         near_fits = x.2.near_fits;
         wide_fits = x.2.wide_fits;
-      })
-      (subst (λ z. Arrives notes z x.0.top.slot forms) (sym a.old_slot) (subst (λ z. Arrives notes (fn.slot + slot_count i) z forms) (sym to) p.falls))
+      } in
+      (arrived given facts Kept (suc j) (suc q.n) (q.fn.slot + slot_count i) most_extras (q.state.top.slot + slot_count moved) x.0 a.old b.old a.new b.new goes to a.old_slot (more j q.n (few_at j i moved at)) o' (λ wants e. new_kept given facts wants (suc q.n) x.0 a.old b.old a.new b.new next e)).0
 
-  -- where the new program's state stands
-  new_slot : (forms : Forms) (n : ℕ) (s : State) (fn fw gn gw : FlatState) (slot : ℕ) → NewAt given forms n s fn fw gn gw → s.top.slot ≡ slot → (gn.slot ≡ slot) × (gw.slot ≡ slot)
-  new_slot forms n s fn fw gn gw slot at e = (at.near_fits.slot_is ∙ e, at.wide_fits.slot_is ∙ e)
+  -- where a jump leads that is noted
+  record Led (facts : Facts) (i moved : Insn) (slot new_slot : ℕ) : Type 0 where
+    to : ℕ
+    to_is : led slot i ≡ Some to
+    new_to : ℕ
+    new_is : led new_slot moved ≡ Some new_to
+    goes : arrives notes facts Kept to most_extras new_to ≡ true
 
-  by_jumps : (j n : ℕ) (forms : Forms) (place : Place) (s : State) (fn fw gn gw : FlatState) (i moved : Insn) → n ≤ (most_extras + most_for_one * j) + most_extras → OldAt given j fn fw → NewAt given forms n s fn fw gn gw → s.top.slot ≡ place.body
-      → insn_at is fn.slot ≡ Some i → insn_at js place.body ≡ Some moved → Jumps notes fn.slot place.body forms i moved → Ready given (suc j)
-  by_jumps j n forms place s fn fw gn gw i moved few o at here there stands p =
-      let other = jump_turns i p.off p.old_is in
-      let g = goes_on (near false) old old_valid context bounds v k near_ends j fn i o.near_run o.near_before there other in
-      let to = option_map_some (λ slot. flat_at slot fn) (target fn.slot p.off) g.0 (jump_back (near false) order i p.off fn g.0 p.old_is (near_does given fn g.0 i there g.1)) in
-      let lead = p.leads to.0 to.1 in
-      let slots = new_slot forms n s fn fw gn gw place.body at here in
-      by_moves j n to.0 lead.0 forms place s fn fw gn gw i moved few o at here there stands other
-      (jump_does order i p.off fn to.0 p.old_is to.1) (jump_does order i p.off fw to.0 p.old_is (ap (λ z. target z p.off) o.slots_same ∙ to.1))
-      (jump_does order moved p.new_off gn lead.0 p.new_is (ap (λ z. target z p.new_off) slots.0 ∙ lead.1)) (jump_does order moved p.new_off gw lead.0 p.new_is (ap (λ z. target z p.new_off) slots.1 ∙ lead.1))
-      lead.2
+  led_there : (facts : Facts) (i moved : Insn) (slot new_slot to : ℕ) → led slot i ≡ Some to → leads notes facts Kept slot new_slot i moved ≡ true → Led facts i moved slot new_slot
+  led_there facts i moved slot new_slot to e h = by_new (led new_slot moved) refl (ap (λ o. option_map_or (leads_to notes facts Kept new_slot moved) o true) (sym e) ∙ h)
+    where
+      by_new : (o : Option ℕ) → led new_slot moved ≡ o → option_map_or (arrives notes facts Kept to most_extras) o false ≡ true → Led facts i moved slot new_slot
+      by_new None eo h = absurd (false≢true h)
+      by_new (Some new_to) eo h = record { to = to; to_is = e; new_to = new_to; new_is = eo; goes = h }
 
-  by_tests : (j n : ℕ) (forms : Forms) (place : Place) (s : State) (fn fw gn gw : FlatState) (i moved : Insn) → n ≤ (most_extras + most_for_one * j) + most_extras → OldAt given j fn fw → NewAt given forms n s fn fw gn gw → s.top.slot ≡ place.body
-      → insn_at is fn.slot ≡ Some i → insn_at js place.body ≡ Some moved → Tests notes fn.slot place.body forms i moved → Ready given (suc j)
-  by_tests j n forms place s fn fw gn gw i moved few o at here there stands p =
-      let new_test : Insn = JumpIf p.other p.width p.dst p.src p.new_off in
-      let there' : insn_at js s.top.slot ≡ Some new_test = ap (insn_at js) here ∙ stands ∙ ap Some p.new_is in
-      let y = steps_on order js new_valid context bytes short never n s new_test at.run there' (test_turns new_test p.other p.width p.dst p.src p.new_off refl) in
-      let a = answers order s y.0 p.other p.width p.dst p.src p.new_off (does_there order js new_valid context bytes short never s y.0 new_test there' y.1) in
-      let dn = answers_same order js new_valid context bytes short never (near false) n s gn p.other p.width p.dst p.src a at.run at.near_fits in
-      let dw = answers_same order js new_valid context bytes short never (wide false) n s gw p.other p.width p.dst p.src a at.run at.wide_fits in
-      let on : jumps p.width p.cond (flat_register fn p.dst) (flat_operand fn p.src) ≡ a.taken = sym (tests_agree (near_own given) forms fn gn at.near_at p.width p.dst p.src p.cond p.other p.alike) ∙ dn in
-      let ow : jumps p.width p.cond (flat_register fw p.dst) (flat_operand fw p.src) ≡ a.taken = sym (tests_agree (wide_own given) forms fw gw at.wide_at p.width p.dst p.src p.cond p.other p.alike) ∙ dw in
+  by_jumps : (j : ℕ) (i moved : Insn) (at : At j i moved) → is_jump i ≡ true → is_jump moved ≡ true → leads notes at.ready.note.facts Kept at.ready.fn.slot at.ready.state.top.slot i moved ≡ true → Ready given (suc j)
+  by_jumps j i moved at jumps_is new_jumps goes =
+      let q = at.ready in
+      let o = q.old_at in
+      let other = jump_turns i jumps_is in
+      let g = goes_on (near false) old old_valid context bounds v k near_ends j q.fn i o.near_run o.near_before at.here other in
+      let to = jump_back (near false) order i q.fn g.0 jumps_is (near_does given q.fn g.0 i at.here g.1) in
+      let lead = led_there q.note.facts i moved q.fn.slot q.state.top.slot to.0 to.1 goes in
+      by_moves j i moved at lead.to lead.new_to other (jump_does order i q.fn lead.to jumps_is lead.to_is) (jump_does order i q.fw lead.to jumps_is (ap (λ z. led z i) o.slots_same ∙ lead.to_is))
+      (jump_does order moved q.gn lead.new_to new_jumps (ap (λ z. led z moved) q.new_at.near_fits.slot_is ∙ lead.new_is)) (jump_does order moved q.gw lead.new_to new_jumps (ap (λ z. led z moved) q.new_at.wide_fits.slot_is ∙ lead.new_is)) lead.goes
+
+  -- tests that answer alike
+  by_tests : (j : ℕ) (cond other : Cond) (width : Width) (dst : Reg) (src : Operand) (off new_off : ℤ) (at : At j (JumpIf cond width dst src off) (JumpIf other width dst src new_off))
+      → ((start : ℕ) (f g : FlatState) → AtOnce start at.ready.note.facts f g → jumps width other (flat_register g dst) (flat_operand g src) ≡ jumps width cond (flat_register f dst) (flat_operand f src))
+      → goes notes at.ready.note.facts at.ready.fn.slot at.ready.state.top.slot (JumpIf cond width dst src off) (JumpIf other width dst src new_off) Kept ≡ true → Ready given (suc j)
+  by_tests j cond other width dst src off new_off at agree goes_is =
+      let y = steps_on order js new_valid context bytes short never q.n q.state moved q.new_at.run at.there (test_turns moved other width dst src new_off refl) in
+      let a = answers order q.state y.0 other width dst src new_off (does_there order js new_valid context bytes short never q.state y.0 moved at.there y.1) in
+      let dn = answers_same order js new_valid context bytes short never (near false) q.n q.state q.gn other width dst src a q.new_at.run q.new_at.near_fits in
+      let dw = answers_same order js new_valid context bytes short never (wide false) q.n q.state q.gw other width dst src a q.new_at.run q.new_at.wide_fits in
+      let on : jumps width cond (flat_register q.fn dst) (flat_operand q.fn src) ≡ a.taken = sym (agree (near_own given) q.fn q.gn q.new_at.near_at) ∙ dn in
+      let ow : jumps width cond (flat_register q.fw dst) (flat_operand q.fw src) ≡ a.taken = sym (agree (wide_own given) q.fw q.gw q.new_at.wide_at) ∙ dw in
       by_way a.taken on ow dn dw
     where
-      other : i ≡ Exit → ⊥
-      other = test_turns i p.cond p.width p.dst p.src p.off p.old_is
+      q : Ready given j
+      q = at.ready
 
-      slots : (gn.slot ≡ place.body) × (gw.slot ≡ place.body)
-      slots = new_slot forms n s fn fw gn gw place.body at here
+      i : Insn
+      i = JumpIf cond width dst src off
 
-      old_does : (f g : FlatState) → flat_does order (JumpIf p.cond p.width p.dst p.src p.off) f ≡ Some g → flat_does order i f ≡ Some g
-      old_does f g e = ap (λ i. flat_does order i f) p.old_is ∙ e
+      moved : Insn
+      moved = JumpIf other width dst src new_off
 
-      new_does : (f g : FlatState) → flat_does order (JumpIf p.other p.width p.dst p.src p.new_off) f ≡ Some g → flat_does order moved f ≡ Some g
-      new_does f g e = ap (λ i. flat_does order i f) p.new_is ∙ e
+      turns : i ≡ Exit → ⊥
+      turns = test_turns i cond width dst src off refl
 
-      by_way : (b : Bool) → jumps p.width p.cond (flat_register fn p.dst) (flat_operand fn p.src) ≡ b → jumps p.width p.cond (flat_register fw p.dst) (flat_operand fw p.src) ≡ b
-          → jumps p.width p.other (flat_register gn p.dst) (flat_operand gn p.src) ≡ b → jumps p.width p.other (flat_register gw p.dst) (flat_operand gw p.src) ≡ b → Ready given (suc j)
+      parts : (falls notes q.note.facts Kept q.fn.slot q.state.top.slot i moved ≡ true) × (leads notes q.note.facts Kept q.fn.slot q.state.top.slot i moved ≡ true)
+      parts = and_parts (falls notes q.note.facts Kept q.fn.slot q.state.top.slot i moved) (leads notes q.note.facts Kept q.fn.slot q.state.top.slot i moved) goes_is
+
+      by_way : (b : Bool) → jumps width cond (flat_register q.fn dst) (flat_operand q.fn src) ≡ b → jumps width cond (flat_register q.fw dst) (flat_operand q.fw src) ≡ b
+          → jumps width other (flat_register q.gn dst) (flat_operand q.gn src) ≡ b → jumps width other (flat_register q.gw dst) (flat_operand q.gw src) ≡ b → Ready given (suc j)
       by_way true on ow dn dw =
-          let g = goes_on (near false) old old_valid context bounds v k near_ends j fn i o.near_run o.near_before there other in
-          let jumped = test_jumps_back order p.cond p.width p.dst p.src p.off fn g.0 on (test_back (near false) order i p.cond p.width p.dst p.src p.off fn g.0 p.old_is (near_does given fn g.0 i there g.1)) in
-          let to = option_map_some (λ slot. flat_at slot fn) (target fn.slot p.off) g.0 jumped in
-          let lead = p.leads to.0 to.1 in
-          by_moves j n to.0 lead.0 forms place s fn fw gn gw i moved few o at here there stands other
-          (old_does fn (flat_at to.0 fn) (test_jumps order p.cond p.width p.dst p.src p.off fn to.0 on to.1))
-          (old_does fw (flat_at to.0 fw) (test_jumps order p.cond p.width p.dst p.src p.off fw to.0 ow (ap (λ z. target z p.off) o.slots_same ∙ to.1)))
-          (new_does gn (flat_at lead.0 gn) (test_jumps order p.other p.width p.dst p.src p.new_off gn lead.0 dn (ap (λ z. target z p.new_off) slots.0 ∙ lead.1)))
-          (new_does gw (flat_at lead.0 gw) (test_jumps order p.other p.width p.dst p.src p.new_off gw lead.0 dw (ap (λ z. target z p.new_off) slots.1 ∙ lead.1)))
-          lead.2
+          let o = q.old_at in
+          let g = goes_on (near false) old old_valid context bounds v k near_ends j q.fn i o.near_run o.near_before at.here turns in
+          let jumped = test_jumps_back order cond width dst src off q.fn g.0 on (test_back (near false) order i cond width dst src off q.fn g.0 refl (near_does given q.fn g.0 i at.here g.1)) in
+          let to = option_map_some (λ slot. flat_at slot q.fn) (target q.fn.slot off) g.0 jumped in
+          let lead = led_there q.note.facts i moved q.fn.slot q.state.top.slot to.0 to.1 parts.1 in
+          by_moves j i moved at lead.to lead.new_to turns
+          (test_jumps order cond width dst src off q.fn lead.to on lead.to_is) (test_jumps order cond width dst src off q.fw lead.to ow (ap (λ z. target z off) o.slots_same ∙ lead.to_is))
+          (test_jumps order other width dst src new_off q.gn lead.new_to dn (ap (λ z. target z new_off) q.new_at.near_fits.slot_is ∙ lead.new_is)) (test_jumps order other width dst src new_off q.gw lead.new_to dw (ap (λ z. target z new_off) q.new_at.wide_fits.slot_is ∙ lead.new_is))
+          lead.goes
       by_way false on ow dn dw =
-          by_moves j n (fn.slot + 1) (place.body + 1) forms place s fn fw gn gw i moved few o at here there stands other
-          (old_does fn (flat_at (fn.slot + 1) fn) (test_falls order p.cond p.width p.dst p.src p.off fn on))
-          (old_does fw (flat_at (fn.slot + 1) fw) (test_falls order p.cond p.width p.dst p.src p.off fw ow ∙ ap (λ z. Some (flat_at (z + 1) fw)) o.slots_same))
-          (new_does gn (flat_at (place.body + 1) gn) (test_falls order p.other p.width p.dst p.src p.new_off gn dn ∙ ap (λ z. Some (flat_at (z + 1) gn)) slots.0))
-          (new_does gw (flat_at (place.body + 1) gw) (test_falls order p.other p.width p.dst p.src p.new_off gw dw ∙ ap (λ z. Some (flat_at (z + 1) gw)) slots.1))
-          p.falls
+          by_moves j i moved at (q.fn.slot + 1) (q.state.top.slot + 1) turns
+          (test_falls order cond width dst src off q.fn on) (test_falls order cond width dst src off q.fw ow ∙ ap (λ z. Some (flat_at (z + 1) q.fw)) q.old_at.slots_same)
+          (test_falls order other width dst src new_off q.gn dn ∙ ap (λ z. Some (flat_at (z + 1) q.gn)) q.new_at.near_fits.slot_is) (test_falls order other width dst src new_off q.gw dw ∙ ap (λ z. Some (flat_at (z + 1) q.gw)) q.new_at.wide_fits.slot_is)
+          parts.0
 
   -- ---- the end
 
   abbrev pub Ended : Type 0
   Ended = EndsAt new context v (StandsForExit old notes) (most_for_one * suc (suc k))
 
-  by_exits : (j n : ℕ) (forms : Forms) (place : Place) (s : State) (fn fw gn gw : FlatState) (i moved : Insn) → n ≤ (most_extras + most_for_one * j) + most_extras → OldAt given j fn fw → NewAt given forms n s fn fw gn gw → s.top.slot ≡ place.body
-      → insn_at is fn.slot ≡ Some i → insn_at js place.body ≡ Some moved → place_at notes fn.slot ≡ Some place → Exits forms i moved → Ended
-  by_exits j n forms place s fn fw gn gw i moved few o at here there stands noted p =
-      let at_exit : insn_at is fn.slot ≡ Some Exit = there ∙ ap Some p.old_is in
-      let done = ends_here (near false) old old_valid context bounds v k near_ends j fn o.near_run o.near_before at_exit o.near_outer in
-      let end = ends_on order js new_valid context bytes short never n s at.run (ap (insn_at js) here ∙ stands ∙ ap Some p.new_is) at.alone in
-      let equal : flat_register gn R0 ≡ flat_register fn R0 = same_value (near_own given) fn forms gn.registers R0 at.near_at.flat at.near_at.all p.result_same in
-      let value : end.0 ≡ v = sym (number_stands at.near_fits R0 end.0 end.2) ∙ equal ∙ done.1 in
+  by_exits : (j : ℕ) (at : At j Exit Exit) → is_same at.ready.note.facts R0 ≡ true → Ended
+  by_exits j at same =
+      let q = at.ready in
+      let o = q.old_at in
+      let done = ends_here (near false) old old_valid context bounds v k near_ends j q.fn o.near_run o.near_before at.here o.near_outer in
+      let end = ends_on order js new_valid context bytes short never q.n q.state q.new_at.run at.there q.new_at.alone in
+      let equal : flat_register q.gn R0 ≡ flat_register q.fn R0 = same_value (near_own given) q.fn q.note.facts q.gn.registers R0 q.new_at.near_at.flat q.new_at.near_at.all same in
+      let value : end.0 ≡ v = sym (number_stands q.new_at.near_fits R0 end.0 end.2) ∙ equal ∙ done.1 in
       record {
-        steps = n;
-        state = s;
-        run = at.run;
-        finish = subst (λ v. Finish new s v) value end.1;
-        at_exit = (fn.slot, place, noted, at_exit, here);
-        few = in_time j k n few done.0;
+        steps = q.n;
+        state = q.state;
+        run = q.new_at.run;
+        finish = subst (λ v. Finish new q.state v) value end.1;
+        at_exit = record { note = q.note; noted = q.noted; body = at.body; exit = ap (insn_at is) (sym q.old_is) ∙ at.here };
+        few = in_time j k q.n (few_at j Exit Exit at) done.0;
       }
 
   has_insn : (j : ℕ) (fn fw : FlatState) → OldAt given j fn fw → (i : Insn) × (insn_at is fn.slot ≡ Some i)
@@ -241,33 +279,110 @@ module _ (given : Setting) where
               absurd (none-some g.0 (ap (option_and_then (λ i. zero_does (near false) order i fn)) (sym e) ∙ step))
           by_order (inr (inr more)) = let before = o.near_before in absurd (omega arith)
 
-  -- from in front of an old instruction to in front of the next one, or to the end
-  follow : (j : ℕ) → Ready given j → Ready given (suc j) ⊎ Ended
-  follow j r =
-      let i = has_insn j r.fn r.fw r.old_at in
-      let st = matches.each r.fn.slot r.place i.0 r.noted i.1 in
-      let g = extras_go given most_extras r.place.first r.place.body (form_in r.place.forms) st.made j r.n r.state r.fn r.fw r.gn r.gw r.old_at r.new_at r.at st.reaches in
-      let few : g.count ≤ (most_extras + most_for_one * j) + most_extras = (let a = g.few in let b = r.few in omega arith) in
-      elim st.follows [
-        | inl puts ↦ inl (by_puts j g.count st.made r.place g.state r.fn r.fw g.gn g.gw i.0 st.moved few r.old_at g.new_at g.at i.1 st.stands puts)
-        | inr rest ↦ elim rest [
-          | inl jumped ↦ inl (by_jumps j g.count st.made r.place g.state r.fn r.fw g.gn g.gw i.0 st.moved few r.old_at g.new_at g.at i.1 st.stands jumped)
-          | inr rest ↦ elim rest [
-            | inl tested ↦ inl (by_tests j g.count st.made r.place g.state r.fn r.fw g.gn g.gw i.0 st.moved few r.old_at g.new_at g.at i.1 st.stands tested)
-            | inr rest ↦ elim rest [
-              | inl stores ↦ inl (by_stores j g.count st.made r.place g.state r.fn r.fw g.gn g.gw i.0 st.moved few r.old_at g.new_at g.at i.1 st.stands stores)
-              | inr ended ↦ inr (by_exits j g.count st.made r.place g.state r.fn r.fw g.gn g.gw i.0 st.moved few r.old_at g.new_at g.at i.1 st.stands r.noted ended)
-            ]
-          ]
-        ]
+  -- what neither changes
+  by_kept : (j : ℕ) (i moved : Insn) (at : At j i moved) (same : Bool) → IsTrue same ↔ (undirected moved ≡ undirected i) → keeps at.ready.note.facts same i moved ≡ true
+      → goes notes at.ready.note.facts at.ready.fn.slot at.ready.state.top.slot i moved Kept ≡ true → Ready given (suc j) ⊎ Ended
+  unfolding keeps
+  by_kept j i moved at same same_is kept goes_is = elim (or_cases (is_jump i && is_jump moved) ((same && is_kept facts i) || (by_order facts i moved || stores_alike facts i moved)) kept) [
+    | inl jumped ↦ (let h = and_parts (is_jump i) (is_jump moved) jumped in inl (by_jumps j i moved at h.0 h.1 parts.1))
+    | inr rest ↦ elim (or_cases (same && is_kept facts i) (by_order facts i moved || stores_alike facts i moved) rest) [
+      | inl again ↦ (let h = and_parts same (is_kept facts i) again in by_same i moved at (same_is.0 h.0) h.1 goes_is)
+      | inr rest ↦ elim (or_cases (by_order facts i moved) (stores_alike facts i moved) rest) [
+        | inl ordered ↦ inl (by_ordered i moved at ordered goes_is)
+        | inr stores ↦ inl (by_stores j i moved at stores (store_falls i moved stores parts.0))
       ]
+    ]
+  ]
+    where
+      facts : Facts
+      facts = at.ready.note.facts
+
+      parts : (falls notes facts Kept at.ready.fn.slot at.ready.state.top.slot i moved ≡ true) × (leads notes facts Kept at.ready.fn.slot at.ready.state.top.slot i moved ≡ true)
+      parts = and_parts (falls notes facts Kept at.ready.fn.slot at.ready.state.top.slot i moved) (leads notes facts Kept at.ready.fn.slot at.ready.state.top.slot i moved) goes_is
+
+      store_falls : (i moved : Insn) → stores_alike facts i moved ≡ true → falls notes facts Kept at.ready.fn.slot at.ready.state.top.slot i moved ≡ true → arrives notes facts Kept (at.ready.fn.slot + slot_count i) most_extras (at.ready.state.top.slot + slot_count moved) ≡ true
+      store_falls (Store size dst off src) moved h e = e
+      store_falls (StoreImm size dst off imm) moved h e = e
+      store_falls i moved h e = absurd (false≢true h)
+
+      by_same : (i moved : Insn) (at : At j i moved) → undirected moved ≡ undirected i → is_kept at.ready.note.facts i ≡ true → goes notes at.ready.note.facts at.ready.fn.slot at.ready.state.top.slot i moved Kept ≡ true → Ready given (suc j) ⊎ Ended
+      by_same (JumpIf cond width dst src off) moved at e h goes_is =
+          let t = same_tests moved cond width dst src e in
+          inl (subst (λ m. (at : At j (JumpIf cond width dst src off) m) → is_kept at.ready.note.facts (JumpIf cond width dst src off) ≡ true → goes notes at.ready.note.facts at.ready.fn.slot at.ready.state.top.slot (JumpIf cond width dst src off) m Kept ≡ true → Ready given (suc j)) (sym t.1)
+          (λ at h goes_is. by_tests j cond cond width dst src off t.0 at (λ start f g one. same_test start at.ready.note.facts f g one cond width dst src off h) goes_is) at h goes_is)
+      by_same Exit moved at e h goes_is = inr (subst (λ m. (at : At j Exit m) → is_same at.ready.note.facts R0 ≡ true → Ended) (sym (same_exit moved e)) (λ at h. by_exits j at h) at h)
+      by_same i moved at e h goes_is = absurd (false≢true h)
+
+      by_ordered : (i moved : Insn) (at : At j i moved) → by_order at.ready.note.facts i moved ≡ true → goes notes at.ready.note.facts at.ready.fn.slot at.ready.state.top.slot i moved Kept ≡ true → Ready given (suc j)
+      by_ordered (JumpIf cond W64 dst (FromReg src) off) (JumpIf other W64 left (FromReg right) new_off) at h goes_is =
+          let a = and_parts (turned_test cond other) (same_register dst left && (same_register src right && are are_offsets at.ready.note.facts dst src)) h in
+          let b = and_parts (same_register dst left) (same_register src right && are are_offsets at.ready.note.facts dst src) a.1 in
+          let c = and_parts (same_register src right) (are are_offsets at.ready.note.facts dst src) b.1 in
+          subst (λ r. (at : At j (JumpIf cond W64 dst (FromReg src) off) (JumpIf other W64 r (FromReg right) new_off)) → are are_offsets at.ready.note.facts dst src ≡ true → goes notes at.ready.note.facts at.ready.fn.slot at.ready.state.top.slot (JumpIf cond W64 dst (FromReg src) off) (JumpIf other W64 r (FromReg right) new_off) Kept ≡ true → Ready given (suc j)) (sym (register_is dst left b.0))
+          (subst (λ r. (at : At j (JumpIf cond W64 dst (FromReg src) off) (JumpIf other W64 dst (FromReg r) new_off)) → are are_offsets at.ready.note.facts dst src ≡ true → goes notes at.ready.note.facts at.ready.fn.slot at.ready.state.top.slot (JumpIf cond W64 dst (FromReg src) off) (JumpIf other W64 dst (FromReg r) new_off) Kept ≡ true → Ready given (suc j)) (sym (register_is src right c.0))
+          (λ at h goes_is. by_tests j cond other W64 dst (FromReg src) off new_off at (λ start f g one. order_test start at.ready.note.facts f g one cond other dst src a.0 h) goes_is)) at c.1 goes_is
+      by_ordered i moved at h goes_is = absurd (false≢true h)
+
+  -- what both put into a register
+  by_put : (j : ℕ) (i moved : Insn) (at : At j i moved) (same : Bool) (change : Change) → IsTrue same ↔ (undirected moved ≡ undirected i) → puts at.ready.note.facts same i moved ≡ Some change
+      → goes notes at.ready.note.facts at.ready.fn.slot at.ready.state.top.slot i moved change ≡ true → Ready given (suc j)
+  by_put j i moved at same change same_is e goes_is = option_and_then_some _ (put_into i) change e (λ r er e1.
+      let c = none_first (is_frame_pointer r) (option_map (put r) (put_by facts same i moved)) change e1 in
+      let x = option_map_some (put r) (put_by facts same i moved) change c.1 in
+      let h : goes notes facts at.ready.fn.slot at.ready.state.top.slot i moved (put r x.0) ≡ true = subst (λ change. goes notes facts at.ready.fn.slot at.ready.state.top.slot i moved change ≡ true) (sym x.2) goes_is in
+      let p = and_parts (falls notes facts (put r x.0) at.ready.fn.slot at.ready.state.top.slot i moved) (leads notes facts (put r x.0) at.ready.fn.slot at.ready.state.top.slot i moved) h in
+      by_puts j i moved at same r x.0 same_is er c.0 x.1 (put_falls i r er (put r x.0) p.0))
+    where
+      facts : Facts
+      facts = at.ready.note.facts
+
+      put_falls : (i : Insn) (r : Reg) → put_into i ≡ Some r → (change : Change) → falls notes facts change at.ready.fn.slot at.ready.state.top.slot i moved ≡ true → arrives notes facts change (at.ready.fn.slot + slot_count i) most_extras (at.ready.state.top.slot + slot_count moved) ≡ true
+      put_falls (Ja off) r e change h = absurd (none-some _ e)
+      put_falls (JaLong off) r e change h = absurd (none-some _ e)
+      put_falls Exit r e change h = absurd (none-some _ e)
+      put_falls i r e change h = h
+
+  -- from in front of an old instruction to in front of the next one, or to the end
+  by_body : (j : ℕ) (q : Ready given j) → q.note.extras ≡ 0 → IsBody old new notes q.state.top.slot q.note → Ready given (suc j) ⊎ Ended
+  unfolding stands paired
+  by_body j q body b = by_change (paired q.note.facts b.same b.insn b.moved) refl b.good
+    where
+      at : At j b.insn b.moved
+      at = record { ready = q; body = body; here = ap (insn_at is) q.old_is ∙ b.insn_is; there = b.moved_is }
+
+      by_test : (change : Change) (c : Bool) → keeps q.note.facts b.same b.insn b.moved ≡ c → cond c (Some Kept) (puts q.note.facts b.same b.insn b.moved) ≡ Some change → goes notes q.note.facts q.fn.slot q.state.top.slot b.insn b.moved change ≡ true → Ready given (suc j) ⊎ Ended
+      by_test change true ec e g = by_kept j b.insn b.moved at b.same b.same_is ec (subst (λ change. goes notes q.note.facts q.fn.slot q.state.top.slot b.insn b.moved change ≡ true) (sym (same_Some Kept change e)) g)
+      by_test change false ec e g = inl (by_put j b.insn b.moved at b.same change b.same_is e g)
+
+      by_change : (o : Option Change) → paired q.note.facts b.same b.insn b.moved ≡ o → option_map_or (goes notes q.note.facts q.note.old q.state.top.slot b.insn b.moved) o false ≡ true → Ready given (suc j) ⊎ Ended
+      by_change None eo h = absurd (false≢true h)
+      by_change (Some change) eo h = by_test change (keeps q.note.facts b.same b.insn b.moved) refl eo (subst (λ slot. goes notes q.note.facts slot q.state.top.slot b.insn b.moved change ≡ true) (sym q.old_is) h)
+
+  -- the old instruction's, or one extra instruction less
+  body_or_extra : (j : ℕ) (q : Ready given j) → (Ready given (suc j) ⊎ Ended) ⊎ ((n : Ready given j) × (suc n.note.extras ≤ q.note.extras))
+  body_or_extra j q = by_extras q.note.extras refl (matches.each q.state.top.slot q.note q.noted)
+    where
+      by_extras : (e : ℕ) → q.note.extras ≡ e → IsEither old new notes bounds.length q.state.top.slot q.note e → (Ready given (suc j) ⊎ Ended) ⊎ ((n : Ready given j) × (suc n.note.extras ≤ q.note.extras))
+      by_extras zero e x = inl (by_body j q e x)
+      by_extras (suc left) e x = let n = extra_step given j left q e x in let few = n.1 in inr (n.0, omega arith)
+
+  -- first the extra instructions
+  follow : (fuel j : ℕ) (q : Ready given j) → q.note.extras ≤ fuel → Ready given (suc j) ⊎ Ended
+  follow zero j q le = elim (body_or_extra j q) [
+    | inl done ↦ done
+    | inr n ↦ (let less = n.1 in absurd (omega arith))
+  ]
+  follow (suc fuel) j q le = elim (body_or_extra j q) [
+    | inl done ↦ done
+    | inr n ↦ follow fuel j n.0 (let less = n.1 in omega arith)
+  ]
 
   pub ends : (left j : ℕ) → j + left ≡ k → Ready given j → Ended
-  ends zero j e r = elim (follow j r) [
+  ends zero j e r = elim (follow r.note.extras j r (omega arith)) [
     | inl next ↦ (let before = next.old_at.near_before in absurd (omega arith))
     | inr done ↦ done
   ]
-  ends (suc left) j e r = elim (follow j r) [
+  ends (suc left) j e r = elim (follow r.note.extras j r (omega arith)) [
     | inl next ↦ ends left (suc j) (omega arith) next
     | inr done ↦ done
   ]

@@ -1,10 +1,11 @@
 -- Guards pass: where the old program's reads follow, what is tested is no greater than the guard's limit.
-use Rattle.std.proofs.Common.{◌≡◌, ℕ, ◌+◌, ◌-◌, ◌%◌, ◌^◌, ◌<◌, ◌≤◌, inl, inr, refl, sym, ap, ap₂, ◌∙◌, subst, arith, Bool, true, false, List, [], ◌∷◌, Option, Some, None}
-use Rattle.std.specs.Prelude.{ℤ, pos, negsuc, ◌+ℤ◌, ◌-ℤ◌, ◌*ℤ◌, ◌≤ℤ◌, int_le, ◌&&◌, not, FitsSigned}
-use Rattle.std.specs.Int.{w16}
+use Rattle.std.proofs.Common.{◌≡◌, ℕ, suc, ◌==◌, ◌/◌, ◌*◌, ◌+◌, ◌-◌, ◌%◌, ◌^◌, ◌<◌, ◌≤◌, inl, inr, refl, sym, ap, ap₂, ◌∙◌, subst, arith, Bool, true, false, List, [], ◌∷◌, Option, Some, None}
+use Rattle.std.specs.Prelude.{ℤ, pos, negsuc, ◌+ℤ◌, ◌-ℤ◌, ◌*ℤ◌, ◌≤ℤ◌, int_le, ◌&&◌, ◌||◌, FitsSigned}
+use Rattle.std.specs.Int.{w16, w64, cast_signed}
+use Rattle.std.specs.Option.{option_map_or}
 use Rattle.std.specs.List.{AllByRecursion, list_any}
 use Rattle.std.specs.Ordering.{int_eq}
-use Rattle.std.proofs.lemmas.Bool.{and_parts, or_cases, false≢true}
+use Rattle.std.proofs.lemmas.Bool.{and_parts, or_cases, cases_lt, le-ltb, eqb-true, false≢true}
 use Rattle.std.proofs.lemmas.Bool.Decides.{Decides-int_eq}
 use Rattle.std.proofs.lemmas.Int.{ints}
 use Rattle.std.proofs.Math.IntN.{pos-*ℤ-pos}
@@ -19,13 +20,15 @@ use Rattle.bpf_semantics.specs.Flat.{FlatState, IsFlat, IsAmong, addresses, fram
 use Rattle.bpf_semantics.specs.Placement.{IsInMemory}
 use Rattle.bpf_semantics.proofs.FlatArith.{Same, modulo_same, same_refl, same_sym, same_trans, same_plus, same_minus, same_equal, modulo-same, modulo_of_small}
 use Rattle.bpf_semantics.proofs.NumberLemmas.{modulo_below}
-use Rattle.bpf_kept_law.specs.Far.{near, wide}
-use Rattle.bpf_kept_law.specs.Terms.{Term, Form, Differs, Holds, base_value, shift, turn}
-use Rattle.bpf_kept_law.specs.Terms.Form.{Free, Low, Is}
-use Rattle.bpf_kept_law.specs.Guards.{Front, is_from, is_to, are_accessed, is_tested, accesses_ahead, farthest_ahead}
+use Rattle.bpf_kept_law.specs.Far.{near, wide, middle}
+use Rattle.bpf_kept_law.specs.declared.notes.Term.{Term}
+use Rattle.bpf_kept_law.specs.declared.notes.Fact.{Fact}
+use Rattle.bpf_kept_law.specs.declared.notes.Need.TheVariants.{Below, Above}
+use Rattle.bpf_kept_law.specs.Terms.{Differs, DiffersBy, value_in, shift}
+use Rattle.bpf_kept_law.specs.Guards.{Front, is_met, is_ahead, are_accessed, is_tested_by, is_tested, accesses_ahead, farthest_ahead}
 use Rattle.bpf_kept_law.proofs.FarLaw.{one_address_is_context, one_distance_is_frame}
 use Rattle.bpf_kept_law.proofs.TermLaw.{differs_same}
-use Rattle.bpf_kept_law.proofs.HoldsLaw.{straight, plain_shift}
+use Rattle.bpf_kept_law.proofs.HoldsLaw.{plain_shift}
 use Rattle.bpf_kept_law.proofs.TestLaw.{cancelled}
 use Rattle.bpf_kept_law.proofs.AheadLaw.{Inside}
 
@@ -57,7 +60,7 @@ record Lies (x len : ℕ) (moved : ℤ) (a : Access) : Type 0 where
   near : FitsSigned w16 a.offset
   there : (b : ℕ) → b < byte_count a.size → (d : ℕ) × (d < len) × Same (pos d) (((pos x -ℤ moved) +ℤ a.offset) +ℤ pos b)
 
-at_most : (x len limit : ℕ) (moved : ℤ) (a b : Access) → x < 2 ^ 64 → limit < 2 ^ 64 → len < 2 ^ 32 → Lies x len moved a → Lies x len moved b → is_from moved a ≡ true → is_to len limit moved b ≡ true → x ≤ limit
+at_most : (x len limit : ℕ) (moved : ℤ) (a b : Access) → x < 2 ^ 64 → limit < 2 ^ 64 → len < 2 ^ 32 → Lies x len moved a → Lies x len moved b → is_met (Below moved) a ≡ true → is_met (Above ((pos len +ℤ moved) -ℤ pos limit)) b ≡ true → x ≤ limit
 at_most x len limit moved a b hx most short first last from to =
     let sa = size_small a.size in
     let sb = size_small b.size in
@@ -72,7 +75,7 @@ at_most x len limit moved a b hx most short first last from to =
     let far : Same (pos w) (pos u +ℤ ((b.offset -ℤ a.offset) +ℤ pos n)) = same_trans hw.2 (same_trans (same_equal (regroup (pos x -ℤ moved) a.offset b.offset (pos n))) (same_plus (same_sym hu.2) (same_refl ((b.offset -ℤ a.offset) +ℤ pos n)))) in
     let is : pos w ≡ pos u +ℤ ((b.offset -ℤ a.offset) +ℤ pos n) = apart u w len ((b.offset -ℤ a.offset) +ℤ pos n) hu.1 hw.1 short (near_low a.offset b.offset n first.near last.near (omega arith)) (near_high a.offset b.offset n first.near last.near (omega arith)) far in
     let f = le_of a.offset moved from in
-    let t = le_of (pos len +ℤ moved) ((pos limit +ℤ b.offset) +ℤ pos (byte_count b.size)) to in
+    let t = le_of ((pos len +ℤ moved) -ℤ pos limit) (b.offset +ℤ pos (byte_count b.size)) to in
     let size : byte_count b.size ≡ n + 1 = omega arith in
     let here : Same (pos x) (pos u +ℤ (moved -ℤ a.offset)) = same_trans (same_equal (back (pos x) moved a.offset)) (same_plus (same_sym hu.2) (same_refl (moved -ℤ a.offset))) in
     whole x limit (pos u +ℤ (moved -ℤ a.offset)) hx most (not_below u a.offset moved f) (not_above u w len limit n (byte_count b.size) a.offset b.offset moved is hw.1 size t) here
@@ -92,7 +95,7 @@ at_most x len limit moved a b hx most short first last from to =
     not_below : (u : ℕ) (a m : ℤ) → a ≤ℤ m → pos 0 ≤ℤ (pos u +ℤ (m -ℤ a))
     not_below u a m k = omega (arith, ints)
 
-    not_above : (u w len limit n size : ℕ) (a b m : ℤ) → pos w ≡ pos u +ℤ ((b -ℤ a) +ℤ pos n) → w < len → size ≡ n + 1 → (pos len +ℤ m) ≤ℤ ((pos limit +ℤ b) +ℤ pos size) → (pos u +ℤ (m -ℤ a)) ≤ℤ pos limit
+    not_above : (u w len limit n size : ℕ) (a b m : ℤ) → pos w ≡ pos u +ℤ ((b -ℤ a) +ℤ pos n) → w < len → size ≡ n + 1 → ((pos len +ℤ m) -ℤ pos limit) ≤ℤ (b +ℤ pos size) → (pos u +ℤ (m -ℤ a)) ≤ℤ pos limit
     not_above u w len limit n size a b m e h s k = omega (arith, ints)
 
 -- ---- one access for both placements
@@ -140,11 +143,29 @@ frame_address x y start b moved off s =
     regroup : (x m s o b : ℤ) → (((x -ℤ (m -ℤ s)) +ℤ o) +ℤ b) ≡ s +ℤ (((x -ℤ m) +ℤ o) +ℤ b)
     regroup x m s o b = omega (arith, ints)
 
-frame_shift : (start : ℕ) (t : Term) → int_eq t.frames (pos 1) ≡ true → t.turned ≡ false → shift start t ≡ t.moved -ℤ pos start
-frame_shift start t e c =
-    let one : t.frames ≡ pos 1 = (Decides-int_eq t.frames (pos 1)).0 e in
-    let product : t.frames *ℤ pos start ≡ pos start = ap (λ z. z *ℤ pos start) one ∙ pos-*ℤ-pos 1 start ∙ ap pos (omega arith) in
-    ap₂ (λ c z. (turn c -ℤ z) +ℤ t.moved) c product ∙ (omega (arith, ints))
+frame_shift : (start : ℕ) (t : Term) → (t.frames == 1) ≡ true → shift start t ≡ pos t.moved -ℤ pos start
+frame_shift start t e =
+    let product : t.frames * start ≡ start = ap (λ n. n * start) (eqb-true t.frames 1 e) ∙ (omega arith) in
+    omega (arith, ints)
+
+-- a constant, with its sign
+signed_same : (n : ℕ) → Same (pos n) (cast_signed w64 (n % addresses))
+signed_same n = elim (cases_lt (n % addresses) (2 ^ 63)) [
+  | inl lower ↦ record { p = 0; q = n / addresses; same = omega (arith, ints) }
+  | inr upper ↦ (let c : cast_signed w64 (n % addresses) ≡ negsuc (2 ^ 64 - suc (n % addresses)) = rw (le-ltb (n % addresses) (2 ^ 63) upper) refl in
+      let small : n % addresses < 2 ^ 64 = omega arith in
+      record { p = 0; q = n / addresses + 1; same = rw c (omega (arith, ints)) })
+]
+
+context_same : (n : ℕ) → Same (pos n) (pos (2 ^ 63) +ℤ cast_signed w64 ((n + middle) % addresses))
+context_same n =
+    let s : Same (pos (n + middle)) (cast_signed w64 ((n + middle) % addresses)) = signed_same (n + middle) in
+    let back : Same (pos n) (pos (n + middle) +ℤ pos (2 ^ 63)) = record { p = 1; q = 0; same = omega (arith, ints) } in
+    let turned : cast_signed w64 ((n + middle) % addresses) +ℤ pos (2 ^ 63) ≡ pos (2 ^ 63) +ℤ cast_signed w64 ((n + middle) % addresses) = swap (cast_signed w64 ((n + middle) % addresses)) in
+    same_trans back (same_trans (same_plus s (same_refl (pos (2 ^ 63)))) (same_equal turned))
+  where
+    swap : (z : ℤ) → z +ℤ pos (2 ^ 63) ≡ pos (2 ^ 63) +ℤ z
+    swap z = omega (arith, ints)
 
 module _ (old : Instructions) (len limit slot x : ℕ) (fn fw : FlatState) (short : len < 2 ^ 32) (most : limit < addresses) (small : x < addresses) (flat : IsFlat fn) (flat' : IsFlat fw)
     (inside : (r : Reg) → AllByRecursion (Inside (near false) len (flat_register fn r)) (accesses_ahead old r farthest_ahead slot)) (inside' : (r : Reg) → AllByRecursion (Inside (wide false) len (flat_register fw r)) (accesses_ahead old r farthest_ahead slot)) where
@@ -178,39 +199,47 @@ module _ (old : Instructions) (len limit slot x : ℕ) (fn fw : FlatState) (shor
             (modulo w addresses, one_distance_is_frame false len 0 0 (modulo w addresses) (omega arith) (omega arith) (modulo_below w) (omega arith) p q, modulo-same w);
       }
 
-  by_accesses : (size : ℕ) (moved : ℤ) (r : Reg) → size < 2 ^ 32 → ((a : Access) → Inside (near false) len (flat_register fn r) a → Inside (wide false) len (flat_register fw r) a → Lies x size moved a) → are_accessed front size limit moved (Some r) ≡ true → x ≤ limit
+  by_accesses : (size : ℕ) (moved : ℤ) (r : Reg) → size < 2 ^ 32 → ((a : Access) → Inside (near false) len (flat_register fn r) a → Inside (wide false) len (flat_register fw r) a → Lies x size moved a) → are_accessed front size limit moved r ≡ true → x ≤ limit
+  unfolding is_ahead
   by_accesses size moved r little lies e =
       let accesses = accesses_ahead old r farthest_ahead slot in
-      let h = and_parts (list_any (is_from moved) accesses) (list_any (is_to size limit moved) accesses) e in
-      let a = any_of (is_from moved) (Inside (near false) len (flat_register fn r)) (Inside (wide false) len (flat_register fw r)) accesses h.0 (inside r) (inside' r) in
-      let b = any_of (is_to size limit moved) (Inside (near false) len (flat_register fn r)) (Inside (wide false) len (flat_register fw r)) accesses h.1 (inside r) (inside' r) in
+      let end : ℤ = (pos size +ℤ moved) -ℤ pos limit in
+      let h = and_parts (list_any (is_met (Below moved)) accesses) (list_any (is_met (Above end)) accesses) e in
+      let a = any_of (is_met (Below moved)) (Inside (near false) len (flat_register fn r)) (Inside (wide false) len (flat_register fw r)) accesses h.0 (inside r) (inside' r) in
+      let b = any_of (is_met (Above end)) (Inside (near false) len (flat_register fn r)) (Inside (wide false) len (flat_register fw r)) accesses h.1 (inside r) (inside' r) in
       at_most x size limit moved a.0 b.0 small most little (lies a.0 a.2 a.3) (lies b.0 b.2 b.3) a.1 b.1
 
-  by_context : (t : Term) (base : Option Reg) → t.turned ≡ true → int_eq t.frames (pos 0) ≡ true → Differs start t (base_value fn base) x → Differs other t (base_value fw base) x → are_accessed front len limit t.moved base ≡ true → x ≤ limit
-  by_context t None turned none p q e = absurd (false≢true e)
-  by_context t (Some r) turned none p q e =
-      let shift_is : shift start t ≡ pos (2 ^ 63) +ℤ t.moved = plain_shift start t none ∙ ap (λ c. turn c +ℤ t.moved) turned in
-      let shift_is' : shift other t ≡ pos (2 ^ 63) +ℤ t.moved = plain_shift other t none ∙ ap (λ c. turn c +ℤ t.moved) turned in
-      let s : Same (pos x) (pos (flat_register fn r) +ℤ (pos (2 ^ 63) +ℤ t.moved)) = subst (λ z. Same (pos x) (pos (flat_register fn r) +ℤ z)) shift_is (differs_same start t (flat_register fn r) x p) in
-      let s' : Same (pos x) (pos (flat_register fw r) +ℤ (pos (2 ^ 63) +ℤ t.moved)) = subst (λ z. Same (pos x) (pos (flat_register fw r) +ℤ z)) shift_is' (differs_same other t (flat_register fw r) x q) in
-      let same : flat_register fw r ≡ flat_register fn r = cancelled (flat_register fw r) (flat_register fn r) x x (pos (2 ^ 63) +ℤ t.moved) (flat'.numbers (register_number r)) (flat.numbers (register_number r)) s' s refl in
-      by_accesses len t.moved r short (λ a. in_context t.moved r a same s) e
+  by_context : (t : Term) (r : Reg) → (t.frames == 0) ≡ true → Differs start t (flat_register fn r) x → Differs other t (flat_register fw r) x → are_accessed front len limit (cast_signed w64 ((t.moved + middle) % addresses)) r ≡ true → x ≤ limit
+  by_context t r none p q e =
+      let moved : ℤ = cast_signed w64 ((t.moved + middle) % addresses) in
+      let s : Same (pos x) (pos (flat_register fn r) +ℤ (pos (2 ^ 63) +ℤ moved)) = same_trans (differs_same start t (flat_register fn r) x p) (same_plus (same_refl (pos (flat_register fn r))) (same_trans (same_equal (plain_shift start t none)) (context_same t.moved))) in
+      let s' : Same (pos x) (pos (flat_register fw r) +ℤ (pos (2 ^ 63) +ℤ moved)) = same_trans (differs_same other t (flat_register fw r) x q) (same_plus (same_refl (pos (flat_register fw r))) (same_trans (same_equal (plain_shift other t none)) (context_same t.moved))) in
+      let same : flat_register fw r ≡ flat_register fn r = cancelled (flat_register fw r) (flat_register fn r) x x (pos (2 ^ 63) +ℤ moved) (flat'.numbers (register_number r)) (flat.numbers (register_number r)) s' s refl in
+      by_accesses len moved r short (λ a. in_context moved r a same s) e
 
-  by_frame : (t : Term) (base : Option Reg) → t.turned ≡ false → int_eq t.frames (pos 1) ≡ true → Differs start t (base_value fn base) x → Differs other t (base_value fw base) x → are_accessed front frame_bytes limit t.moved base ≡ true → x ≤ limit
-  by_frame t None turned one p q e = absurd (false≢true e)
-  by_frame t (Some r) turned one p q e =
-      let s : Same (pos x) (pos (flat_register fn r) +ℤ (t.moved -ℤ pos start)) = subst (λ z. Same (pos x) (pos (flat_register fn r) +ℤ z)) (frame_shift start t one turned) (differs_same start t (flat_register fn r) x p) in
-      let s' : Same (pos x) (pos (flat_register fw r) +ℤ (t.moved -ℤ pos other)) = subst (λ z. Same (pos x) (pos (flat_register fw r) +ℤ z)) (frame_shift other t one turned) (differs_same other t (flat_register fw r) x q) in
-      by_accesses frame_bytes t.moved r (omega arith) (λ a. in_frame t.moved r a s s') e
+  by_frame : (t : Term) (r : Reg) → (t.frames == 1) ≡ true → Differs start t (flat_register fn r) x → Differs other t (flat_register fw r) x → are_accessed front frame_bytes limit (cast_signed w64 (t.moved % addresses)) r ≡ true → x ≤ limit
+  by_frame t r one p q e =
+      let moved : ℤ = cast_signed w64 (t.moved % addresses) in
+      let s : Same (pos x) (pos (flat_register fn r) +ℤ (moved -ℤ pos start)) = same_trans (differs_same start t (flat_register fn r) x p) (same_plus (same_refl (pos (flat_register fn r))) (same_trans (same_equal (frame_shift start t one)) (same_minus (signed_same t.moved) (same_refl (pos start))))) in
+      let s' : Same (pos x) (pos (flat_register fw r) +ℤ (moved -ℤ pos other)) = same_trans (differs_same other t (flat_register fw r) x q) (same_plus (same_refl (pos (flat_register fw r))) (same_trans (same_equal (frame_shift other t one)) (same_minus (signed_same t.moved) (same_refl (pos other))))) in
+      by_accesses frame_bytes moved r (omega arith) (λ a. in_frame moved r a s s') e
 
-  pub guard_passes : (form : Form) → Holds start fn form x → Holds other fw form x → is_tested front limit form ≡ true → x ≤ limit
-  guard_passes Free p q e = absurd (false≢true e)
-  guard_passes (Low base) p q e = absurd (false≢true e)
-  guard_passes (Is t) p q e = elim (or_cases (t.turned && (int_eq t.frames (pos 0) && are_accessed front len limit t.moved t.base)) (not t.turned && (int_eq t.frames (pos 1) && are_accessed front frame_bytes limit t.moved t.base)) e) [
-    | inl context ↦ (let h = and_parts t.turned (int_eq t.frames (pos 0) && are_accessed front len limit t.moved t.base) context in
-        let k = and_parts (int_eq t.frames (pos 0)) (are_accessed front len limit t.moved t.base) h.1 in
-        by_context t t.base h.0 k.0 p q k.1)
-    | inr frame ↦ (let h = and_parts (not t.turned) (int_eq t.frames (pos 1) && are_accessed front frame_bytes limit t.moved t.base) frame in
-        let k = and_parts (int_eq t.frames (pos 1)) (are_accessed front frame_bytes limit t.moved t.base) h.1 in
-        by_frame t t.base (straight t.turned h.0) k.0 p q k.1)
+  by_pointer : (t : Term) (r : Reg) → Differs start t (flat_register fn r) x → Differs other t (flat_register fw r) x → is_tested_by front limit t r ≡ true → x ≤ limit
+  by_pointer t r p q e = elim (or_cases (t.frames == 0 && are_accessed front len limit (cast_signed w64 ((t.moved + middle) % addresses)) r) (t.frames == 1 && are_accessed front frame_bytes limit (cast_signed w64 (t.moved % addresses)) r) e) [
+    | inl context ↦ (let h = and_parts (t.frames == 0) (are_accessed front len limit (cast_signed w64 ((t.moved + middle) % addresses)) r) context in by_context t r h.0 p q h.1)
+    | inr frame ↦ (let h = and_parts (t.frames == 1) (are_accessed front frame_bytes limit (cast_signed w64 (t.moved % addresses)) r) frame in by_frame t r h.0 p q h.1)
   ]
+
+  -- what is known of it at both placements
+  pub guard_passes : (fact : Fact) → DiffersBy start fact.by (value_in fn.registers fact.base) x → DiffersBy other fact.by (value_in fw.registers fact.base) x → is_tested front limit fact ≡ true → x ≤ limit
+  guard_passes fact p q e = by_term fact.by refl e
+    where
+      by_base : (t : Term) → fact.by ≡ Some t → (o : Option Reg) → fact.base ≡ o → option_map_or (is_tested_by front limit t) o false ≡ true → x ≤ limit
+      by_base t et None eo h = absurd (false≢true h)
+      by_base t et (Some r) eo h =
+          by_pointer t r (subst (λ base. DiffersBy start (Some t) (value_in fn.registers base) x) eo (subst (λ by. DiffersBy start by (value_in fn.registers fact.base) x) et p))
+          (subst (λ base. DiffersBy other (Some t) (value_in fw.registers base) x) eo (subst (λ by. DiffersBy other by (value_in fw.registers fact.base) x) et q)) h
+
+      by_term : (o : Option Term) → fact.by ≡ o → option_map_or (λ t. option_map_or (is_tested_by front limit t) fact.base false) o false ≡ true → x ≤ limit
+      by_term None eo h = absurd (false≢true h)
+      by_term (Some t) eo h = by_base t eo fact.base refl h

@@ -1,69 +1,88 @@
--- What forms say of registers, and what is left of that behind an instruction.
-use Rattle.std.proofs.Common.{◌≡◌, ℕ, suc, ◌+◌, ◌*◌, ◌^◌, ◌<◌, ◌==◌, refl, sym, ap, ap₂, ◌∙◌, subst, arith, Bool, true, false, List, [], ◌∷◌, length, Option, Some, None}
-use Rattle.std.specs.Prelude.{ℤ, pos, negsuc, ◌+ℤ◌, ◌-ℤ◌, ◌*ℤ◌, neg_ℤ, ◌&&◌, not, get_or, set}
-use Rattle.std.specs.List.{AllByRecursion, list_all}
-use Rattle.std.specs.Option.{option_map_or}
-use Rattle.std.specs.Ordering.{int_eq}
-use Rattle.std.proofs.lemmas.Bool.{and_parts, cond_both, eqb-true, eqb-false, false≢true}
-use Rattle.std.proofs.lemmas.Bool.Decides.{Decides-int_eq}
+-- What facts say of registers, which facts give which, and what is left of them behind an instruction.
+use Rattle.std.proofs.Common.{◌≡◌, ℕ, suc, ◌+◌, ◌*◌, ◌/◌, ◌%◌, ◌^◌, ◌<◌, ◌==◌, inl, inr, refl, sym, ap, ap₂, ◌∙◌, subst, arith, Bool, true, false, List, [], ◌∷◌, length, Option, Some, None, cond}
+use Rattle.std.specs.Prelude.{ℤ, pos, ◌+ℤ◌, ◌-ℤ◌, ◌&&◌, ◌||◌, not, is_none, get_or, set, if◌then◌else◌}
+use Rattle.std.specs.List.{AllByRecursion, find, list_all, list_any}
+use Rattle.std.specs.Option.{is_some, option_map_or}
+use Rattle.std.proofs.lemmas.Bool.{and_parts, or_cases, eqb-true, eqb-false, false≢true}
 use Rattle.std.proofs.lemmas.Int.{ints}
 use Rattle.std.proofs.lemmas.List.{get_or-set_same, get_or-set_other}
-use Rattle.std.proofs.lemmas.Option.{none-some, same_Some}
-use Rattle.std.proofs.Math.IntN.{zero-*ℤ, pos-*ℤ-pos, negsuc-*ℤ-pos}
+use Rattle.std.proofs.lemmas.Option.{none-some, same_Some, option_and_then_some}
 use Rattle.bpf_insn.specs.Instruction.{register_number}
 use Rattle.bpf_insn.specs.declared.instruction.Reg.{Reg}
 use Rattle.bpf_insn.proofs.RegisterLemmas.{reg_below}
-use Rattle.bpf_semantics.specs.Flat.{FlatState, IsFlat, flat_register, flat_put}
+use Rattle.bpf_semantics.specs.Flat.{FlatState, IsFlat, addresses, flat_register, flat_put}
 use Rattle.bpf_semantics.proofs.FlatArith.{Same}
-use Rattle.bpf_semantics.proofs.StateLemmas.{cond_option}
-use Rattle.bpf_kept_law.specs.Terms.{Term, Form, Forms, Differs, AreLow, Holds, base_value, turn, shift}
-use Rattle.bpf_kept_law.specs.Terms.Form.{Free, Low, Is}
-use Rattle.bpf_kept_law.specs.Rules.{is_register, own_term, own, is_zero, is_same, is_low_form, is_low, left, put_form, behind, with_form}
+use Rattle.bpf_kept_law.specs.declared.notes.Term.{Term}
+use Rattle.bpf_kept_law.specs.declared.notes.Fact.{Fact}
+use Rattle.bpf_kept_law.specs.Terms.{Facts, Differs, AreLow, DiffersBy, Holds, AllHold, value_in, shift, constant, zero_term}
+use Rattle.bpf_kept_law.specs.Rules.{is_register, is_base, same_term, is_high, is_enough, gives, is_own, own, is_zero, is_same, is_low_fact, is_low, stays, known_number}
 use Rattle.bpf_kept_law.proofs.TermLaw.{differs_same, zero_differs}
 
--- each register of the new program's state is as its form says
-abbrev pub AllHold : ℕ → FlatState → Forms → List ℕ → Type 0
-AllHold own_start f forms registers = (n : ℕ) → n < 11 → Holds own_start f (forms n) (get_or registers n 0)
+-- ---- lists
+
+pub any_holds : {A : Type 0} (test : A → Bool) (P : A → Type 0) (xs : List A) → list_any test xs ≡ true → AllByRecursion P xs → (x : A) × (test x ≡ true) × P x
+any_holds test P [] e h = absurd (false≢true e)
+any_holds test P (x ∷ xs) e h = elim (or_cases (test x) (list_any test xs) e) [
+  | inl here ↦ (x, here, h.0)
+  | inr later ↦ any_holds test P xs later h.1
+]
+
+pub all_of : {A : Type 0} (test : A → Bool) (P : A → Type 0) (xs : List A) → list_all test xs ≡ true → ((x : A) → test x ≡ true → P x) → AllByRecursion P xs
+all_of test P [] e each = tt
+all_of test P (x ∷ xs) e each = let h = and_parts (test x) (list_all test xs) e in (each x h.0, all_of test P xs h.1 each)
+
+pub found_holds : {A : Type 0} (test : A → Bool) (P : A → Type 0) (xs : List A) (x : A) → find test xs ≡ Some x → AllByRecursion P xs → (test x ≡ true) × P x
+found_holds test P [] x e h = absurd (none-some _ e)
+found_holds test P (y ∷ ys) x e h = by_test (λ n. found_holds test P ys x n h.1) (test y) refl e
+  where
+    by_test : (find test ys ≡ Some x → (test x ≡ true) × P x) → (b : Bool) → test y ≡ b → cond b (Some y) (find test ys) ≡ Some x → (test x ≡ true) × P x
+    by_test later false eb n = later n
+    by_test later true eb n = let same = same_Some y x n in (subst (λ z. test z ≡ true) same eb, subst P same h.0)
 
 -- ---- a register by itself
 
-pub register_value : (f : FlatState) (r : Reg) (base : Option Reg) → is_register r base ≡ true → base_value f base ≡ flat_register f r
-register_value f r None e = absurd (false≢true e)
-register_value f r (Some of) e = ap (λ n. get_or f.registers n 0) (eqb-true (register_number of) (register_number r) e)
+pub register_value : (registers : List ℕ) (r : Reg) (base : Option Reg) → is_register r base ≡ true → value_in registers base ≡ get_or registers (register_number r) 0
+register_value registers r None e = absurd (false≢true e)
+register_value registers r (Some of) e = ap (λ n. get_or registers n 0) (eqb-true (register_number of) (register_number r) e)
 
-own_is : (start : ℕ) (f : FlatState) (r : Reg) (form : Form) (t : Term) (y : ℕ) → own_term r form ≡ Some t → Holds start f form y → Differs start t (flat_register f r) y
-own_is start f r Free t y e h = absurd (none-some _ e)
-own_is start f r (Low base) t y e h = absurd (none-some _ e)
-own_is start f r (Is u) t y e h =
-    let c = cond_option (is_register r u.base) (Some u) t e in
-    subst (λ t. Differs start t (flat_register f r) y) (same_Some u t c.1) (subst (λ x. Differs start u x y) (register_value f r u.base c.0) h)
+pub none_value : (registers : List ℕ) (base : Option Reg) → is_none base ≡ true → value_in registers base ≡ 0
+none_value registers None e = refl
+none_value registers (Some r) e = absurd (false≢true e)
 
-pub own_differs : (start : ℕ) (f : FlatState) (forms : Forms) (registers : List ℕ) (r : Reg) (t : Term) → AllHold start f forms registers → own forms r ≡ Some t → Differs start t (flat_register f r) (get_or registers (register_number r) 0)
-own_differs start f forms registers r t all e = own_is start f r (forms (register_number r)) t (get_or registers (register_number r) 0) e (all (register_number r) (reg_below r))
+pub base_same : (registers : List ℕ) (a b : Option Reg) → is_base a b ≡ true → value_in registers a ≡ value_in registers b
+base_same registers None b e = sym (none_value registers b e)
+base_same registers (Some r) b e = sym (register_value registers r b e)
 
-pub plain_shift : (start : ℕ) (t : Term) → (int_eq t.frames (pos 0)) ≡ true → shift start t ≡ turn t.turned +ℤ t.moved
+own_is : (start : ℕ) (f : FlatState) (registers : List ℕ) (r : Reg) (fact : Fact) (t : Term) → is_own r fact ≡ true → fact.by ≡ Some t → Holds start f registers fact → Differs start t (flat_register f r) (get_or registers (register_number r) 0)
+own_is start f registers r fact t e n h =
+    let c = and_parts (is_register r fact.of) (is_register r fact.base && is_some fact.by) e in
+    let b = and_parts (is_register r fact.base) (is_some fact.by) c.1 in
+    let d : DiffersBy start (Some t) (value_in f.registers fact.base) (value_in registers fact.of) = subst (λ by. DiffersBy start by (value_in f.registers fact.base) (value_in registers fact.of)) n h in
+    subst (λ y. Differs start t (flat_register f r) y) (register_value registers r fact.of c.0) (subst (λ x. Differs start t x (value_in registers fact.of)) (register_value f.registers r fact.base b.0) d)
+
+pub own_differs : (start : ℕ) (f : FlatState) (facts : Facts) (registers : List ℕ) (r : Reg) (t : Term) → AllHold start f facts registers → own facts r ≡ Some t → Differs start t (flat_register f r) (get_or registers (register_number r) 0)
+unfolding own
+own_differs start f facts registers r t all e = option_and_then_some _ (find (is_own r) facts) t e (λ fact ef et.
+    let h = found_holds (is_own r) (Holds start f registers) facts fact ef all in own_is start f registers r fact t h.0 et h.1)
+
+-- where no frame is taken away
+pub plain_shift : (start : ℕ) (t : Term) → (t.frames == 0) ≡ true → shift start t ≡ pos t.moved
 plain_shift start t e =
-    let none : t.frames ≡ pos 0 = (Decides-int_eq t.frames (pos 0)).0 e in
-    let product : t.frames *ℤ pos start ≡ pos 0 = ap (λ z. z *ℤ pos start) none ∙ zero-*ℤ (pos start) in
-    rw product (omega (arith, ints))
-
-pub straight : (c : Bool) → not c ≡ true → c ≡ false
-straight true e = absurd (false≢true e)
-straight false e = refl
+    let none : t.frames ≡ 0 = eqb-true t.frames 0 e in
+    let product : t.frames * start ≡ 0 = ap (λ n. n * start) none ∙ (omega arith) in
+    omega (arith, ints)
 
 pub zero_shift : (start : ℕ) (t : Term) → is_zero t ≡ true → shift start t ≡ pos 0
 zero_shift start t e =
-    let a = and_parts (not t.turned) (int_eq t.frames (pos 0) && int_eq t.moved (pos 0)) e in
-    let b = and_parts (int_eq t.frames (pos 0)) (int_eq t.moved (pos 0)) a.1 in
-    let still : t.moved ≡ pos 0 = (Decides-int_eq t.moved (pos 0)).0 b.1 in
-    plain_shift start t b.0 ∙ ap₂ (λ c z. turn c +ℤ z) (straight t.turned a.0) still
+    let a = and_parts (t.frames == 0) (t.moved == 0) e in
+    plain_shift start t a.0 ∙ ap pos (eqb-true t.moved 0 a.1)
 
-pub same_value : (start : ℕ) (f : FlatState) (forms : Forms) (registers : List ℕ) (r : Reg) → IsFlat f → AllHold start f forms registers → is_same forms r ≡ true → get_or registers (register_number r) 0 ≡ flat_register f r
-same_value start f forms registers r flat all e = by_term (own forms r) refl e
+pub same_value : (start : ℕ) (f : FlatState) (facts : Facts) (registers : List ℕ) (r : Reg) → IsFlat f → AllHold start f facts registers → is_same facts r ≡ true → get_or registers (register_number r) 0 ≡ flat_register f r
+same_value start f facts registers r flat all e = by_term (own facts r) refl e
   where
-    by_term : (o : Option Term) → own forms r ≡ o → option_map_or is_zero o false ≡ true → get_or registers (register_number r) 0 ≡ flat_register f r
+    by_term : (o : Option Term) → own facts r ≡ o → option_map_or is_zero o false ≡ true → get_or registers (register_number r) 0 ≡ flat_register f r
     by_term None eo z = absurd (false≢true z)
-    by_term (Some t) eo z = zero_differs start (flat_register f r) (get_or registers (register_number r) 0) t (flat.numbers (register_number r)) (zero_shift start t z) (own_differs start f forms registers r t all eo)
+    by_term (Some t) eo z = zero_differs start (flat_register f r) (get_or registers (register_number r) 0) t (flat.numbers (register_number r)) (zero_shift start t z) (own_differs start f facts registers r t all eo)
 
 -- ---- low halves
 
@@ -72,100 +91,80 @@ pub record IsHigh (start : ℕ) : Type 0 where
   pub part : ℕ
   pub is : start ≡ 2 ^ 32 * part
 
--- equal but for multiples of 2 ^ 32
-record SameLow (z w : ℤ) : Type 0 where
-  p : ℕ
-  q : ℕ
-  same : z +ℤ pos (p * 2 ^ 32) ≡ w +ℤ pos (q * 2 ^ 32)
+low_of : (x y m k p q : ℕ) → Same (pos y) (pos x +ℤ (pos k -ℤ pos p)) → k ≡ 2 ^ 32 * m → p ≡ 2 ^ 32 * q → AreLow x y
+low_of x y m k p q s ek ep = let e = s.same in omega (arith, ints)
 
-times_part : (d start m : ℕ) → start ≡ 2 ^ 32 * m → d * start ≡ (d * m) * 2 ^ 32
+times_part : (d start m : ℕ) → start ≡ 2 ^ 32 * m → d * start ≡ 2 ^ 32 * (d * m)
 times_part d start m e = ap (λ n. d * n) e ∙ (omega arith)
 
-frames_low : (d : ℤ) (start : ℕ) → IsHigh start → SameLow (d *ℤ pos start) (pos 0)
-frames_low (pos d) start h =
-    let e = times_part d start h.part h.is in
-    let z : pos d *ℤ pos start ≡ pos (d * start) = pos-*ℤ-pos d start in
-    subst (λ x. SameLow x (pos 0)) (sym z) (record { p = 0; q = d * h.part; same = omega (arith, ints) })
-frames_low (negsuc d) start h =
-    let e = times_part (suc d) start h.part h.is in
-    let z : negsuc d *ℤ pos start ≡ neg_ℤ (pos (suc d * start)) = negsuc-*ℤ-pos d start in
-    subst (λ x. SameLow x (pos 0)) (sym z) (record { p = suc d * h.part; q = 0; same = omega (arith, ints) })
+pub low_differs : (start : ℕ) (t : Term) (x y : ℕ) → IsHigh start → is_high t ≡ true → Differs start t x y → AreLow x y
+low_differs start t x y high e d =
+    let whole : t.moved % 2 ^ 32 ≡ 0 = eqb-true (t.moved % 2 ^ 32) 0 e in
+    low_of x y (t.moved / 2 ^ 32) t.moved (t.frames * start) (t.frames * high.part) (differs_same start t x y d) (omega arith) (times_part t.frames start high.part high.is)
 
-turn_low : (c : Bool) (z w k : ℤ) → SameLow z (pos 0) → k ≡ pos 0 → SameLow ((turn c -ℤ z) +ℤ k) (pos 0)
-turn_low true z w k s e = let h = s.same in record { p = s.q; q = s.p + 2 ^ 31; same = omega (arith, ints) }
-turn_low false z w k s e = let h = s.same in record { p = s.q; q = s.p; same = omega (arith, ints) }
+-- ---- which gives which
 
-low_of : (x y : ℕ) (z : ℤ) → Same (pos y) (pos x +ℤ z) → SameLow z (pos 0) → AreLow x y
-low_of x y z s l = let e = s.same in let f = l.same in omega (arith, ints)
+pub enough_differs : (start : ℕ) (have want : Option Term) (x y : ℕ) → IsHigh start → is_enough have want ≡ true → DiffersBy start have x y → DiffersBy start want x y
+enough_differs start (Some t) (Some u) x y high e d =
+    let c = and_parts (t.frames == u.frames) (t.moved == u.moved) e in
+    subst (λ k. Differs start (record { frames = u.frames; moved = k }) x y) (eqb-true t.moved u.moved c.1) (subst (λ n. Differs start (record { frames = n; moved = t.moved }) x y) (eqb-true t.frames u.frames c.0) d)
+enough_differs start (Some t) None x y high e d = low_differs start t x y high e d
+enough_differs start None None x y high e d = d
+enough_differs start None (Some u) x y high e d = absurd (false≢true e)
 
-pub low_differs : (start : ℕ) (t : Term) (x y : ℕ) → IsHigh start → t.moved ≡ pos 0 → Differs start t x y → AreLow x y
-low_differs start t x y high still d = low_of x y (shift start t) (differs_same start t x y d) (turn_low t.turned (t.frames *ℤ pos start) (pos 0) t.moved (frames_low t.frames start high) still)
+-- what is known of one value, of another
+pub value_holds : (start : ℕ) (f : FlatState) (registers : List ℕ) (base : Option Reg) (by : Option Term) (y : ℕ) (want : Fact) → IsHigh start → DiffersBy start by (value_in f.registers base) y → is_base base want.base ≡ true → is_enough by want.by ≡ true → y ≡ value_in registers want.of → Holds start f registers want
+value_holds start f registers base by y want high d eb ee ey =
+    enough_differs start by want.by (value_in f.registers want.base) (value_in registers want.of) high ee
+    (subst (λ x. DiffersBy start by x (value_in registers want.of)) (base_same f.registers base want.base eb) (subst (λ y. DiffersBy start by (value_in f.registers base) y) ey d))
 
-low_is : (start : ℕ) (f : FlatState) (r : Reg) (form : Form) (y : ℕ) → IsHigh start → is_low_form r form ≡ true → Holds start f form y → AreLow (flat_register f r) y
-low_is start f r Free y high e h = absurd (false≢true e)
-low_is start f r (Low base) y high e h = subst (λ x. AreLow x y) (register_value f r base e) h
-low_is start f r (Is t) y high e h =
-    let c = and_parts (is_register r t.base) (int_eq t.moved (pos 0)) e in
-    subst (λ x. AreLow x y) (register_value f r t.base c.0) (low_differs start t (base_value f t.base) y high ((Decides-int_eq t.moved (pos 0)).0 c.1) h)
+pub gives_holds : (start : ℕ) (f : FlatState) (registers : List ℕ) (have want : Fact) → IsHigh start → gives have want ≡ true → Holds start f registers have → Holds start f registers want
+gives_holds start f registers have want high e h =
+    let a = and_parts (is_base have.of want.of) (is_base have.base want.base && is_enough have.by want.by) e in
+    let b = and_parts (is_base have.base want.base) (is_enough have.by want.by) a.1 in
+    value_holds start f registers have.base have.by (value_in registers have.of) want high h b.0 b.1 (base_same registers have.of want.of a.0)
 
-pub low_value : (start : ℕ) (f : FlatState) (forms : Forms) (registers : List ℕ) (r : Reg) → IsHigh start → AllHold start f forms registers → is_low forms r ≡ true → AreLow (flat_register f r) (get_or registers (register_number r) 0)
-low_value start f forms registers r high all e = low_is start f r (forms (register_number r)) (get_or registers (register_number r) 0) high e (all (register_number r) (reg_below r))
+low_is : (start : ℕ) (f : FlatState) (registers : List ℕ) (r : Reg) (fact : Fact) → IsHigh start → is_low_fact r fact ≡ true → Holds start f registers fact → AreLow (flat_register f r) (get_or registers (register_number r) 0)
+low_is start f registers r fact high e h =
+    let a = and_parts (is_register r fact.of) (is_register r fact.base && is_enough fact.by None) e in
+    let b = and_parts (is_register r fact.base) (is_enough fact.by None) a.1 in
+    subst (λ y. AreLow (flat_register f r) y) (register_value registers r fact.of a.0)
+    (subst (λ x. AreLow x (value_in registers fact.of)) (register_value f.registers r fact.base b.0) (enough_differs start fact.by None (value_in f.registers fact.base) (value_in registers fact.of) high b.1 h))
+
+pub low_value : (start : ℕ) (f : FlatState) (facts : Facts) (registers : List ℕ) (r : Reg) → IsHigh start → AllHold start f facts registers → is_low facts r ≡ true → AreLow (flat_register f r) (get_or registers (register_number r) 0)
+low_value start f facts registers r high all e = let h = any_holds (is_low_fact r) (Holds start f registers) facts e all in low_is start f registers r h.0 high h.1 h.2
 
 -- ---- all that an instruction reads
 
-pub all_same : (start : ℕ) (f : FlatState) (forms : Forms) (registers : List ℕ) (rs : List Reg) → IsFlat f → AllHold start f forms registers → list_all (is_same forms) rs ≡ true → AllByRecursion (λ r. get_or registers (register_number r) 0 ≡ flat_register f r) rs
-all_same start f forms registers [] flat all e = tt
-all_same start f forms registers (r ∷ rs) flat all e =
-    let h = and_parts (is_same forms r) (list_all (is_same forms) rs) e in
-    (same_value start f forms registers r flat all h.0, all_same start f forms registers rs flat all h.1)
+pub all_same : (start : ℕ) (f : FlatState) (facts : Facts) (registers : List ℕ) (rs : List Reg) → IsFlat f → AllHold start f facts registers → list_all (is_same facts) rs ≡ true → AllByRecursion (λ r. get_or registers (register_number r) 0 ≡ flat_register f r) rs
+all_same start f facts registers rs flat all e = all_of (is_same facts) (λ r. get_or registers (register_number r) 0 ≡ flat_register f r) rs e (λ r s. same_value start f facts registers r flat all s)
 
-pub all_low : (start : ℕ) (f : FlatState) (forms : Forms) (registers : List ℕ) (rs : List Reg) → IsHigh start → AllHold start f forms registers → list_all (is_low forms) rs ≡ true → AllByRecursion (λ r. AreLow (flat_register f r) (get_or registers (register_number r) 0)) rs
-all_low start f forms registers [] high all e = tt
-all_low start f forms registers (r ∷ rs) high all e =
-    let h = and_parts (is_low forms r) (list_all (is_low forms) rs) e in
-    (low_value start f forms registers r high all h.0, all_low start f forms registers rs high all h.1)
+pub all_low : (start : ℕ) (f : FlatState) (facts : Facts) (registers : List ℕ) (rs : List Reg) → IsHigh start → AllHold start f facts registers → list_all (is_low facts) rs ≡ true → AllByRecursion (λ r. AreLow (flat_register f r) (get_or registers (register_number r) 0)) rs
+all_low start f facts registers rs high all e = all_of (is_low facts) (λ r. AreLow (flat_register f r) (get_or registers (register_number r) 0)) rs e (λ r s. low_value start f facts registers r high all s)
 
 -- ---- what is left behind a write
 
-base_left : (f : FlatState) (r : Reg) (x : ℕ) (base : Option Reg) → is_register r base ≡ false → base_value (flat_put r x f) base ≡ base_value f base
-base_left f r x None e = refl
-base_left f r x (Some of) e = get_or-set_other f.registers (register_number r) (register_number of) x 0 (eqb-false (register_number of) (register_number r) e)
+pub others_stay : (registers : List ℕ) (r : Reg) (y : ℕ) (of : Option Reg) → not (is_register r of) ≡ true → value_in (set registers (register_number r) y) of ≡ value_in registers of
+others_stay registers r y None e = refl
+others_stay registers r y (Some of) e = get_or-set_other registers (register_number r) (register_number of) y 0 (eqb-false (register_number of) (register_number r) (no (register_number of == register_number r) e))
+  where
+    no : (b : Bool) → not b ≡ true → b ≡ false
+    no true e = absurd (false≢true e)
+    no false e = refl
 
-left_holds : (start : ℕ) (f : FlatState) (r : Reg) (x y : ℕ) (form : Form) → Holds start f form y → Holds start (flat_put r x f) (left r form) y
-left_holds start f r x y Free h = tt
-left_holds start f r x y (Low base) h =
-    cond_both (is_register r base) Free (Low base) (λ form. Holds start (flat_put r x f) form y) (λ e. tt)
-    (λ e. subst (λ z. AreLow z y) (sym (base_left f r x base e)) h)
-left_holds start f r x y (Is t) h =
-    cond_both (is_register r t.base) Free (Is t) (λ form. Holds start (flat_put r x f) form y) (λ e. tt)
-    (λ e. subst (λ z. Differs start t z y) (sym (base_left f r x t.base e)) h)
+pub there_now : (registers : List ℕ) (r : Reg) (y : ℕ) (of : Option Reg) → length registers ≡ 11 → is_register r of ≡ true → y ≡ value_in (set registers (register_number r) y) of
+there_now registers r y of many e = sym (register_value (set registers (register_number r) y) r of e ∙ get_or-set_same registers (register_number r) y 0 (subst (λ k. register_number r < k) (sym many) (reg_below r)))
 
--- what is put differs by a term, or has the same low half
-abbrev pub DiffersBy : ℕ → Option Term → ℕ → ℕ → Type 0
-DiffersBy start (Some t) x y = Differs start t x y
-DiffersBy start None x y = AreLow x y
+pub stays_holds : (start : ℕ) (f : FlatState) (registers : List ℕ) (r : Reg) (x y : ℕ) (fact : Fact) → stays r fact ≡ true → Holds start f registers fact → Holds start (flat_put r x f) (set registers (register_number r) y) fact
+stays_holds start f registers r x y fact e h =
+    let c = and_parts (not (is_register r fact.of)) (not (is_register r fact.base)) e in
+    subst (λ z. DiffersBy start fact.by z (value_in (set registers (register_number r) y) fact.of)) (sym (others_stay f.registers r x fact.base c.1))
+    (subst (λ z. DiffersBy start fact.by (value_in f.registers fact.base) z) (sym (others_stay registers r y fact.of c.0)) h)
 
-put_holds : (start : ℕ) (f : FlatState) (r : Reg) (t : Option Term) (x y : ℕ) → flat_register f r ≡ x → DiffersBy start t x y → Holds start f (put_form r t) y
-put_holds start f r (Some t) x y e d = subst (λ z. Differs start t z y) (sym e) d
-put_holds start f r None x y e d = subst (λ z. AreLow z y) (sym e) d
+pub other_holds : (start : ℕ) (f : FlatState) (registers : List ℕ) (r : Reg) (y : ℕ) (fact : Fact) → not (is_register r fact.of) ≡ true → Holds start f registers fact → Holds start f (set registers (register_number r) y) fact
+other_holds start f registers r y fact e h = subst (λ z. DiffersBy start fact.by (value_in f.registers fact.base) z) (sym (others_stay registers r y fact.of e)) h
 
--- both have put a number into the register, and the new one's differs by a term
-pub behind_holds : (start : ℕ) (f : FlatState) (forms : Forms) (registers : List ℕ) (r : Reg) (t : Option Term) (x y : ℕ) → length f.registers ≡ 11 → length registers ≡ 11 → AllHold start f forms registers → DiffersBy start t x y
-    → AllHold start (flat_put r x f) (behind forms r t) (set registers (register_number r) y)
-behind_holds start f forms registers r t x y many many' all d n lt =
-    cond_both (n == register_number r) (put_form r t) (left r (forms n)) (λ form. Holds start (flat_put r x f) form (get_or (set registers (register_number r) y) n 0))
-    (λ e. let same : n ≡ register_number r = eqb-true n (register_number r) e in
-    let new : get_or (set registers (register_number r) y) n 0 ≡ y = ap (λ k. get_or (set registers (register_number r) y) k 0) same ∙ get_or-set_same registers (register_number r) y 0 (subst (λ k. register_number r < k) (sym many') (reg_below r)) in
-    let old : flat_register (flat_put r x f) r ≡ x = get_or-set_same f.registers (register_number r) x 0 (subst (λ k. register_number r < k) (sym many) (reg_below r)) in
-    subst (λ z. Holds start (flat_put r x f) (put_form r t) z) (sym new) (put_holds start (flat_put r x f) r t x y old d))
-    (λ e. let other : get_or (set registers (register_number r) y) n 0 ≡ get_or registers n 0 = get_or-set_other registers (register_number r) n y 0 (eqb-false n (register_number r) e) in
-    subst (λ z. Holds start (flat_put r x f) (left r (forms n)) z) (sym other) (left_holds start f r x (get_or registers n 0) (forms n) (all n lt)))
-
--- the new program alone has
-pub with_holds : (start : ℕ) (f : FlatState) (forms : Forms) (registers : List ℕ) (r : Reg) (form : Form) (y : ℕ) → length registers ≡ 11 → AllHold start f forms registers → Holds start f form y → AllHold start f (with_form forms r form) (set registers (register_number r) y)
-with_holds start f forms registers r form y many all h n lt =
-    cond_both (n == register_number r) form (forms n) (λ form. Holds start f form (get_or (set registers (register_number r) y) n 0))
-    (λ e. let same : n ≡ register_number r = eqb-true n (register_number r) e in
-    let new : get_or (set registers (register_number r) y) n 0 ≡ y = ap (λ k. get_or (set registers (register_number r) y) k 0) same ∙ get_or-set_same registers (register_number r) y 0 (subst (λ k. register_number r < k) (sym many) (reg_below r)) in
-    subst (λ z. Holds start f form z) (sym new) h)
-    (λ e. subst (λ z. Holds start f (forms n) z) (sym (get_or-set_other registers (register_number r) n y 0 (eqb-false n (register_number r) e))) (all n lt))
+-- where the old program's registers are the same
+pub still_holds : (start : ℕ) (f g : FlatState) (registers : List ℕ) (facts : Facts) → g.registers ≡ f.registers → AllHold start f facts registers → AllHold start g facts registers
+still_holds start f g registers [] e h = tt
+still_holds start f g registers (fact ∷ facts) e h = (subst (λ rs. DiffersBy start fact.by (value_in rs fact.base) (value_in registers fact.of)) (sym e) h.0, still_holds start f g registers facts e h.1)

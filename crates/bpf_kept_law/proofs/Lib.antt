@@ -3,6 +3,7 @@ mod ZeroLaw
 mod TermLaw
 mod HoldsLaw
 mod PutLaw
+mod ExtraLaw
 mod TestLaw
 mod AheadLaw
 mod GuardLaw
@@ -17,3 +18,4 @@ mod ExactLaw
 mod FarRuns
 mod Example
 mod FrameExample
+mod PointersExample

@@ -1,9 +1,9 @@
 -- Instructions that put a number into a register: what the new program puts where it does what the old one does, and where it does it alone.
-use Rattle.std.proofs.Common.{set, false, List, ◌≡◌, ℕ, zero, suc, ◌+◌, ◌%◌, ◌^◌, ◌-◌, ◌*◌, ◌/◌, ◌<◌, ◌≤◌, inl, inr, refl, sym, ap, ap₂, ◌∙◌, subst, arith, true, ◌∷◌, length, Option, Some, None}
-use Rattle.std.specs.Prelude.{ℤ, pos, negsuc, ◌+ℤ◌, ◌-ℤ◌, ◌*ℤ◌, neg_ℤ, ◌&&◌, not, is_none, get_or, bit_and, bit_or, bit_xor, if◌then◌else◌}
+use Rattle.std.proofs.Common.{set, cond, Bool, ◌==◌, false, List, ◌≡◌, ℕ, zero, suc, ◌+◌, ◌%◌, ◌^◌, ◌-◌, ◌*◌, ◌/◌, ◌<◌, ◌≤◌, inl, inr, refl, sym, ap, ap₂, ◌∙◌, subst, arith, true, ◌∷◌, length, Option, Some, None}
+use Rattle.std.specs.Prelude.{◌↔◌, IsTrue, ◌||◌, option_map, ℤ, pos, negsuc, ◌+ℤ◌, ◌-ℤ◌, ◌*ℤ◌, neg_ℤ, ◌&&◌, not, is_none, get_or, bit_and, bit_or, bit_xor, if◌then◌else◌}
 use Rattle.std.specs.Int.{cast_signed, w32, w64, bit_at, byte_at, bytes_low_first}
-use Rattle.std.specs.List.{AllByRecursion, list_all}
-use Rattle.std.specs.Option.{option_or}
+use Rattle.std.specs.List.{AllByRecursion, list_all, list_any}
+use Rattle.std.specs.Option.{option_map_or, option_or}
 use Rattle.std.specs.Ordering.{int_eq}
 use Rattle.std.proofs.lemmas.Bool.{and_parts, or_cases, ltb-true, eqb-true, eqb-false, cond_both, false≢true}
 use Rattle.std.proofs.lemmas.Bool.Decides.{Decides-int_eq}
@@ -23,9 +23,11 @@ use Rattle.bpf_insn.specs.Instruction.{register_number, byte_count}
 use Rattle.bpf_insn.specs.declared.order.Order.{Order}
 use Rattle.bpf_insn.specs.declared.order.Order.TheVariants.{Little, Big}
 use Rattle.bpf_insn.specs.declared.instruction.Reg.{Reg}
-use Rattle.bpf_insn.specs.declared.instruction.Reg.TheVariants.{R10}
+use Rattle.bpf_insn.specs.declared.instruction.Reg.TheVariants.{R0, R1, R2, R3, R4, R5, R6, R7, R8, R9, R10}
 use Rattle.bpf_insn.specs.declared.instruction.Operand.{Operand}
 use Rattle.bpf_insn.specs.declared.instruction.Operand.TheVariants.{Imm, Reg as FromReg}
+use Rattle.bpf_insn.specs.declared.instruction.Size.{Size}
+use Rattle.bpf_insn.specs.declared.instruction.Size.TheVariants.{B, H, W, DW}
 use Rattle.bpf_insn.specs.declared.instruction.SignBits.{SignBits}
 use Rattle.bpf_insn.specs.declared.instruction.SignBits.TheVariants.{B8, B16, B32}
 use Rattle.bpf_insn.specs.declared.instruction.EndBits.{EndBits}
@@ -35,7 +37,7 @@ use Rattle.bpf_insn.specs.declared.instruction.Width.TheVariants.{W32, W64}
 use Rattle.bpf_insn.specs.declared.instruction.AluOp.{AluOp}
 use Rattle.bpf_insn.specs.declared.instruction.AluOp.TheVariants.{Add, Sub, Mul, Div, SDiv, Or, And, Lsh, Rsh, Mod, SMod, Xor, Mov, Arsh}
 use Rattle.bpf_insn.specs.declared.instruction.Insn.{Insn}
-use Rattle.bpf_insn.specs.declared.instruction.Insn.TheVariants.{Alu, Neg, MovSx, End, LoadImm64, Load, LoadSx}
+use Rattle.bpf_insn.specs.declared.instruction.Insn.TheVariants.{Alu, Neg, MovSx, End, LoadImm64, Load, LoadSx, Ja, JaLong, JumpIf, CallLocal}
 use Rattle.bpf_insn.proofs.RegisterLemmas.{reg_below}
 use Rattle.bpf_semantics.specs.Step.{size_type}
 use Rattle.bpf_semantics.specs.Flat.{FlatState, IsFlat, addresses, address, bytes_from, flat_register, flat_operand, flat_put, flat_next, flat_number, flat_does}
@@ -44,11 +46,11 @@ use Rattle.bpf_semantics.proofs.FlatArith.{Same, modulo_same, same_refl, same_sy
 use Rattle.bpf_semantics.proofs.FlatRegistersLaw.{flat_reads_registers}
 use Rattle.bpf_semantics.proofs.NumberLemmas.{modulo_below}
 use Rattle.bpf_semantics.proofs.StateLemmas.{cond_option, option_map_some}
-use Rattle.bpf_kept_law.specs.Terms.{Term, Form, Forms, Differs, AreLow, Holds, base_value, shift, turn, constant, in_frame, frame_offset, based, plus, minus, negated, times}
-use Rattle.bpf_kept_law.specs.Terms.Form.{Free, Is}
-use Rattle.bpf_kept_law.specs.Rules.{own, is_register, is_same, is_low, put_into, operand_term, by_terms, keeps_low, has_low_result, reads_low, reads_same, result_term, meets, SameAddress, IsFramed, PutsAlike, operand_form, added, is_base, taken_away, made, extra_form}
-use Rattle.bpf_kept_law.proofs.TermLaw.{shift_plus, shift_minus, shift_constant, differs_same, same_differs, same_number, sum_differs, difference_differs, negation_differs, product_differs, complement_differs}
-use Rattle.bpf_kept_law.proofs.HoldsLaw.{AllHold, DiffersBy, IsHigh, register_value, straight, own_differs, plain_shift, all_same, all_low}
+use Rattle.bpf_kept_law.specs.declared.notes.Term.{Term}
+use Rattle.bpf_kept_law.specs.Terms.{Facts, Differs, AreLow, DiffersBy, Holds, AllHold, value_in, shift, constant, zero_term, frame_offset, plus, minus, negated, times}
+use Rattle.bpf_kept_law.specs.Rules.{own, same_register, is_register, is_same, is_low, put_into, operand_term, by_terms, keeps_low, has_low_result, reads_low, reads_same, result_term, is_address, same_size, same_address, loads_alike, is_framed, undirected, low_result, put_by}
+use Rattle.bpf_kept_law.proofs.TermLaw.{differs_same, same_differs, same_number, sum_differs, difference_differs, negation_differs, product_differs, complement_differs}
+use Rattle.bpf_kept_law.proofs.HoldsLaw.{IsHigh, any_holds, register_value, own_differs, plain_shift, all_same, all_low}
 use Rattle.bpf_kept_law.proofs.ZeroLaw.{does_keeps}
 
 -- ---- what is put
@@ -190,9 +192,9 @@ put_low order i f g e h = refl
 
 -- ---- the same instruction in both
 
-operand_differs : (start : ℕ) (forms : Forms) (f g : FlatState) (src : Operand) (t : Term) → AllHold start f forms g.registers → operand_term forms src ≡ Some t → Differs start t (flat_operand f src) (flat_operand g src)
-operand_differs start forms f g (Imm imm) t all e = subst (λ t. Differs start t (extended imm) (extended imm)) (same_Some (constant (pos 0)) t e) (same_number start (extended imm) (modulo_below imm))
-operand_differs start forms f g (FromReg r) t all e = own_differs start f forms g.registers r t all e
+operand_differs : (start : ℕ) (facts : Facts) (f g : FlatState) (src : Operand) (t : Term) → AllHold start f facts g.registers → operand_term facts src ≡ Some t → Differs start t (flat_operand f src) (flat_operand g src)
+operand_differs start facts f g (Imm imm) t all e = subst (λ t. Differs start t (extended imm) (extended imm)) (same_Some zero_term t e) (same_number start (extended imm) (modulo_below imm))
+operand_differs start facts f g (FromReg r) t all e = own_differs start f facts g.registers r t all e
 
 -- all bits of a number turned
 xor_ones : (x : ℕ) → x < 2 ^ 64 → bit_xor x (2 ^ 64 - 1) ≡ 2 ^ 64 - 1 - x
@@ -202,39 +204,39 @@ xor_ones x small = same_from_bits_below 64 (bit_xor x (2 ^ 64 - 1)) (2 ^ 64 - 1 
     let turned : (bit_at x i + 1) % 2 ≡ 1 - bit_at x i = omega arith in
     bit_at_xor x (2 ^ 64 - 1) i ∙ ap (λ z. (bit_at x i + z) % 2) one ∙ turned ∙ sym (bit_at_not w64 x i small lt))
 
-terms_differ : (order : Order) (start : ℕ) (forms : Forms) (i : Insn) (f g : FlatState) (t : Term) → IsFlat f → IsFlat g → AllHold start f forms g.registers → by_terms forms i ≡ Some t → Differs start t (put_value order i f) (put_value order i g)
-terms_differ order start forms (Alu Mul W64 dst (Imm imm)) f g t flat flat' all e =
-    let h = option_map_some (times (extended imm)) (own forms dst) t e in
+terms_differ : (order : Order) (start : ℕ) (facts : Facts) (i : Insn) (f g : FlatState) (t : Term) → IsFlat f → IsFlat g → AllHold start f facts g.registers → by_terms facts i ≡ Some t → Differs start t (put_value order i f) (put_value order i g)
+terms_differ order start facts (Alu Mul W64 dst (Imm imm)) f g t flat flat' all e =
+    let h = option_map_some (times (extended imm)) (own facts dst) t e in
     subst (λ t. Differs start t (put_value order (Alu Mul W64 dst (Imm imm)) f) (put_value order (Alu Mul W64 dst (Imm imm)) g)) h.2
-    (product_differs start h.0 (flat_register f dst) (flat_register g dst) (extended imm) (own_differs start f forms g.registers dst h.0 all h.1))
-terms_differ order start forms (Alu Lsh W64 dst (Imm imm)) f g t flat flat' all e =
-    let h = option_map_some (times (2 ^ (extended imm % 64))) (own forms dst) t e in
+    (product_differs start h.0 (flat_register f dst) (flat_register g dst) (extended imm) (own_differs start f facts g.registers dst h.0 all h.1))
+terms_differ order start facts (Alu Lsh W64 dst (Imm imm)) f g t flat flat' all e =
+    let h = option_map_some (times (2 ^ (extended imm % 64))) (own facts dst) t e in
     subst (λ t. Differs start t (put_value order (Alu Lsh W64 dst (Imm imm)) f) (put_value order (Alu Lsh W64 dst (Imm imm)) g)) h.2
-    (product_differs start h.0 (flat_register f dst) (flat_register g dst) (2 ^ (extended imm % 64)) (own_differs start f forms g.registers dst h.0 all h.1))
-terms_differ order start forms (Alu Xor W64 dst (Imm (negsuc zero))) f g t flat flat' all e =
-    let h = option_map_some negated (own forms dst) t e in
+    (product_differs start h.0 (flat_register f dst) (flat_register g dst) (2 ^ (extended imm % 64)) (own_differs start f facts g.registers dst h.0 all h.1))
+terms_differ order start facts (Alu Xor W64 dst (Imm (negsuc zero))) f g t flat flat' all e =
+    let h = option_map_some negated (own facts dst) t e in
     let a : ℕ = flat_register f dst in
     let x : ℕ = flat_register g dst in
     let ha : a < addresses = flat.numbers (register_number dst) in
     let hx : x < addresses = flat'.numbers (register_number dst) in
     subst (λ t. Differs start t (put_value order (Alu Xor W64 dst (Imm (negsuc zero))) f) (put_value order (Alu Xor W64 dst (Imm (negsuc zero))) g)) h.2
-    (subst (λ z. Differs start (negated h.0) z (bit_xor x (2 ^ 64 - 1))) (sym (xor_ones a ha)) (subst (λ z. Differs start (negated h.0) (2 ^ 64 - 1 - a) z) (sym (xor_ones x hx)) (complement_differs start h.0 a x ha hx (own_differs start f forms g.registers dst h.0 all h.1))))
-terms_differ order start forms (Alu Xor W64 dst (Imm imm)) f g t flat flat' all e = absurd (none-some _ e)
-terms_differ order start forms (Alu Mov W64 dst src) f g t flat flat' all e = operand_differs start forms f g src t all e
-terms_differ order start forms (Alu Add W64 dst src) f g t flat flat' all e =
-    option_and_then_some _ (own forms dst) t e (λ a ea e1. option_and_then_some _ (operand_term forms src) t e1 (λ b eb e2.
+    (subst (λ z. Differs start (negated h.0) z (bit_xor x (2 ^ 64 - 1))) (sym (xor_ones a ha)) (subst (λ z. Differs start (negated h.0) (2 ^ 64 - 1 - a) z) (sym (xor_ones x hx)) (complement_differs start h.0 a x ha hx (own_differs start f facts g.registers dst h.0 all h.1))))
+terms_differ order start facts (Alu Xor W64 dst (Imm imm)) f g t flat flat' all e = absurd (none-some _ e)
+terms_differ order start facts (Alu Mov W64 dst src) f g t flat flat' all e = operand_differs start facts f g src t all e
+terms_differ order start facts (Alu Add W64 dst src) f g t flat flat' all e =
+    option_and_then_some _ (own facts dst) t e (λ a ea e1. option_and_then_some _ (operand_term facts src) t e1 (λ b eb e2.
     subst (λ t. Differs start t (put_value order (Alu Add W64 dst src) f) (put_value order (Alu Add W64 dst src) g)) (same_Some (plus a b) t e2)
-    (sum_differs start a b (flat_register f dst) (flat_operand f src) (flat_register g dst) (flat_operand g src) (own_differs start f forms g.registers dst a all ea) (operand_differs start forms f g src b all eb))))
-terms_differ order start forms (Alu Sub W64 dst src) f g t flat flat' all e =
-    option_and_then_some _ (own forms dst) t e (λ a ea e1. option_and_then_some _ (operand_term forms src) t e1 (λ b eb e2.
+    (sum_differs start a b (flat_register f dst) (flat_operand f src) (flat_register g dst) (flat_operand g src) (own_differs start f facts g.registers dst a all ea) (operand_differs start facts f g src b all eb))))
+terms_differ order start facts (Alu Sub W64 dst src) f g t flat flat' all e =
+    option_and_then_some _ (own facts dst) t e (λ a ea e1. option_and_then_some _ (operand_term facts src) t e1 (λ b eb e2.
     subst (λ t. Differs start t (put_value order (Alu Sub W64 dst src) f) (put_value order (Alu Sub W64 dst src) g)) (same_Some (minus a b) t e2)
-    (difference_differs start a b (flat_register f dst) (flat_operand f src) (flat_register g dst) (flat_operand g src) (own_differs start f forms g.registers dst a all ea) (operand_differs start forms f g src b all eb))))
-terms_differ order start forms (Alu op W64 dst src) f g t flat flat' all e =
-    option_and_then_some _ (own forms dst) t e (λ a ea e1. option_and_then_some _ (operand_term forms src) t e1 (λ b eb e2. absurd (none-some _ e2)))
-terms_differ order start forms (Neg W64 dst) f g t flat flat' all e =
-    let h = option_map_some negated (own forms dst) t e in
-    subst (λ t. Differs start t (put_value order (Neg W64 dst) f) (put_value order (Neg W64 dst) g)) h.2 (negation_differs start h.0 (flat_register f dst) (flat_register g dst) (own_differs start f forms g.registers dst h.0 all h.1))
-terms_differ order start forms i f g t flat flat' all e = absurd (none-some _ e)
+    (difference_differs start a b (flat_register f dst) (flat_operand f src) (flat_register g dst) (flat_operand g src) (own_differs start f facts g.registers dst a all ea) (operand_differs start facts f g src b all eb))))
+terms_differ order start facts (Alu op W64 dst src) f g t flat flat' all e =
+    option_and_then_some _ (own facts dst) t e (λ a ea e1. option_and_then_some _ (operand_term facts src) t e1 (λ b eb e2. absurd (none-some _ e2)))
+terms_differ order start facts (Neg W64 dst) f g t flat flat' all e =
+    let h = option_map_some negated (own facts dst) t e in
+    subst (λ t. Differs start t (put_value order (Neg W64 dst) f) (put_value order (Neg W64 dst) g)) h.2 (negation_differs start h.0 (flat_register f dst) (flat_register g dst) (own_differs start f facts g.registers dst h.0 all h.1))
+terms_differ order start facts i f g t flat flat' all e = absurd (none-some _ e)
 
 -- r10 is the end of the frame in both
 abbrev pub IsEnd : ℕ → List ℕ → Type 0
@@ -246,63 +248,128 @@ ArePointers start old new = IsEnd start old × IsEnd start new
 pub end_left : (start : ℕ) (registers : List ℕ) (r : Reg) (x : ℕ) → is_frame_pointer r ≡ false → IsEnd start registers → IsEnd start (set registers (register_number r) x)
 end_left start registers r x e h = get_or-set_other registers (register_number r) 10 x 0 (λ same. eqb-false (register_number r) 10 e (sym same)) ∙ h
 
--- at one placement: the old program's state, and the new one's registers by their forms
-pub record AtOnce (start : ℕ) (forms : Forms) (f g : FlatState) : Type 0 where
+-- at one placement: the old program's state, and the new one's registers by their facts
+pub record AtOnce (start : ℕ) (facts : Facts) (f g : FlatState) : Type 0 where
   pub high : IsHigh start
   pub flat : IsFlat f
   pub new_flat : IsFlat g
   pub memory_same : g.memory ≡ f.memory
   pub pointers : ArePointers start f.registers g.registers
-  pub all : AllHold start f forms g.registers
+  pub all : AllHold start f facts g.registers
 
-equal_differs : (start x y : ℕ) → x < addresses → y ≡ x → Differs start (constant (pos 0)) x y
-equal_differs start x y small e = subst (λ z. Differs start (constant (pos 0)) x z) (sym e) (same_number start x small)
+equal_differs : (start x y : ℕ) → x < addresses → y ≡ x → Differs start (constant 0) x y
+equal_differs start x y small e = subst (λ z. Differs start (constant 0) x z) (sym e) (same_number start x small)
 
-result_differs : (order : Order) (start : ℕ) (forms : Forms) (i : Insn) (r : Reg) (f g : FlatState) (t : Term) → put_into i ≡ Some r → HasEncoding i → AtOnce start forms f g → result_term forms i ≡ Some t → Differs start t (put_value order i f) (put_value order i g)
-unfolding result_term
-result_differs order start forms i r f g t into enc at e = by_first (by_terms forms i) refl e
+result_differs : (order : Order) (start : ℕ) (facts : Facts) (i : Insn) (r : Reg) (f g : FlatState) (t : Term) → put_into i ≡ Some r → HasEncoding i → AtOnce start facts f g → result_term facts i ≡ Some t → Differs start t (put_value order i f) (put_value order i g)
+unfolding result_term reads_same
+result_differs order start facts i r f g t into enc at e = by_first (by_terms facts i) refl e
   where
-    equal : reads_same forms i ≡ true → put_value order i g ≡ put_value order i f
-    equal c = elim (or_cases (list_all (is_same forms) (registers_read i)) (reads_low i && list_all (is_low forms) (registers_read i)) c) [
-      | inl same ↦ put_same order i r f g into at.flat.eleven at.new_flat.eleven at.memory_same (all_same start f forms g.registers (registers_read i) at.flat at.all same)
-      | inr low ↦ (let h = and_parts (reads_low i) (list_all (is_low forms) (registers_read i)) low in put_low order i f g h.0 (all_low start f forms g.registers (registers_read i) at.high at.all h.1))
+    equal : reads_same facts i ≡ true → put_value order i g ≡ put_value order i f
+    equal c = elim (or_cases (list_all (is_same facts) (registers_read i)) (reads_low i && list_all (is_low facts) (registers_read i)) c) [
+      | inl same ↦ put_same order i r f g into at.flat.eleven at.new_flat.eleven at.memory_same (all_same start f facts g.registers (registers_read i) at.flat at.all same)
+      | inr low ↦ (let h = and_parts (reads_low i) (list_all (is_low facts) (registers_read i)) low in put_low order i f g h.0 (all_low start f facts g.registers (registers_read i) at.high at.all h.1))
     ]
 
-    by_first : (o : Option Term) → by_terms forms i ≡ o → option_or o (if reads_same forms i then Some (constant (pos 0)) else None) ≡ Some t → Differs start t (put_value order i f) (put_value order i g)
-    by_first (Some u) eo h = terms_differ order start forms i f g t at.flat at.new_flat at.all (eo ∙ h)
+    by_first : (o : Option Term) → by_terms facts i ≡ o → option_or o (if reads_same facts i then Some zero_term else None) ≡ Some t → Differs start t (put_value order i f) (put_value order i g)
+    by_first (Some u) eo h = terms_differ order start facts i f g t at.flat at.new_flat at.all (eo ∙ h)
     by_first None eo h =
-        let c = cond_option (reads_same forms i) (Some (constant (pos 0))) t h in
-        subst (λ t. Differs start t (put_value order i f) (put_value order i g)) (same_Some (constant (pos 0)) t c.1) (equal_differs start (put_value order i f) (put_value order i g) (put_below order i r f into enc at.flat) (equal c.0))
+        let c = cond_option (reads_same facts i) (Some (constant 0)) t h in
+        subst (λ t. Differs start t (put_value order i f) (put_value order i g)) (same_Some (constant 0) t c.1) (equal_differs start (put_value order i f) (put_value order i g) (put_below order i r f into enc at.flat) (equal c.0))
 
--- ---- a load by another register
+-- ---- by another register
 
-pub address_same : (start : ℕ) (forms : Forms) (f g : FlatState) (base src : Reg) (off at : ℤ) (t : Term) → AllHold start f forms g.registers → forms (register_number base) ≡ Is t → meets t src off at ≡ true → address g base at ≡ address f src off
-address_same start forms f g base src off at t all is m =
-    let a = and_parts (is_register src t.base) (not t.turned && (int_eq t.frames (pos 0) && int_eq (t.moved +ℤ at) off)) m in
-    let b = and_parts (not t.turned) (int_eq t.frames (pos 0) && int_eq (t.moved +ℤ at) off) a.1 in
-    let c = and_parts (int_eq t.frames (pos 0)) (int_eq (t.moved +ℤ at) off) b.1 in
-    let d : Differs start t (base_value f t.base) (flat_register g base) = subst (λ form. Holds start f form (flat_register g base)) is (all (register_number base) (reg_below base)) in
-    let e : Differs start t (flat_register f src) (flat_register g base) = subst (λ x. Differs start t x (flat_register g base)) (register_value f src t.base a.0) d in
-    let by : shift start t ≡ t.moved = plain_shift start t c.0 ∙ ap (λ c. turn c +ℤ t.moved) (straight t.turned b.0) ∙ (omega (arith, ints)) in
-    let good : t.moved +ℤ at ≡ off = (Decides-int_eq (t.moved +ℤ at) off).0 c.1 in
-    let sum : (pos (flat_register f src) +ℤ t.moved) +ℤ at ≡ pos (flat_register f src) +ℤ off = omega (arith, ints) in
-    let s : Same (pos (flat_register g base)) (pos (flat_register f src) +ℤ t.moved) = subst (λ z. Same (pos (flat_register g base)) (pos (flat_register f src) +ℤ z)) by (differs_same start t (flat_register f src) (flat_register g base) e) in
-    modulo_same (same_trans (same_plus s (same_refl at)) (same_equal sum))
+pub address_same : (start : ℕ) (facts : Facts) (f g : FlatState) (base src : Reg) (off at : ℤ) → AllHold start f facts g.registers → same_address facts base at src off ≡ true → address g base at ≡ address f src off
+unfolding same_address
+address_same start facts f g base src off at all e =
+    let h = any_holds (is_address base at src off) (Holds start f g.registers) facts e all in
+    let a = and_parts (is_register base h.0.of) (is_register src h.0.base && option_map_or (λ t. t.frames == 0 && (t.moved + extended at) % addresses == extended off) h.0.by false) h.1 in
+    let b = and_parts (is_register src h.0.base) (option_map_or (λ t. t.frames == 0 && (t.moved + extended at) % addresses == extended off) h.0.by false) a.1 in
+    by_term h.0.by (subst (λ x. DiffersBy start h.0.by x (flat_register g base)) (register_value f.registers src h.0.base b.0) (subst (λ y. DiffersBy start h.0.by (value_in f.registers h.0.base) y) (register_value g.registers base h.0.of a.0) h.2)) b.1
+  where
+    by_term : (by : Option Term) → DiffersBy start by (flat_register f src) (flat_register g base) → option_map_or (λ t. t.frames == 0 && (t.moved + extended at) % addresses == extended off) by false ≡ true → address g base at ≡ address f src off
+    by_term None d m = absurd (false≢true m)
+    by_term (Some t) d m =
+        let c = and_parts (t.frames == 0) ((t.moved + extended at) % addresses == extended off) m in
+        let good : (t.moved + extended at) % addresses ≡ extended off = eqb-true ((t.moved + extended at) % addresses) (extended off) c.1 in
+        let sum : Same (pos t.moved +ℤ at) off = same_trans (same_plus (same_refl (pos t.moved)) (same_sym (modulo-same at))) (same_trans (same_sym (modulo-same (pos (t.moved + extended at)))) (same_trans (same_equal (ap pos good)) (modulo-same off))) in
+        let s : Same (pos (flat_register g base)) (pos (flat_register f src) +ℤ pos t.moved) = subst (λ z. Same (pos (flat_register g base)) (pos (flat_register f src) +ℤ z)) (plain_shift start t c.0) (differs_same start t (flat_register f src) (flat_register g base) d) in
+        let again : (pos (flat_register f src) +ℤ pos t.moved) +ℤ at ≡ pos (flat_register f src) +ℤ (pos t.moved +ℤ at) = omega (arith, ints) in
+        modulo_same (same_trans (same_plus s (same_refl at)) (same_trans (same_equal again) (same_plus (same_refl (pos (flat_register f src))) sum)))
+
+pub size_is : (a b : Size) → same_size a b ≡ true → b ≡ a
+size_is B B e = refl
+size_is H H e = refl
+size_is W W e = refl
+size_is DW DW e = refl
+size_is B H e = absurd (false≢true e)
+size_is B W e = absurd (false≢true e)
+size_is B DW e = absurd (false≢true e)
+size_is H B e = absurd (false≢true e)
+size_is H W e = absurd (false≢true e)
+size_is H DW e = absurd (false≢true e)
+size_is W B e = absurd (false≢true e)
+size_is W H e = absurd (false≢true e)
+size_is W DW e = absurd (false≢true e)
+size_is DW B e = absurd (false≢true e)
+size_is DW H e = absurd (false≢true e)
+size_is DW W e = absurd (false≢true e)
 
 loaded_same : (order : Order) (k a b : ℕ) (f g : FlatState) → g.memory ≡ f.memory → a ≡ b → flat_number order g k a ≡ flat_number order f k b
 loaded_same order k a b f g memory e = ap₂ (λ m a. number_of order k (bytes_from m a k)) memory e
 
-load_same : (order : Order) (start : ℕ) (forms : Forms) (i moved : Insn) (f g : FlatState) → AtOnce start forms f g → SameAddress forms i moved → put_value order moved g ≡ put_value order i f
-load_same order start forms (Load size dst src off) moved f g at s =
-    let m : meets s.term src off s.at ≡ true = subst (λ a. meets s.term a.base a.offset s.at ≡ true) (sym (same_Some _ _ s.old_is)) s.same_place in
-    let e = address_same start forms f g s.base src off s.at s.term at.all s.term_is m in
-    subst (λ moved. put_value order moved g ≡ put_value order (Load size dst src off) f) (same_Some _ _ s.alike) (loaded_same order (byte_count size) (address g s.base s.at) (address f src off) f g at.memory_same e)
-load_same order start forms (LoadSx size dst src off) moved f g at s =
-    let m : meets s.term src off s.at ≡ true = subst (λ a. meets s.term a.base a.offset s.at ≡ true) (sym (same_Some _ _ s.old_is)) s.same_place in
-    let e = address_same start forms f g s.base src off s.at s.term at.all s.term_is m in
-    subst (λ moved. put_value order moved g ≡ put_value order (LoadSx size dst src off) f) (same_Some _ _ s.alike)
-    (ap (λ z. modulo (cast_signed (size_type size) z) addresses) (loaded_same order (byte_count size) (address g s.base s.at) (address f src off) f g at.memory_same e))
-load_same order start forms i moved f g at s = absurd (none-some _ s.alike)
+-- what one puts that stands for another, into the same register
+record LoadsSame (order : Order) (i moved : Insn) (f g : FlatState) : Type 0 where
+  into : put_into moved ≡ put_into i
+  value : put_value order moved g ≡ put_value order i f
+
+abbrev named : ℕ → Reg
+named zero = R0
+named (suc zero) = R1
+named (suc (suc zero)) = R2
+named (suc (suc (suc zero))) = R3
+named (suc (suc (suc (suc zero)))) = R4
+named (suc (suc (suc (suc (suc zero))))) = R5
+named (suc (suc (suc (suc (suc (suc zero)))))) = R6
+named (suc (suc (suc (suc (suc (suc (suc zero))))))) = R7
+named (suc (suc (suc (suc (suc (suc (suc (suc zero)))))))) = R8
+named (suc (suc (suc (suc (suc (suc (suc (suc (suc zero))))))))) = R9
+named n = R10
+
+named_is : (r : Reg) → named (register_number r) ≡ r
+named_is R0 = refl
+named_is R1 = refl
+named_is R2 = refl
+named_is R3 = refl
+named_is R4 = refl
+named_is R5 = refl
+named_is R6 = refl
+named_is R7 = refl
+named_is R8 = refl
+named_is R9 = refl
+named_is R10 = refl
+
+pub register_is : (a b : Reg) → same_register a b ≡ true → b ≡ a
+register_is a b e = sym (named_is b) ∙ ap named (sym (eqb-true (register_number a) (register_number b) e)) ∙ named_is a
+
+load_same : (order : Order) (start : ℕ) (facts : Facts) (i moved : Insn) (f g : FlatState) → AtOnce start facts f g → loads_alike facts i moved ≡ true → LoadsSame order i moved f g
+load_same order start facts (Load size dst src off) (Load other into base at) f g one e =
+    let a = and_parts (same_size size other) (same_register dst into && same_address facts base at src off) e in
+    let b = and_parts (same_register dst into) (same_address facts base at src off) a.1 in
+    let where_is = address_same start facts f g base src off at one.all b.1 in
+    record {
+      into = ap Some (register_is dst into b.0);
+      value = subst (λ size'. flat_number order g (byte_count size') (address g base at) ≡ flat_number order f (byte_count size) (address f src off)) (sym (size_is size other a.0)) (loaded_same order (byte_count size) (address g base at) (address f src off) f g one.memory_same where_is);
+    }
+load_same order start facts (LoadSx size dst src off) (LoadSx other into base at) f g one e =
+    let a = and_parts (same_size size other) (same_register dst into && same_address facts base at src off) e in
+    let b = and_parts (same_register dst into) (same_address facts base at src off) a.1 in
+    let where_is = address_same start facts f g base src off at one.all b.1 in
+    record {
+      into = ap Some (register_is dst into b.0);
+      value = subst (λ size'. modulo (cast_signed (size_type size') (flat_number order g (byte_count size') (address g base at))) addresses ≡ modulo (cast_signed (size_type size) (flat_number order f (byte_count size) (address f src off))) addresses) (sym (size_is size other a.0))
+          (ap (λ z. modulo (cast_signed (size_type size) z) addresses) (loaded_same order (byte_count size) (address g base at) (address f src off) f g one.memory_same where_is));
+    }
+load_same order start facts i moved f g one e = absurd (false≢true e)
 
 -- ---- low halves of 64-bit results
 
@@ -339,125 +406,101 @@ low_compute Lsh a b x y e h k =
 low_compute Mov a b x y e h k = k
 low_compute op a b x y e h k = absurd (false≢true e)
 
-low_result : (f g : FlatState) (op : AluOp) (dst : Reg) (src : Operand) → keeps_low op ≡ true → AllByRecursion (λ r. AreLow (flat_register f r) (get_or g.registers (register_number r) 0)) (registers_read (Alu op W64 dst src))
+low_put : (f g : FlatState) (op : AluOp) (dst : Reg) (src : Operand) → keeps_low op ≡ true → AllByRecursion (λ r. AreLow (flat_register f r) (get_or g.registers (register_number r) 0)) (registers_read (Alu op W64 dst src))
     → AreLow (alu W64 op (flat_register f dst) (flat_operand f src)) (alu W64 op (flat_register g dst) (flat_operand g src))
-low_result f g Mov dst src e h = operand_low f g src h
-low_result f g Add dst src e h = low_compute Add (flat_register f dst) (flat_operand f src) (flat_register g dst) (flat_operand g src) e h.0 (operand_low f g src h.1)
-low_result f g Sub dst src e h = low_compute Sub (flat_register f dst) (flat_operand f src) (flat_register g dst) (flat_operand g src) e h.0 (operand_low f g src h.1)
-low_result f g Mul dst src e h = low_compute Mul (flat_register f dst) (flat_operand f src) (flat_register g dst) (flat_operand g src) e h.0 (operand_low f g src h.1)
-low_result f g And dst src e h = low_compute And (flat_register f dst) (flat_operand f src) (flat_register g dst) (flat_operand g src) e h.0 (operand_low f g src h.1)
-low_result f g Or dst src e h = low_compute Or (flat_register f dst) (flat_operand f src) (flat_register g dst) (flat_operand g src) e h.0 (operand_low f g src h.1)
-low_result f g Xor dst src e h = low_compute Xor (flat_register f dst) (flat_operand f src) (flat_register g dst) (flat_operand g src) e h.0 (operand_low f g src h.1)
-low_result f g Lsh dst src e h = low_compute Lsh (flat_register f dst) (flat_operand f src) (flat_register g dst) (flat_operand g src) e h.0 (operand_low f g src h.1)
-low_result f g op dst src e h = absurd (false≢true e)
+low_put f g Mov dst src e h = operand_low f g src h
+low_put f g Add dst src e h = low_compute Add (flat_register f dst) (flat_operand f src) (flat_register g dst) (flat_operand g src) e h.0 (operand_low f g src h.1)
+low_put f g Sub dst src e h = low_compute Sub (flat_register f dst) (flat_operand f src) (flat_register g dst) (flat_operand g src) e h.0 (operand_low f g src h.1)
+low_put f g Mul dst src e h = low_compute Mul (flat_register f dst) (flat_operand f src) (flat_register g dst) (flat_operand g src) e h.0 (operand_low f g src h.1)
+low_put f g And dst src e h = low_compute And (flat_register f dst) (flat_operand f src) (flat_register g dst) (flat_operand g src) e h.0 (operand_low f g src h.1)
+low_put f g Or dst src e h = low_compute Or (flat_register f dst) (flat_operand f src) (flat_register g dst) (flat_operand g src) e h.0 (operand_low f g src h.1)
+low_put f g Xor dst src e h = low_compute Xor (flat_register f dst) (flat_operand f src) (flat_register g dst) (flat_operand g src) e h.0 (operand_low f g src h.1)
+low_put f g Lsh dst src e h = low_compute Lsh (flat_register f dst) (flat_operand f src) (flat_register g dst) (flat_operand g src) e h.0 (operand_low f g src h.1)
+low_put f g op dst src e h = absurd (false≢true e)
 
-has_low : (order : Order) (start : ℕ) (forms : Forms) (i : Insn) (f g : FlatState) → AtOnce start forms f g → has_low_result forms i ≡ true → AreLow (put_value order i f) (put_value order i g)
-has_low order start forms (Alu op W64 dst src) f g at e =
-    let h = and_parts (keeps_low op) (list_all (is_low forms) (registers_read (Alu op W64 dst src))) e in
-    low_result f g op dst src h.0 (all_low start f forms g.registers (registers_read (Alu op W64 dst src)) at.high at.all h.1)
-has_low order start forms i f g at e = absurd (false≢true e)
+has_low : (order : Order) (start : ℕ) (facts : Facts) (i : Insn) (f g : FlatState) → AtOnce start facts f g → has_low_result facts i ≡ true → AreLow (put_value order i f) (put_value order i g)
+has_low order start facts (Alu op W64 dst src) f g at e =
+    let h = and_parts (keeps_low op) (list_all (is_low facts) (registers_read (Alu op W64 dst src))) e in
+    low_put f g op dst src h.0 (all_low start f facts g.registers (registers_read (Alu op W64 dst src)) at.high at.all h.1)
+has_low order start facts i f g at e = absurd (false≢true e)
 
 -- the end of the frame, less where it begins
-framed_differs : (order : Order) (start : ℕ) (i moved : Insn) (f g : FlatState) (t : Term) → IsEnd start f.registers → IsFramed i moved → t ≡ frame_offset → Differs start t (put_value order i f) (put_value order moved g)
-framed_differs order start i moved f g t end framed e =
-    subst (λ t. Differs start t (put_value order i f) (put_value order moved g)) (sym e)
-    (subst (λ i. Differs start frame_offset (put_value order i f) (put_value order moved g)) (sym framed.old_is)
-    (subst (λ m. Differs start frame_offset (flat_register f R10) (put_value order m g)) (sym framed.new_is)
-    (same_differs start frame_offset (flat_register f R10) 512 (omega arith) offset_same)))
-  where
-    by : shift start frame_offset ≡ pos 0 -ℤ pos start
-    by = let z : pos 1 *ℤ pos start ≡ pos start = pos-*ℤ-pos 1 start ∙ ap pos (omega arith) in rw z (omega (arith, ints))
+framed_shift : (start : ℕ) → shift start frame_offset ≡ pos 0 -ℤ pos start
+framed_shift start = let one : 1 * start ≡ start = omega arith in omega (arith, ints)
 
-    offset_same : Same (pos 512) (pos (flat_register f R10) +ℤ shift start frame_offset)
-    offset_same =
-        let s : Same (pos (flat_register f R10)) (pos (start + frame_bytes)) = subst (λ x. Same (pos x) (pos (start + frame_bytes))) (sym end) (modulo-same (pos (start + frame_bytes))) in
+record FramesSame (order : Order) (start : ℕ) (i moved : Insn) (f g : FlatState) : Type 0 where
+  into : put_into moved ≡ put_into i
+  value : Differs start frame_offset (put_value order i f) (put_value order moved g)
+
+framed_differs : (order : Order) (start : ℕ) (i moved : Insn) (f g : FlatState) → IsEnd start f.registers → is_framed i moved ≡ true → FramesSame order start i moved f g
+framed_differs order start (Alu Mov W64 dst (FromReg r)) (Alu Mov W64 into (Imm imm)) f g end e =
+    let a = and_parts (same_register dst into) (is_frame_pointer r && int_eq imm (pos frame_bytes)) e in
+    let b = and_parts (is_frame_pointer r) (int_eq imm (pos frame_bytes)) a.1 in
+    let is : flat_register f r ≡ (start + frame_bytes) % addresses = ap (λ n. get_or f.registers n 0) (eqb-true (register_number r) 10 b.0) ∙ end in
+    let imm_is : imm ≡ pos frame_bytes = (Decides-int_eq imm (pos frame_bytes)).0 b.1 in
+    record {
+      into = ap Some (register_is dst into a.0);
+      value = subst (λ z. Differs start frame_offset (flat_register f r) (extended z)) (sym imm_is) (same_differs start frame_offset (flat_register f r) 512 (omega arith) (offset_same (flat_register f r) is));
+    }
+  where
+    offset_same : (x : ℕ) → x ≡ (start + frame_bytes) % addresses → Same (pos 512) (pos x +ℤ shift start frame_offset)
+    offset_same x is =
+        let s : Same (pos x) (pos (start + frame_bytes)) = subst (λ x. Same (pos x) (pos (start + frame_bytes))) (sym is) (modulo-same (pos (start + frame_bytes))) in
         let again : pos (start + frame_bytes) +ℤ (pos 0 -ℤ pos start) ≡ pos 512 = omega (arith, ints) in
-        subst (λ z. Same (pos 512) (pos (flat_register f R10) +ℤ z)) (sym by) (same_sym (same_trans (same_plus s (same_refl (pos 0 -ℤ pos start))) (same_equal again)))
+        subst (λ z. Same (pos 512) (pos x +ℤ z)) (sym (framed_shift start)) (same_sym (same_trans (same_plus s (same_refl (pos 0 -ℤ pos start))) (same_equal again)))
+framed_differs order start i moved f g end e = absurd (false≢true e)
+
+-- ---- what both put
+
+-- where they are the same but for where they lead, and put a number, they are the same
+plain_is : (i : Insn) (r : Reg) → put_into i ≡ Some r → undirected i ≡ i
+plain_is (Alu op width dst src) r e = refl
+plain_is (Neg width dst) r e = refl
+plain_is (MovSx width b dst src) r e = refl
+plain_is (End kind b dst) r e = refl
+plain_is (LoadImm64 dst value) r e = refl
+plain_is (Load size dst src off) r e = refl
+plain_is (LoadSx size dst src off) r e = refl
+plain_is i r e = absurd (none-some _ e)
+
+undirected_put : (i : Insn) → put_into (undirected i) ≡ put_into i
+undirected_put (Ja off) = refl
+undirected_put (JaLong off) = refl
+undirected_put (JumpIf cond width dst src off) = refl
+undirected_put (CallLocal off) = refl
+undirected_put i = refl
+
+put_again : (i moved : Insn) (r : Reg) → put_into i ≡ Some r → undirected moved ≡ undirected i → moved ≡ i
+put_again i moved r into same =
+    let m : put_into moved ≡ Some r = sym (undirected_put moved) ∙ ap put_into same ∙ undirected_put i ∙ into in
+    sym (plain_is moved r m) ∙ same ∙ plain_is i r into
 
 -- what both put differs by the term, or its low half is the same
-pub puts_differ : (order : Order) (start : ℕ) (forms : Forms) (i moved : Insn) (r : Reg) (f g : FlatState) (t : Option Term) → put_into i ≡ Some r → HasEncoding i → AtOnce start forms f g → PutsAlike forms i moved t → DiffersBy start t (put_value order i f) (put_value order moved g)
-puts_differ order start forms i moved r f g (Some t) into enc at (inl same) = subst (λ m. Differs start t (put_value order i f) (put_value order m g)) (sym same.0) (result_differs order start forms i r f g t into enc at same.1)
-puts_differ order start forms i moved r f g (Some t) into enc at (inr (inr framed)) = framed_differs order start i moved f g t at.pointers.0 framed.0 framed.1
-puts_differ order start forms i moved r f g (Some t) into enc at (inr (inl load)) =
-    subst (λ t. Differs start t (put_value order i f) (put_value order moved g)) (sym load.1) (equal_differs start (put_value order i f) (put_value order moved g) (put_below order i r f into enc at.flat) (load_same order start forms i moved f g at load.0))
-puts_differ order start forms i moved r f g None into enc at same = subst (λ m. AreLow (put_value order i f) (put_value order m g)) (sym same.0) (has_low order start forms i f g at same.1)
+pub record PutBoth (order : Order) (start : ℕ) (i moved : Insn) (r : Reg) (by : Option Term) (f g : FlatState) : Type 0 where
+  pub into : put_into moved ≡ Some r
+  pub value : DiffersBy start by (put_value order i f) (put_value order moved g)
 
--- ---- the new program alone
+pub put_both : (order : Order) (start : ℕ) (facts : Facts) (same : Bool) (i moved : Insn) (r : Reg) (by : Option Term) (f g : FlatState) → IsTrue same ↔ (undirected moved ≡ undirected i) → put_into i ≡ Some r → HasEncoding i → AtOnce start facts f g
+    → put_by facts same i moved ≡ Some by → PutBoth order start i moved r by f g
+put_both order start facts true i moved r by f g same into enc at e =
+    let is : moved ≡ i = put_again i moved r into (same.0 refl) in
+    subst (λ m. PutBoth order start i m r by f g) (sym is) (by_result (result_term facts i) refl e)
+  where
+    by_result : (o : Option Term) → result_term facts i ≡ o → option_or (option_map Some o) (low_result facts i) ≡ Some by → PutBoth order start i i r by f g
+    by_result (Some t) eo h = subst (λ by. PutBoth order start i i r by f g) (same_Some (Some t) by h) (record { into = into; value = result_differs order start facts i r f g t into enc at eo })
+    by_result None eo h =
+        let c = cond_option (has_low_result facts i) (Some None) by h in
+        subst (λ by. PutBoth order start i i r by f g) (same_Some None by c.1) (record { into = into; value = has_low order start facts i f g at c.0 })
+put_both order start facts false i moved r by f g same into enc at e = by_load (loads_alike facts i moved) refl e
+  where
+    by_frame : (b : Bool) → is_framed i moved ≡ b → cond b (Some (Some frame_offset)) None ≡ Some by → PutBoth order start i moved r by f g
+    by_frame false eb h = absurd (none-some _ h)
+    by_frame true eb h =
+        let d = framed_differs order start i moved f g at.pointers.0 eb in
+        subst (λ by. PutBoth order start i moved r by f g) (same_Some (Some frame_offset) by h) (record { into = d.into ∙ into; value = d.value })
 
-none_value : (f : FlatState) (base : Option Reg) → is_none base ≡ true → base_value f base ≡ 0
-none_value f None e = refl
-none_value f (Some r) e = absurd (false≢true e)
-
-pub base_same : (f : FlatState) (a b : Option Reg) → is_base a b ≡ true → base_value f a ≡ base_value f b
-base_same f None b e = sym (none_value f b e)
-base_same f (Some r) b e = sym (register_value f r b e)
-
-sum_same : (xa xb y z : ℕ) (s t : ℤ) → Same (pos y) (pos xa +ℤ s) → Same (pos z) (pos xb +ℤ t) → Same (pos ((y + z) % addresses)) ((pos xa +ℤ pos xb) +ℤ (s +ℤ t))
-sum_same xa xb y z s t p q =
-    let again : (pos xa +ℤ s) +ℤ (pos xb +ℤ t) ≡ (pos xa +ℤ pos xb) +ℤ (s +ℤ t) = omega (arith, ints) in
-    let left : Same (pos ((y + z) % addresses)) (pos y +ℤ pos z) = modulo-same (pos (y + z)) in
-    same_trans left (same_trans (same_plus p q) (same_equal again))
-
-difference_same : (xa xb y z : ℕ) (s t : ℤ) → Same (pos y) (pos xa +ℤ s) → Same (pos z) (pos xb +ℤ t) → Same (pos (modulo (pos y -ℤ pos z) addresses)) ((pos xa -ℤ pos xb) +ℤ (s -ℤ t))
-difference_same xa xb y z s t p q =
-    let again : (pos xa +ℤ s) -ℤ (pos xb +ℤ t) ≡ (pos xa -ℤ pos xb) +ℤ (s -ℤ t) = omega (arith, ints) in
-    same_trans (modulo-same (pos y -ℤ pos z)) (same_trans (same_minus p q) (same_equal again))
-
-added_holds : (start : ℕ) (f : FlatState) (a b : Form) (y z : ℕ) → Holds start f a y → Holds start f b z → Holds start f (added a b) ((y + z) % addresses)
-added_holds start f (Is a) (Is b) y z ha hb =
-    let xa : ℕ = base_value f a.base in
-    let xb : ℕ = base_value f b.base in
-    let sum = same_trans (sum_same xa xb y z (shift start a) (shift start b) (differs_same start a xa y ha) (differs_same start b xb z hb)) (same_plus (same_refl (pos xa +ℤ pos xb)) (same_sym (shift_plus start a b))) in
-    let small : (y + z) % addresses < addresses = omega arith in
-    cond_both (is_none a.base) (Is (based b.base (plus a b))) (if is_none b.base then Is (based a.base (plus a b)) else Free) (λ form. Holds start f form ((y + z) % addresses))
-    (λ e. let zero : xa ≡ 0 = none_value f a.base e in let is : pos xa +ℤ pos xb ≡ pos xb = omega (arith, ints) in
-    same_differs start (based b.base (plus a b)) xb ((y + z) % addresses) small (subst (λ x. Same (pos ((y + z) % addresses)) (x +ℤ shift start (plus a b))) is sum))
-    (λ other. cond_both (is_none b.base) (Is (based a.base (plus a b))) Free (λ form. Holds start f form ((y + z) % addresses))
-    (λ e. let zero : xb ≡ 0 = none_value f b.base e in let is : pos xa +ℤ pos xb ≡ pos xa = omega (arith, ints) in
-    same_differs start (based a.base (plus a b)) xa ((y + z) % addresses) small (subst (λ x. Same (pos ((y + z) % addresses)) (x +ℤ shift start (plus a b))) is sum))
-    (λ e. tt))
-added_holds start f a b y z ha hb = tt
-
-taken_holds : (start : ℕ) (f : FlatState) (a b : Form) (y z : ℕ) → Holds start f a y → Holds start f b z → Holds start f (taken_away a b) (modulo (pos y -ℤ pos z) addresses)
-taken_holds start f (Is a) (Is b) y z ha hb =
-    let xa : ℕ = base_value f a.base in
-    let xb : ℕ = base_value f b.base in
-    let w : ℕ = modulo (pos y -ℤ pos z) addresses in
-    let difference = same_trans (difference_same xa xb y z (shift start a) (shift start b) (differs_same start a xa y ha) (differs_same start b xb z hb)) (same_plus (same_refl (pos xa -ℤ pos xb)) (same_sym (shift_minus start a b))) in
-    let small : w < addresses = modulo_below (pos y -ℤ pos z) in
-    cond_both (is_none b.base) (Is (based a.base (minus a b))) (if is_base a.base b.base then Is (minus a b) else Free) (λ form. Holds start f form w)
-    (λ e. let zero : xb ≡ 0 = none_value f b.base e in let is : pos xa -ℤ pos xb ≡ pos xa = omega (arith, ints) in
-    same_differs start (based a.base (minus a b)) xa w small (subst (λ x. Same (pos w) (x +ℤ shift start (minus a b))) is difference))
-    (λ other. cond_both (is_base a.base b.base) (Is (minus a b)) Free (λ form. Holds start f form w)
-    (λ e. let equal : xa ≡ xb = base_same f a.base b.base e in let is : pos xa -ℤ pos xb ≡ pos 0 = omega (arith, ints) in
-    same_differs start (minus a b) 0 w small (subst (λ x. Same (pos w) (x +ℤ shift start (minus a b))) is difference))
-    (λ e. tt))
-taken_holds start f a b y z ha hb = tt
-
-constant_holds : (start : ℕ) (f : FlatState) (imm : ℤ) → Holds start f (Is (constant imm)) (modulo imm addresses)
-constant_holds start f imm = let e : imm ≡ pos 0 +ℤ shift start (constant imm) = rw (shift_constant start imm) (omega (arith, ints)) in ap (λ z. modulo z addresses) e
-
-end_holds : (start y : ℕ) (f : FlatState) → y ≡ (start + frame_bytes) % addresses → Holds start f (Is (in_frame (pos frame_bytes))) y
-end_holds start y f e =
-    let z : negsuc 0 *ℤ pos start ≡ neg_ℤ (pos start) = negsuc-*ℤ-pos 0 start ∙ ap (λ n. neg_ℤ (pos n)) (omega arith) in
-    let by : pos 0 +ℤ shift start (in_frame (pos frame_bytes)) ≡ pos (start + frame_bytes) = rw z (omega (arith, ints)) in
-    e ∙ sym (ap (λ z. modulo z addresses) by)
-
-operand_holds : (start : ℕ) (forms : Forms) (f g : FlatState) (src : Operand) → IsEnd start g.registers → AllHold start f forms g.registers → Holds start f (operand_form forms src) (flat_operand g src)
-operand_holds start forms f g (Imm imm) end all = constant_holds start f imm
-operand_holds start forms f g (FromReg r) end all =
-    cond_both (is_frame_pointer r) (Is (in_frame (pos frame_bytes))) (forms (register_number r)) (λ form. Holds start f form (flat_register g r))
-    (λ e. end_holds start (flat_register g r) f (ap (λ n. get_or g.registers n 0) (eqb-true (register_number r) 10 e) ∙ end)) (λ e. all (register_number r) (reg_below r))
-
-made_holds : (order : Order) (start : ℕ) (forms : Forms) (f g : FlatState) (op : AluOp) (dst : Reg) (src : Operand) → IsEnd start g.registers → AllHold start f forms g.registers → Holds start f (made forms op dst src) (put_value order (Alu op W64 dst src) g)
-made_holds order start forms f g Mov dst src end all = operand_holds start forms f g src end all
-made_holds order start forms f g Add dst src end all = added_holds start f (forms (register_number dst)) (operand_form forms src) (flat_register g dst) (flat_operand g src) (all (register_number dst) (reg_below dst)) (operand_holds start forms f g src end all)
-made_holds order start forms f g Sub dst src end all = taken_holds start f (forms (register_number dst)) (operand_form forms src) (flat_register g dst) (flat_operand g src) (all (register_number dst) (reg_below dst)) (operand_holds start forms f g src end all)
-made_holds order start forms f g op dst src end all = tt
-
-pub extra_holds : (order : Order) (start : ℕ) (forms : Forms) (m : Insn) (form : Form) (f g : FlatState) → HasEncoding m → IsEnd start g.registers → AllHold start f forms g.registers → extra_form forms m ≡ Some form → Holds start f form (put_value order m g)
-extra_holds order start forms (Alu op W64 dst src) form f g enc end all e = subst (λ form. Holds start f form (put_value order (Alu op W64 dst src) g)) (same_Some _ _ e) (made_holds order start forms f g op dst src end all)
-extra_holds order start forms (LoadImm64 dst value) form f g enc end all e =
-    let is : modulo (pos value) addresses ≡ value = modulo_of_small value enc in
-    subst (λ form. Holds start f form value) (same_Some _ _ e) (subst (λ y. Holds start f (Is (constant (pos value))) y) is (constant_holds start f (pos value)))
-extra_holds order start forms m form f g enc end all e = absurd (none-some _ e)
+    by_load : (b : Bool) → loads_alike facts i moved ≡ b → cond b (Some (Some zero_term)) (if is_framed i moved then Some (Some frame_offset) else None) ≡ Some by → PutBoth order start i moved r by f g
+    by_load false eb h = by_frame (is_framed i moved) refl h
+    by_load true eb h =
+        let l = load_same order start facts i moved f g at eb in
+        subst (λ by. PutBoth order start i moved r by f g) (same_Some (Some zero_term) by h) (record { into = l.into ∙ into; value = equal_differs start (put_value order i f) (put_value order moved g) (put_below order i r f into enc at.flat) l.value })

@@ -1,10 +1,9 @@
 -- The simulation: by induction on the old program's two runs, each step of which the new program follows by extra instructions and one of its own.
-use Rattle.std.proofs.Common.{◌≡◌, ℕ, zero, suc, ◌+◌, ◌*◌, ◌%◌, ◌^◌, ◌<◌, ◌≤◌, inl, inr, refl, sym, ap, ◌∙◌, subst, arith, Bool, true, false, List, [], ◌∷◌, length, Option, Some, None, cond}
+use Rattle.std.proofs.Common.{◌≡◌, ℕ, zero, suc, ◌+◌, ◌*◌, ◌%◌, ◌^◌, ◌<◌, ◌≤◌, inl, inr, refl, sym, ap, ap₂, ◌∙◌, subst, arith, Bool, true, false, List, [], ◌∷◌, length, Option, Some, None, cond}
 use Rattle.std.specs.Prelude.{get_or, ℤ, pos, ltb, option_and_then, option_map}
 use Rattle.std.proofs.lemmas.Bool.{and_parts, cond-true, cond-false, le-ltb, false≢true}
-use Rattle.std.proofs.lemmas.Bool.Decides.{Decides-int_eq}
 use Rattle.std.proofs.lemmas.Option.{none-some, option_and_then_some}
-use Rattle.std.specs.Ordering.{int_eq}
+use Rattle.std.specs.List.{list_any}
 use Rattle.bpf_insn.specs.Arithmetic.{extended, jumps}
 use Rattle.bpf_insn.specs.Image.{IsProgram}
 use Rattle.bpf_insn.specs.Instruction.{Instructions, register_number, insn_at, target}
@@ -19,7 +18,7 @@ use Rattle.bpf_insn.specs.declared.instruction.Width.TheVariants.{W64}
 use Rattle.bpf_insn.specs.declared.instruction.Cond.{Cond}
 use Rattle.bpf_insn.specs.declared.instruction.Cond.TheVariants.{Gt}
 use Rattle.bpf_insn.specs.declared.instruction.Insn.{Insn}
-use Rattle.bpf_insn.specs.declared.instruction.Insn.TheVariants.{JumpIf, CallLocal, Exit}
+use Rattle.bpf_insn.specs.declared.instruction.Insn.TheVariants.{Ja, JaLong, JumpIf, CallLocal, Exit}
 use Rattle.bpf_semantics.specs.State.{State, StackFrame, IsState, start, register, number_of_register}
 use Rattle.bpf_semantics.specs.Step.{Step, step_of, does, Finish, finish_of, result_of_exit, IsStuck, operand, test_of_values}
 use Rattle.bpf_semantics.specs.Run.{Steps}
@@ -32,16 +31,14 @@ use Rattle.bpf_semantics.proofs.FlatLaw.{flat_follows}
 use Rattle.bpf_semantics.proofs.FlatValues.{tests_fit, operand_fits}
 use Rattle.bpf_semantics.proofs.RunLaw.{runs_keep_states}
 use Rattle.bpf_semantics.proofs.SlotLaw.{step_keeps_context}
-use Rattle.bpf_semantics.proofs.StateLemmas.{exit_is, left_is, value_fits, operand_value_fits}
+use Rattle.bpf_semantics.proofs.StateLemmas.{exit_is, left_is, value_fits, operand_value_fits, option_map_some}
 use Rattle.bpf_kept_law.specs.Zero.{zero_does}
-use Rattle.bpf_kept_law.specs.Terms.{Form, Forms, Differs, AreLow, Holds, base_value}
-use Rattle.bpf_kept_law.specs.Terms.Form.{Free, Low, Is}
-use Rattle.bpf_kept_law.specs.Rules.{is_base, put_into}
-use Rattle.bpf_kept_law.specs.Guards.{Front, is_tested, passes}
+use Rattle.bpf_kept_law.specs.Terms.{Facts}
+use Rattle.bpf_kept_law.specs.Rules.{put_into, undirected, is_jump}
+use Rattle.bpf_kept_law.specs.Guards.{Front, guarded, passes}
 use Rattle.bpf_kept_law.specs.Meaning.{most_for_one}
-use Rattle.bpf_kept_law.specs.Matching.{most_extras, is_lower, Gives, IsJump}
-use Rattle.bpf_kept_law.proofs.HoldsLaw.{IsHigh, low_differs}
-use Rattle.bpf_kept_law.proofs.PutLaw.{base_same, put_value}
+use Rattle.bpf_kept_law.specs.Matching.{most_extras, led}
+use Rattle.bpf_kept_law.proofs.PutLaw.{put_value}
 
 -- ---- instructions that neither call nor exit
 
@@ -71,27 +68,6 @@ no_waiting place [] rs h e = refl
 no_waiting place (w ∷ ws) [] h e = absurd h
 no_waiting place (w ∷ ws) (r ∷ rs) h e = let bad : suc (length rs) ≡ 0 = ap length e in absurd (omega arith)
 
--- forms where the old program's registers are the same
-still_value : (f h : FlatState) (base : Option Reg) → h.registers ≡ f.registers → base_value h base ≡ base_value f base
-still_value f h None e = refl
-still_value f h (Some r) e = ap (λ rs. get_or rs (register_number r) 0) e
-
-pub still_holds : (own : ℕ) (f h : FlatState) (form : Form) (y : ℕ) → h.registers ≡ f.registers → Holds own f form y → Holds own h form y
-still_holds own f h Free y e d = tt
-still_holds own f h (Low base) y e d = subst (λ x. y % 2 ^ 32 ≡ x % 2 ^ 32) (sym (still_value f h base e)) d
-still_holds own f h (Is t) y e d = subst (λ x. Differs own t x y) (sym (still_value f h t.base e)) d
-
-lower_holds : (own : ℕ) (f : FlatState) (have want : Form) (y : ℕ) → IsHigh own → Holds own f have y → is_lower have want ≡ true → Holds own f want y
-lower_holds own f (Is t) (Low base) y high h e =
-    let c = and_parts (is_base t.base base) (int_eq t.moved (pos 0)) e in
-    subst (λ x. AreLow x y) (base_same f t.base base c.0) (low_differs own t (base_value f t.base) y high ((Decides-int_eq t.moved (pos 0)).0 c.1) h)
-lower_holds own f have want y high h e = absurd (false≢true e)
-
-pub gives_hold : (own : ℕ) (f : FlatState) (have want : Form) (y : ℕ) → IsHigh own → Holds own f have y → Gives have want → Holds own f want y
-gives_hold own f have want y high h (inl e) = subst (λ form. Holds own f form y) (sym e) tt
-gives_hold own f have want y high h (inr (inl e)) = subst (λ form. Holds own f form y) (sym e) h
-gives_hold own f have want y high h (inr (inr e)) = lower_holds own f have want y high h e
-
 -- what a guard tests is a number, or the machine would be stuck
 tests_number : (a : Value) (y : ℕ) (taken : Bool) → test_of_values W64 Gt a (Number y) ≡ Some taken → (x : ℕ) × (a ≡ Number x)
 tests_number (Number x) y taken e = (x, refl)
@@ -103,16 +79,17 @@ guard_number order s t dst imm off e =
     option_and_then_some _ (register s dst) t e (λ a ea e1. option_and_then_some _ (test_of_values W64 Gt a (Number (extended imm))) t e1 (λ taken et e2.
     let n = tests_number a (extended imm) taken et in (n.0, ea ∙ ap Some n.1)))
 
-pub record IsGuard (front : Front) (forms : Forms) (m : Insn) : Type 0 where
+pub record IsGuard (front : Front) (facts : Facts) (m : Insn) : Type 0 where
   pub dst : Reg
   pub imm : ℤ
   pub off : ℤ
   pub is : m ≡ JumpIf Gt W64 dst (Imm imm) off
-  pub tested : is_tested front (extended imm) (forms (register_number dst)) ≡ true
+  pub tested : list_any (guarded front dst (extended imm)) facts ≡ true
 
-pub guard_is : (front : Front) (forms : Forms) (m : Insn) → passes front forms m ≡ true → IsGuard front forms m
-guard_is front forms (JumpIf Gt W64 dst (Imm imm) off) e = record { dst = dst; imm = imm; off = off; is = refl; tested = e }
-guard_is front forms m e = absurd (false≢true e)
+pub guard_is : (front : Front) (facts : Facts) (m : Insn) → passes front facts m ≡ true → IsGuard front facts m
+unfolding passes
+guard_is front facts (JumpIf Gt W64 dst (Imm imm) off) e = record { dst = dst; imm = imm; off = off; is = refl; tested = e }
+guard_is front facts m e = absurd (false≢true e)
 
 pub guard_does : (order : Order) (dst : Reg) (imm off : ℤ) (g : FlatState) → flat_register g dst ≤ extended imm → flat_does order (JumpIf Gt W64 dst (Imm imm) off) g ≡ Some (flat_next (JumpIf Gt W64 dst (Imm imm) off) g)
 unfolding flat_does
@@ -146,15 +123,17 @@ pub test_falls : (order : Order) (c : Cond) (width : Width) (dst : Reg) (src : O
 unfolding flat_does
 test_falls order c width dst src off f fails = cond-false (jumps width c (flat_register f dst) (flat_operand f src)) (flat_jump f off) (Some (flat_next (JumpIf c width dst src off) f)) fails
 
-pub jump_does : (order : Order) (m : Insn) (off : ℤ) (g : FlatState) (to : ℕ) → IsJump m off → target g.slot off ≡ Some to → flat_does order m g ≡ Some (flat_at to g)
+pub jump_does : (order : Order) (m : Insn) (g : FlatState) (to : ℕ) → is_jump m ≡ true → led g.slot m ≡ Some to → flat_does order m g ≡ Some (flat_at to g)
 unfolding flat_does
-jump_does order m off g to (inl e) there = ap (λ m. flat_does order m g) e ∙ ap (option_map (λ slot. flat_at slot g)) there
-jump_does order m off g to (inr e) there = ap (λ m. flat_does order m g) e ∙ ap (option_map (λ slot. flat_at slot g)) there
+jump_does order (Ja off) g to e there = ap (option_map (λ slot. flat_at slot g)) there
+jump_does order (JaLong off) g to e there = ap (option_map (λ slot. flat_at slot g)) there
+jump_does order m g to e there = absurd (false≢true e)
 
-pub jump_back : (place : Placement) (order : Order) (i : Insn) (off : ℤ) (f g : FlatState) → IsJump i off → zero_does place order i f ≡ Some g → flat_jump f off ≡ Some g
+pub jump_back : (place : Placement) (order : Order) (i : Insn) (f g : FlatState) → is_jump i ≡ true → zero_does place order i f ≡ Some g → (to : ℕ) × (led f.slot i ≡ Some to)
 unfolding flat_does
-jump_back place order i off f g (inl e) h = ap (λ i. zero_does place order i f) (sym e) ∙ h
-jump_back place order i off f g (inr e) h = ap (λ i. zero_does place order i f) (sym e) ∙ h
+jump_back place order (Ja off) f g e h = let x = option_map_some (λ slot. flat_at slot f) (target f.slot off) g h in (x.0, x.1)
+jump_back place order (JaLong off) f g e h = let x = option_map_some (λ slot. flat_at slot f) (target f.slot off) g h in (x.0, x.1)
+jump_back place order i f g e h = absurd (false≢true e)
 
 pub test_back : (place : Placement) (order : Order) (i : Insn) (c : Cond) (width : Width) (dst : Reg) (src : Operand) (off : ℤ) (f g : FlatState) → i ≡ JumpIf c width dst src off → zero_does place order i f ≡ Some g → flat_does order (JumpIf c width dst src off) f ≡ Some g
 test_back place order i c width dst src off f g e h = ap (λ i. zero_does place order i f) (sym e) ∙ h
@@ -163,10 +142,8 @@ is_exit : Insn → Bool
 is_exit Exit = true
 is_exit i = false
 
-pub jump_turns : (i : Insn) (off : ℤ) → IsJump i off → i ≡ Exit → ⊥
-unfolding is_exit
-jump_turns i off (inl e) is = false≢true (ap is_exit (sym e ∙ is))
-jump_turns i off (inr e) is = false≢true (ap is_exit (sym e ∙ is))
+pub jump_turns : (i : Insn) → is_jump i ≡ true → i ≡ Exit → ⊥
+jump_turns i e is = false≢true (ap is_jump (sym is) ∙ e)
 
 pub test_turns : (i : Insn) (c : Cond) (width : Width) (dst : Reg) (src : Operand) (off : ℤ) → i ≡ JumpIf c width dst src off → i ≡ Exit → ⊥
 unfolding is_exit
@@ -182,15 +159,54 @@ no_return order s t ew e = option_and_then_some _ (number_of_register s R0) t e 
     let bad : suc (length h.1) ≡ 0 = ap length (sym h.2 ∙ ew) in
     absurd (omega arith))
 
+-- the same but for where they lead
+is_test : Insn → Bool
+is_test (JumpIf cond width dst src off) = true
+is_test i = false
+
+-- what a test is
+cond_of : Insn → Cond
+cond_of (JumpIf cond width dst src off) = cond
+cond_of i = Gt
+
+width_of : Insn → Width
+width_of (JumpIf cond width dst src off) = width
+width_of i = W64
+
+dst_of : Insn → Reg
+dst_of (JumpIf cond width dst src off) = dst
+dst_of i = R0
+
+src_of : Insn → Operand
+src_of (JumpIf cond width dst src off) = src
+src_of i = Imm (pos 0)
+
+pub same_tests : (m : Insn) (c : Cond) (width : Width) (dst : Reg) (src : Operand) → undirected m ≡ JumpIf c width dst src (pos 0) → (off : ℤ) × (m ≡ JumpIf c width dst src off)
+unfolding is_test cond_of width_of dst_of src_of
+same_tests (JumpIf c' width' dst' src' off) c width dst src e =
+    (off, ap₂ (λ c width. JumpIf c width dst' src' off) (ap cond_of e) (ap width_of e) ∙ ap₂ (λ dst src. JumpIf c width dst src off) (ap dst_of e) (ap src_of e))
+same_tests (Ja off) c width dst src e = absurd (false≢true (ap is_test e))
+same_tests (JaLong off) c width dst src e = absurd (false≢true (ap is_test e))
+same_tests (CallLocal off) c width dst src e = absurd (false≢true (ap is_test e))
+same_tests m c width dst src e = absurd (false≢true (ap is_test e))
+
+pub same_exit : (m : Insn) → undirected m ≡ Exit → m ≡ Exit
+unfolding is_exit
+same_exit (Ja off) e = absurd (false≢true (ap is_exit e))
+same_exit (JaLong off) e = absurd (false≢true (ap is_exit e))
+same_exit (JumpIf c width dst src off) e = absurd (false≢true (ap is_exit e))
+same_exit (CallLocal off) e = absurd (false≢true (ap is_exit e))
+same_exit m e = e
+
 pub none_first : {A : Type 0} (b : Bool) (o : Option A) (y : A) → cond b None o ≡ Some y → (b ≡ false) × (o ≡ Some y)
 none_first true o y e = absurd (none-some _ e)
 none_first false o y e = (refl, e)
 
 -- how many instructions the new program has done
-pub more : (j n : ℕ) → n ≤ (most_extras + most_for_one * j) + most_extras → suc n ≤ most_extras + most_for_one * suc j
+pub more : (j n : ℕ) → n ≤ most_extras + most_for_one * j → suc n + most_extras ≤ most_extras + most_for_one * suc j
 more j n le = omega arith
 
-pub in_time : (j k n : ℕ) → n ≤ (most_extras + most_for_one * j) + most_extras → j ≡ k → suc n ≤ most_for_one * suc (suc k)
+pub in_time : (j k n : ℕ) → n ≤ most_extras + most_for_one * j → j ≡ k → suc n ≤ most_for_one * suc (suc k)
 in_time j k n le e = omega arith
 
 abbrev pub put_next : Order → Insn → Reg → FlatState → FlatState

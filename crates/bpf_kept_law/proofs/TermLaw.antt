@@ -1,70 +1,80 @@
 -- Arithmetic on terms: what the new program computes where each of its operands differs from the old program's by a term.
-use Rattle.std.proofs.Common.{◌≡◌, ℕ, zero, suc, ◌+◌, ◌*◌, ◌%◌, ◌^◌, ◌<◌, inl, inr, refl, sym, ap, ap₂, ◌∙◌, subst, arith, Bool, true, false}
-use Rattle.std.specs.Prelude.{ℤ, pos, ◌+ℤ◌, ◌-ℤ◌, ◌*ℤ◌, neg_ℤ, ◌-◌, ◌==◌, ◌&&◌}
-use Rattle.std.proofs.lemmas.Bool.{cases_lt}
+use Rattle.std.proofs.Common.{◌≡◌, ℕ, zero, suc, ◌+◌, ◌*◌, ◌/◌, ◌%◌, ◌^◌, ◌<◌, refl, sym, ap, ap₂, ◌∙◌, subst, arith}
+use Rattle.std.specs.Prelude.{ℤ, pos, ◌+ℤ◌, ◌-ℤ◌, ◌*ℤ◌, neg_ℤ, ◌-◌}
 use Rattle.std.proofs.lemmas.Int.{ints}
 use Rattle.std.proofs.Math.IntN.{*ℤ-zero, *ℤ_comm, suc_ℤ-*ℤ, pos-*ℤ-pos}
 use Rattle.bpf_insn.specs.Arithmetic.{modulo}
 use Rattle.bpf_semantics.specs.Flat.{addresses}
 use Rattle.bpf_semantics.proofs.FlatArith.{Same, modulo_same, same_refl, same_sym, same_trans, same_plus, same_minus, same_equal, modulo-same, modulo_of_small}
 use Rattle.bpf_semantics.proofs.NumberLemmas.{modulo_below}
-use Rattle.bpf_kept_law.specs.Terms.{Term, Differs, turn, shift, either, constant, plus, minus, negated, times}
+use Rattle.bpf_kept_law.specs.declared.notes.Term.{Term}
+use Rattle.bpf_kept_law.specs.Terms.{Differs, shift, constant, plus, minus, opposite, negated, times}
 
--- ---- products
+-- ---- numbers modulo 2 ^ 64
 
-times_more : (a : ℤ) (n : ℕ) → a *ℤ pos (suc n) ≡ a *ℤ pos n +ℤ a
-times_more a n = *ℤ_comm a (pos (suc n)) ∙ suc_ℤ-*ℤ (pos n) a ∙ ap (λ z. z +ℤ a) (*ℤ_comm (pos n) a)
+number_same : (n : ℕ) → Same (pos (n % addresses)) (pos n)
+number_same n = record { p = n / addresses; q = 0; same = omega (arith, ints) }
 
-plus_more : (x p q a b : ℤ) → x ≡ p +ℤ q → x +ℤ (a +ℤ b) ≡ (p +ℤ a) +ℤ (q +ℤ b)
-plus_more x p q a b e = omega (arith, ints)
+product_split : (n own : ℕ) → n * own ≡ ((n / addresses) * own) * addresses + (n % addresses) * own
+product_split n own =
+    let e : n ≡ addresses * (n / addresses) + n % addresses = omega arith in
+    ap (λ m. m * own) e ∙ spread (n / addresses) (n % addresses) own
+  where
+    spread : (q r own : ℕ) → (addresses * q + r) * own ≡ (q * own) * addresses + r * own
+    spread q r own = omega arith
 
-minus_more : (x p q a b : ℤ) → x ≡ p -ℤ q → x +ℤ (a -ℤ b) ≡ (p +ℤ a) -ℤ (q +ℤ b)
-minus_more x p q a b e = omega (arith, ints)
+product_same : (n own : ℕ) → Same (pos ((n % addresses) * own)) (pos (n * own))
+product_same n own = let e = product_split n own in record { p = (n / addresses) * own; q = 0; same = omega (arith, ints) }
 
-neg_more : (x p a : ℤ) → x ≡ neg_ℤ p → x +ℤ neg_ℤ a ≡ neg_ℤ (p +ℤ a)
-neg_more x p a e = omega (arith, ints)
+opposite_same : (n : ℕ) → Same (pos (opposite n)) (pos 0 -ℤ pos n)
+opposite_same n =
+    let small : n % addresses < addresses = omega arith in
+    let first : Same (pos (opposite n)) (pos (addresses - n % addresses)) = number_same (addresses - n % addresses) in
+    let second : Same (pos (addresses - n % addresses)) (pos 0 -ℤ pos (n % addresses)) = record { p = 0; q = 1; same = omega (arith, ints) } in
+    same_trans first (same_trans second (same_minus (same_refl (pos 0)) (number_same n)))
 
-times_plus : (a b : ℤ) (n : ℕ) → (a +ℤ b) *ℤ pos n ≡ a *ℤ pos n +ℤ b *ℤ pos n
-times_plus a b zero = rw (*ℤ-zero (a +ℤ b), *ℤ-zero a, *ℤ-zero b) refl
-times_plus a b (suc n) = rw (times_more (a +ℤ b) n, times_more a n, times_more b n) (plus_more ((a +ℤ b) *ℤ pos n) (a *ℤ pos n) (b *ℤ pos n) a b (times_plus a b n))
-
-times_minus : (a b : ℤ) (n : ℕ) → (a -ℤ b) *ℤ pos n ≡ a *ℤ pos n -ℤ b *ℤ pos n
-times_minus a b zero = rw (*ℤ-zero (a -ℤ b), *ℤ-zero a, *ℤ-zero b) refl
-times_minus a b (suc n) = rw (times_more (a -ℤ b) n, times_more a n, times_more b n) (minus_more ((a -ℤ b) *ℤ pos n) (a *ℤ pos n) (b *ℤ pos n) a b (times_minus a b n))
-
-times_neg : (a : ℤ) (n : ℕ) → neg_ℤ a *ℤ pos n ≡ neg_ℤ (a *ℤ pos n)
-times_neg a zero = rw (*ℤ-zero (neg_ℤ a), *ℤ-zero a) refl
-times_neg a (suc n) = rw (times_more (neg_ℤ a) n, times_more a n) (neg_more (neg_ℤ a *ℤ pos n) (a *ℤ pos n) a (times_neg a n))
+-- the opposite, so often
+opposite_product : (n own : ℕ) → Same (pos (opposite n * own)) (pos 0 -ℤ pos (n * own))
+opposite_product n own =
+    let m : ℕ = n % addresses in
+    let small : m < addresses = omega arith in
+    let first : Same (pos (opposite n * own)) (pos ((addresses - m) * own)) = product_same (addresses - m) own in
+    let whole : (addresses - m) * own + m * own ≡ own * addresses = together (addresses - m) m own (omega arith) in
+    let second : Same (pos ((addresses - m) * own)) (pos 0 -ℤ pos (m * own)) = record { p = 0; q = own; same = omega (arith, ints) } in
+    same_trans first (same_trans second (same_minus (same_refl (pos 0)) (product_same n own)))
+  where
+    together : (a b own : ℕ) → a + b ≡ addresses → a * own + b * own ≡ own * addresses
+    together a b own e = let spread : (a + b) * own ≡ a * own + b * own = omega arith in sym spread ∙ ap (λ n. n * own) e ∙ (omega arith)
 
 -- ---- shifts
 
-turned_plus : (a b : Bool) (p q k l : ℤ) → Same ((turn (either a b) -ℤ (p +ℤ q)) +ℤ (k +ℤ l)) (((turn a -ℤ p) +ℤ k) +ℤ ((turn b -ℤ q) +ℤ l))
-turned_plus true true p q k l = record { p = 1; q = 0; same = omega (arith, ints) }
-turned_plus true false p q k l = record { p = 0; q = 0; same = omega (arith, ints) }
-turned_plus false true p q k l = record { p = 0; q = 0; same = omega (arith, ints) }
-turned_plus false false p q k l = record { p = 0; q = 0; same = omega (arith, ints) }
-
-turned_minus : (a b : Bool) (p q k l : ℤ) → Same ((turn (either a b) -ℤ (p -ℤ q)) +ℤ (k -ℤ l)) (((turn a -ℤ p) +ℤ k) -ℤ ((turn b -ℤ q) +ℤ l))
-turned_minus true true p q k l = record { p = 0; q = 0; same = omega (arith, ints) }
-turned_minus true false p q k l = record { p = 0; q = 0; same = omega (arith, ints) }
-turned_minus false true p q k l = record { p = 0; q = 1; same = omega (arith, ints) }
-turned_minus false false p q k l = record { p = 0; q = 0; same = omega (arith, ints) }
-
-turned_neg : (a : Bool) (p k : ℤ) → Same ((turn a -ℤ neg_ℤ p) +ℤ neg_ℤ k) (neg_ℤ ((turn a -ℤ p) +ℤ k))
-turned_neg true p k = record { p = 0; q = 1; same = omega (arith, ints) }
-turned_neg false p k = record { p = 0; q = 0; same = omega (arith, ints) }
+shift_of : (own : ℕ) (t : Term) (moved frames : ℤ) → Same (pos t.moved) moved → Same (pos (t.frames * own)) frames → Same (shift own t) (moved -ℤ frames)
+shift_of own t moved frames m f = same_minus m f
 
 pub shift_plus : (own : ℕ) (a b : Term) → Same (shift own (plus a b)) (shift own a +ℤ shift own b)
-shift_plus own a b = rw (times_plus a.frames b.frames own) (turned_plus a.turned b.turned (a.frames *ℤ pos own) (b.frames *ℤ pos own) a.moved b.moved)
-
-pub shift_minus : (own : ℕ) (a b : Term) → Same (shift own (minus a b)) (shift own a -ℤ shift own b)
-shift_minus own a b = rw (times_minus a.frames b.frames own) (turned_minus a.turned b.turned (a.frames *ℤ pos own) (b.frames *ℤ pos own) a.moved b.moved)
+shift_plus own a b =
+    let moved : Same (pos ((a.moved + b.moved) % addresses)) (pos a.moved +ℤ pos b.moved) = number_same (a.moved + b.moved) in
+    let spread : (a.frames + b.frames) * own ≡ a.frames * own + b.frames * own = omega arith in
+    let frames : Same (pos (((a.frames + b.frames) % addresses) * own)) (pos (a.frames * own) +ℤ pos (b.frames * own)) = same_trans (product_same (a.frames + b.frames) own) (same_equal (ap pos spread)) in
+    same_trans (same_minus moved frames) (same_equal (regroup (pos a.moved) (pos b.moved) (pos (a.frames * own)) (pos (b.frames * own))))
+  where
+    regroup : (k l p q : ℤ) → (k +ℤ l) -ℤ (p +ℤ q) ≡ (k -ℤ p) +ℤ (l -ℤ q)
+    regroup k l p q = omega (arith, ints)
 
 pub shift_neg : (own : ℕ) (a : Term) → Same (shift own (negated a)) (neg_ℤ (shift own a))
-shift_neg own a = rw (times_neg a.frames own) (turned_neg a.turned (a.frames *ℤ pos own) a.moved)
+shift_neg own a = same_trans (same_minus (opposite_same a.moved) (opposite_product a.frames own)) (same_equal (regroup (pos a.moved) (pos (a.frames * own))))
+  where
+    regroup : (k p : ℤ) → (pos 0 -ℤ k) -ℤ (pos 0 -ℤ p) ≡ neg_ℤ (k -ℤ p)
+    regroup k p = omega (arith, ints)
 
-pub shift_constant : (own : ℕ) (z : ℤ) → shift own (constant z) ≡ z
-shift_constant own z = let e : pos 0 *ℤ pos own ≡ pos 0 = omega (arith, ints) in rw e (omega (arith, ints))
+pub shift_minus : (own : ℕ) (a b : Term) → Same (shift own (minus a b)) (shift own a -ℤ shift own b)
+shift_minus own a b = same_trans (shift_plus own a (negated b)) (same_trans (same_plus (same_refl (shift own a)) (shift_neg own b)) (same_equal (again (shift own a) (shift own b))))
+  where
+    again : (z w : ℤ) → z +ℤ neg_ℤ w ≡ z -ℤ w
+    again z w = omega (arith, ints)
+
+pub shift_constant : (own n : ℕ) → shift own (constant n) ≡ pos n
+shift_constant own n = let e : 0 * own ≡ 0 = omega arith in omega (arith, ints)
 
 -- ---- numbers that differ
 
@@ -79,9 +89,9 @@ zero_differs own x y t small e d =
     let h : pos x +ℤ shift own t ≡ pos x = rw e (omega (arith, ints)) in
     d ∙ ap (λ z. modulo z addresses) h ∙ modulo_of_small x small
 
-pub same_number : (own x : ℕ) → x < addresses → Differs own (constant (pos 0)) x x
+pub same_number : (own x : ℕ) → x < addresses → Differs own (constant 0) x x
 same_number own x small =
-    let h : pos x +ℤ shift own (constant (pos 0)) ≡ pos x = rw (shift_constant own (pos 0)) (omega (arith, ints)) in
+    let h : pos x +ℤ shift own (constant 0) ≡ pos x = rw (shift_constant own 0) (omega (arith, ints)) in
     sym (ap (λ z. modulo z addresses) h ∙ modulo_of_small x small)
 
 -- the sum, the difference and the negation of numbers that differ by terms differ by the sum, the difference and the negation of these
@@ -115,30 +125,30 @@ negation_differs own s a x d =
 
 -- ---- products by constants
 
-odd_more : (c : Bool) (n : ℕ) → either (c && n % 2 == 1) c ≡ (c && suc n % 2 == 1)
-odd_more false n = refl
-odd_more true n = elim (cases_lt (n % 2) 1) [
-  | inl even ↦ (let a : n % 2 ≡ 0 = omega arith in let b : suc n % 2 ≡ 1 = omega arith in rw (a, b) refl)
-  | inr odd ↦ (let a : n % 2 ≡ 1 = omega arith in let b : suc n % 2 ≡ 0 = omega arith in rw (a, b) refl)
-]
+times_more : (a : ℤ) (n : ℕ) → a *ℤ pos (suc n) ≡ a *ℤ pos n +ℤ a
+times_more a n = *ℤ_comm a (pos (suc n)) ∙ suc_ℤ-*ℤ (pos n) a ∙ ap (λ z. z +ℤ a) (*ℤ_comm (pos n) a)
+
+plus_more : (x p q a b : ℤ) → x ≡ p +ℤ q → x +ℤ (a +ℤ b) ≡ (p +ℤ a) +ℤ (q +ℤ b)
+plus_more x p q a b e = omega (arith, ints)
+
+minus_more : (x p q a b : ℤ) → x ≡ p -ℤ q → x +ℤ (a -ℤ b) ≡ (p +ℤ a) -ℤ (q +ℤ b)
+minus_more x p q a b e = omega (arith, ints)
+
+times_plus : (a b : ℤ) (n : ℕ) → (a +ℤ b) *ℤ pos n ≡ a *ℤ pos n +ℤ b *ℤ pos n
+times_plus a b zero = rw (*ℤ-zero (a +ℤ b), *ℤ-zero a, *ℤ-zero b) refl
+times_plus a b (suc n) = rw (times_more (a +ℤ b) n, times_more a n, times_more b n) (plus_more ((a +ℤ b) *ℤ pos n) (a *ℤ pos n) (b *ℤ pos n) a b (times_plus a b n))
+
+times_minus : (a b : ℤ) (n : ℕ) → (a -ℤ b) *ℤ pos n ≡ a *ℤ pos n -ℤ b *ℤ pos n
+times_minus a b zero = rw (*ℤ-zero (a -ℤ b), *ℤ-zero a, *ℤ-zero b) refl
+times_minus a b (suc n) = rw (times_more (a -ℤ b) n, times_more a n, times_more b n) (minus_more ((a -ℤ b) *ℤ pos n) (a *ℤ pos n) (b *ℤ pos n) a b (times_minus a b n))
 
 shift_times : (own : ℕ) (t : Term) (n : ℕ) → Same (shift own (times n t)) (shift own t *ℤ pos n)
-shift_times own t zero = same_equal (none ∙ sym (*ℤ-zero (shift own t)))
-  where
-    never : (c : Bool) → (c && zero % 2 == 1) ≡ false
-    never true = refl
-    never false = refl
-
-    none : shift own (times 0 t) ≡ pos 0
-    none =
-        let a : t.frames *ℤ pos 0 ≡ pos 0 = *ℤ-zero t.frames in
-        let b : t.moved *ℤ pos 0 ≡ pos 0 = *ℤ-zero t.moved in
-        let c : pos 0 *ℤ pos own ≡ pos 0 = omega (arith, ints) in
-        rw (never t.turned, a, b, c) refl
-shift_times own t (suc n) =
-    let u : Term = times n t in
-    let e : shift own (times (suc n) t) ≡ shift own (plus u t) = ap₂ (λ c d. (turn c -ℤ d *ℤ pos own) +ℤ t.moved *ℤ pos (suc n)) (sym (odd_more t.turned n)) (times_more t.frames n) ∙ ap (λ k. (turn (either (t.turned && n % 2 == 1) t.turned) -ℤ (t.frames *ℤ pos n +ℤ t.frames) *ℤ pos own) +ℤ k) (times_more t.moved n) in
-    same_trans (same_equal e) (same_trans (shift_plus own u t) (same_trans (same_plus (shift_times own t n) (same_refl (shift own t))) (same_equal (sym (times_more (shift own t) n)))))
+shift_times own t n =
+    let moved : Same (pos ((t.moved * n) % addresses)) (pos (t.moved * n)) = number_same (t.moved * n) in
+    let order : (t.frames * n) * own ≡ (t.frames * own) * n = omega arith in
+    let frames : Same (pos (((t.frames * n) % addresses) * own)) (pos ((t.frames * own) * n)) = same_trans (product_same (t.frames * n) own) (same_equal (ap pos order)) in
+    let split : shift own t *ℤ pos n ≡ pos (t.moved * n) -ℤ pos ((t.frames * own) * n) = times_minus (pos t.moved) (pos (t.frames * own)) n ∙ ap₂ (λ z w. z -ℤ w) (pos-*ℤ-pos t.moved n) (pos-*ℤ-pos (t.frames * own) n) in
+    same_trans (same_minus moved frames) (same_equal (sym split))
 
 same_times : (z w : ℤ) (n : ℕ) → Same z w → Same (z *ℤ pos n) (w *ℤ pos n)
 same_times z w zero s = same_equal (*ℤ-zero z ∙ sym (*ℤ-zero w))

@@ -1,8 +1,8 @@
 -- Guards: extra tests that never lead to their trap where the old program's run goes on to its end. Nothing here speaks of runs.
-use Rattle.std.specs.Prelude.{ℕ, zero, suc, ◌+◌, ◌==◌, ℤ, pos, ◌+ℤ◌, int_le, Bool, false, not, ◌&&◌, ◌||◌, List, [], ◌∷◌, ◌++◌, Option, Some, None, if◌then◌else◌}
+use Rattle.std.specs.Prelude.{ℕ, zero, suc, ◌+◌, ◌%◌, ◌==◌, ℤ, pos, ◌+ℤ◌, ◌-ℤ◌, int_le, Bool, false, not, ◌&&◌, ◌||◌, List, [], ◌∷◌, ◌++◌, Option, Some, None, if◌then◌else◌}
+use Rattle.std.specs.Int.{cast_signed, w64}
 use Rattle.std.specs.List.{list_any}
 use Rattle.std.specs.Option.{option_map_or}
-use Rattle.std.specs.Ordering.{int_eq}
 use Rattle.bpf_insn.specs.Arithmetic.{extended}
 use Rattle.bpf_insn.specs.Effects.{Access, access_of, register_written}
 use Rattle.bpf_insn.specs.Limits.{frame_bytes}
@@ -13,8 +13,14 @@ use Rattle.bpf_insn.specs.declared.instruction.Width.TheVariants.{W64}
 use Rattle.bpf_insn.specs.declared.instruction.Cond.TheVariants.{Gt}
 use Rattle.bpf_insn.specs.declared.instruction.Insn.{Insn}
 use Rattle.bpf_insn.specs.declared.instruction.Insn.TheVariants.{JumpIf}
-use Rattle.bpf_kept_law.specs.Terms.{Form, Forms}
-use Rattle.bpf_kept_law.specs.Terms.Form.{Free, Low, Is}
+use Rattle.bpf_semantics.specs.Flat.{addresses}
+use Rattle.bpf_kept_law.specs.Far.{middle}
+use Rattle.bpf_kept_law.specs.Terms.{Facts}
+use Rattle.bpf_kept_law.specs.Rules.{is_register}
+use Rattle.bpf_kept_law.specs.declared.notes.Term.{Term}
+use Rattle.bpf_kept_law.specs.declared.notes.Fact.{Fact}
+use Rattle.bpf_kept_law.specs.declared.notes.Need.{Need}
+use Rattle.bpf_kept_law.specs.declared.notes.Need.TheVariants.{Below, Above}
 
 -- ---- accesses that surely follow: what a run that ends comes to from a slot on, as far as it leads one way
 
@@ -44,27 +50,30 @@ pub record Front : Type 0 where
   pub slot : ℕ
   pub length : ℕ
 
--- an access by the pointer begins at or below what the guard tests, so that this isn't below 0
-abbrev pub is_from : ℤ → Access → Bool
-is_from moved a = int_le a.offset moved
+abbrev pub is_met : Need → Access → Bool
+is_met (Below offset) a = int_le a.offset offset
+is_met (Above offset) a = int_le offset (a.offset +ℤ pos (byte_count a.size))
 
--- one ends so far on that the guard's limit isn't passed
-abbrev pub is_to : ℕ → ℕ → ℤ → Access → Bool
-is_to length limit moved a = int_le (pos length +ℤ moved) ((pos limit +ℤ a.offset) +ℤ pos (byte_count a.size))
+unfoldable pub is_ahead : Instructions → Reg → ℕ → Need → Bool
+is_ahead old r slot need = list_any (is_met need) (accesses_ahead old r farthest_ahead slot)
 
--- both in a region of so many bytes
-abbrev pub are_accessed : Front → ℕ → ℕ → ℤ → Option Reg → Bool
-are_accessed front length limit moved None = false
-are_accessed front length limit moved (Some r) =
-    list_any (is_from moved) (accesses_ahead front.old r farthest_ahead front.slot) && list_any (is_to length limit moved) (accesses_ahead front.old r farthest_ahead front.slot)
+-- An access by the pointer begins at or below what the guard tests, so that this isn't below 0; and one ends so far on that the guard's limit isn't
+-- passed. Both lie in a region of so many bytes.
+abbrev pub are_accessed : Front → ℕ → ℕ → ℤ → Reg → Bool
+are_accessed front length limit moved r = is_ahead front.old r front.slot (Below moved) && is_ahead front.old r front.slot (Above ((pos length +ℤ moved) -ℤ pos limit))
 
 -- what is tested is the offset of a pointer into the context, or into the frame, moved
-abbrev pub is_tested : Front → ℕ → Form → Bool
-is_tested front limit Free = false
-is_tested front limit (Low base) = false
-is_tested front limit (Is t) =
-    (t.turned && (int_eq t.frames (pos 0) && are_accessed front front.length limit t.moved t.base)) || (not t.turned && (int_eq t.frames (pos 1) && are_accessed front frame_bytes limit t.moved t.base))
+abbrev pub is_tested_by : Front → ℕ → Term → Reg → Bool
+is_tested_by front limit t r =
+    (t.frames == 0 && are_accessed front front.length limit (cast_signed w64 ((t.moved + middle) % addresses)) r)
+    || (t.frames == 1 && are_accessed front frame_bytes limit (cast_signed w64 (t.moved % addresses)) r)
 
-abbrev pub passes : Front → Forms → Insn → Bool
-passes front forms (JumpIf Gt W64 dst (Imm imm) off) = is_tested front (extended imm) (forms (register_number dst))
-passes front forms i = false
+abbrev pub is_tested : Front → ℕ → Fact → Bool
+is_tested front limit fact = option_map_or (λ t. option_map_or (is_tested_by front limit t) fact.base false) fact.by false
+
+abbrev pub guarded : Front → Reg → ℕ → Fact → Bool
+guarded front dst limit fact = is_register dst fact.of && is_tested front limit fact
+
+unfoldable pub passes : Front → Facts → Insn → Bool
+passes front facts (JumpIf Gt W64 dst (Imm imm) off) = list_any (guarded front dst (extended imm)) facts
+passes front facts i = false

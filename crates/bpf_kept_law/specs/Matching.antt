@@ -1,165 +1,130 @@
--- What has to hold of the notes at each slot of the old program, where that is one function, and the new one keeps in its frame what the old one
--- keeps there. Nothing here speaks of runs.
-use Rattle.std.specs.Prelude.{◌≡◌, ℕ, zero, suc, ◌+◌, ◌==◌, ◌&&◌, ◌^◌, ◌<◌, ◌⊎◌, ℤ, pos, Bool, true, false, List, [], ◌∷◌, get_or, Option, Some, None, option_map, if◌then◌else◌}
-use Rattle.std.specs.Ordering.{int_eq}
+-- What has to hold of the notes at each slot of the new program, where the old one is one function, and the new one keeps in its frame what the old
+-- one keeps there. Nothing here speaks of runs.
+use Rattle.std.specs.Prelude.{◌≡◌, ◌↔◌, ℕ, zero, suc, ◌+◌, ◌==◌, ◌&&◌, ◌^◌, ◌<◌, ◌≤◌, nat_le, Bool, IsTrue, true, false, List, [], ◌∷◌, get_or, length as count, Option, Some, None, option_map, if◌then◌else◌}
+use Rattle.std.specs.List.{list_all}
+use Rattle.std.specs.Option.{option_map_or}
 use Rattle.bpf_insn.specs.Options.{◌>>=◌}
 use Rattle.bpf_insn.specs.Effects.{is_frame_pointer}
-use Rattle.bpf_insn.specs.Instruction.{Instructions, slot_count, insn_at, target}
+use Rattle.bpf_insn.specs.Instruction.{Instructions, slots, slot_count, insn_at, distance, goes_on, target}
 use Rattle.bpf_insn.specs.declared.instruction.Reg.{Reg}
 use Rattle.bpf_insn.specs.declared.instruction.Reg.TheVariants.{R0, R1, R2, R3, R4, R5, R6, R7, R8, R9, R10}
-use Rattle.bpf_insn.specs.declared.instruction.Operand.{Operand}
-use Rattle.bpf_insn.specs.declared.instruction.Width.{Width}
-use Rattle.bpf_insn.specs.declared.instruction.Cond.{Cond}
 use Rattle.bpf_insn.specs.declared.instruction.Insn.{Insn}
-use Rattle.bpf_insn.specs.declared.instruction.Insn.TheVariants.{Ja, JaLong, JumpIf, Exit}
-use Rattle.bpf_kept_law.specs.Meaning.{Bounds}
-use Rattle.bpf_kept_law.specs.Terms.{Term, Form, Forms, either, same}
-use Rattle.bpf_kept_law.specs.Terms.Form.{Free, Low, Is}
-use Rattle.bpf_kept_law.specs.Rules.{is_same, is_base, put_into, PutsAlike, behind, TestsAlike, StoresAlike, extra_form, with_form}
+use Rattle.bpf_insn.specs.declared.instruction.Insn.TheVariants.{Exit}
+use Rattle.bpf_kept_law.specs.declared.notes.Term.{Term}
+use Rattle.bpf_kept_law.specs.declared.notes.Fact.{Fact}
+use Rattle.bpf_kept_law.specs.declared.notes.Note.{Note}
+use Rattle.bpf_kept_law.specs.declared.notes.Change.{Change}
+use Rattle.bpf_kept_law.specs.declared.notes.Change.TheVariants.{Kept, Made}
+use Rattle.bpf_kept_law.specs.Terms.{Facts, zero_term, context_offset}
+use Rattle.bpf_kept_law.specs.Rules.{put_into, undirected, paired, holds_behind}
 use Rattle.bpf_kept_law.specs.Guards.{Front, passes}
 
 -- ---- notes
 
--- What stands for an old instruction: the new slot to which jumps lead, from which on extra instructions stand; that of the instruction itself; and
--- what the registers hold in front of all that.
-pub record Place : Type 0 where
-  pub first : ℕ
-  pub body : ℕ
-  pub forms : List Form
-
--- by the old program's slots
+-- by the new program's slots
 abbrev pub Notes : Type 0
-Notes = List (Option Place)
+Notes = List (Option Note)
 
-abbrev pub place_at : Notes → ℕ → Option Place
-place_at notes slot = get_or notes slot None
+abbrev pub note_at : Notes → ℕ → Option Note
+note_at notes slot = get_or notes slot None
 
-abbrev pub form_in : List Form → Forms
-form_in forms n = get_or forms n Free
-
--- ---- extra instructions one after another
-
-abbrev pub extra : Front → Forms → Insn → Option Forms
-extra front forms i = if passes front forms i then Some forms else put_into i >>= λ r. if is_frame_pointer r then None else option_map (with_form forms r) (extra_form forms i)
-
--- at most so many, from one new slot to another
-unfoldable pub extras : Instructions → Front → ℕ → ℕ → ℕ → Forms → Option Forms
-extras new front zero slot to forms = if slot == to then Some forms else None
-extras new front (suc n) slot to forms = if slot == to then Some forms else insn_at new.list slot >>= λ i. extra front forms i >>= extras new front n (slot + slot_count i) to
-
+-- the greatest number of extra instructions in front of one
 abbrev pub most_extras : ℕ
 most_extras = 128
 
 -- ---- edges
 
--- what has no constant tells the low half
-abbrev pub is_lower : Form → Form → Bool
-is_lower (Is t) (Low base) = is_base t.base base && int_eq t.moved (pos 0)
-is_lower have want = false
+-- What is noted asks for no more than what holds, where the old program is in front of a slot; and few enough extra instructions stand there.
+abbrev pub suits : Facts → Change → ℕ → ℕ → Note → Bool
+suits facts change slot most note = note.old == slot && (nat_le note.extras most && list_all (holds_behind facts change) note.facts)
 
--- one form is enough for another
-abbrev pub Gives : Form → Form → Type 0
-Gives have want = (want ≡ Free) ⊎ ((want ≡ have) ⊎ (is_lower have want ≡ true))
+unfoldable pub arrives : Notes → Facts → Change → ℕ → ℕ → ℕ → Bool
+arrives notes facts change slot most new_slot = option_map_or (suits facts change slot most) (note_at notes new_slot) false
 
--- an edge leads to what stands for the slot, with forms that are enough for it
-pub record Arrives (notes : Notes) (slot new_slot : ℕ) (forms : Forms) : Type 0 where
-  pub place : Place
-  pub noted : place_at notes slot ≡ Some place
-  pub slot_is : new_slot ≡ place.first
-  pub gives : (n : ℕ) → n < 11 → Gives (forms n) (form_in place.forms n)
+-- ---- an old instruction, and the one that stands for it
 
--- where the old jump leads the new one leads
-abbrev pub Leads : Notes → ℕ → ℕ → ℤ → ℤ → Forms → Type 0
-Leads notes slot new_slot off new_off forms = (to : ℕ) → target slot off ≡ Some to → (new_to : ℕ) × (target new_slot new_off ≡ Some new_to) × Arrives notes to new_to forms
+-- where a jump leads
+abbrev pub led : ℕ → Insn → Option ℕ
+led slot i = distance i >>= target slot
 
--- ---- an instruction, and the one that stands for it
+-- the next one stands behind it, if it may follow
+abbrev pub falls : Notes → Facts → Change → ℕ → ℕ → Insn → Insn → Bool
+falls notes facts change slot new_slot i moved = if goes_on i then arrives notes facts change (slot + slot_count i) most_extras (new_slot + slot_count moved) else true
 
--- both put a number into one register
-pub record Puts (notes : Notes) (slot new_slot : ℕ) (forms : Forms) (i moved : Insn) : Type 0 where
-  pub into : Reg
-  pub old_into : put_into i ≡ Some into
-  pub new_into : put_into moved ≡ Some into
-  pub no_pointer : is_frame_pointer into ≡ false
-  pub result : Option Term
-  pub alike : PutsAlike forms i moved result
-  pub falls : Arrives notes (slot + slot_count i) (new_slot + slot_count moved) (behind forms into result)
+-- where the old one leads, the new one leads
+abbrev pub leads_to : Notes → Facts → Change → ℕ → Insn → ℕ → Bool
+leads_to notes facts change new_slot moved to = option_map_or (arrives notes facts change to most_extras) (led new_slot moved) false
 
-abbrev pub IsJump : Insn → ℤ → Type 0
-IsJump i off = (i ≡ Ja off) ⊎ (i ≡ JaLong off)
+abbrev pub leads : Notes → Facts → Change → ℕ → ℕ → Insn → Insn → Bool
+leads notes facts change slot new_slot i moved = option_map_or (leads_to notes facts change new_slot moved) (led slot i) true
 
-pub record Jumps (notes : Notes) (slot new_slot : ℕ) (forms : Forms) (i moved : Insn) : Type 0 where
-  pub off : ℤ
-  pub new_off : ℤ
-  pub old_is : IsJump i off
-  pub new_is : IsJump moved new_off
-  pub leads : Leads notes slot new_slot off new_off forms
+abbrev pub goes : Notes → Facts → ℕ → ℕ → Insn → Insn → Change → Bool
+goes notes facts slot new_slot i moved change = falls notes facts change slot new_slot i moved && leads notes facts change slot new_slot i moved
 
-pub record Tests (notes : Notes) (slot new_slot : ℕ) (forms : Forms) (i moved : Insn) : Type 0 where
-  pub cond : Cond
-  pub other : Cond
-  pub width : Width
-  pub dst : Reg
-  pub src : Operand
-  pub off : ℤ
-  pub new_off : ℤ
-  pub old_is : i ≡ JumpIf cond width dst src off
-  pub new_is : moved ≡ JumpIf other width dst src new_off
-  pub alike : TestsAlike forms width dst src cond other
-  pub leads : Leads notes slot new_slot off new_off forms
-  pub falls : Arrives notes (slot + 1) (new_slot + 1) forms
+unfoldable pub stands : Notes → Facts → Bool → ℕ → ℕ → Insn → Insn → Bool
+stands notes facts same slot new_slot i moved = option_map_or (goes notes facts slot new_slot i moved) (paired facts same i moved) false
 
--- both store the same at one address
-pub record Stores (notes : Notes) (slot new_slot : ℕ) (forms : Forms) (i moved : Insn) : Type 0 where
-  pub alike : StoresAlike forms i moved
-  pub falls : Arrives notes (slot + slot_count i) (new_slot + slot_count moved) forms
+-- ---- an extra instruction
 
-pub record Exits (forms : Forms) (i moved : Insn) : Type 0 where
-  pub old_is : i ≡ Exit
-  pub new_is : moved ≡ Exit
-  pub result_same : is_same forms R0 ≡ true
+abbrev pub makes : Insn → Option Change
+makes moved = put_into moved >>= λ r. if is_frame_pointer r then None else Some (Made r moved)
 
-abbrev pub Follows : Notes → ℕ → ℕ → Forms → Insn → Insn → Type 0
-Follows notes slot new_slot forms i moved = Puts notes slot new_slot forms i moved ⊎ (Jumps notes slot new_slot forms i moved ⊎ (Tests notes slot new_slot forms i moved ⊎ (Stores notes slot new_slot forms i moved ⊎ Exits forms i moved)))
+unfoldable pub extra : Front → Facts → Insn → Option Change
+extra front facts moved = if passes front facts moved then Some Kept else makes moved
 
--- what stands for the old instruction at a slot
-pub record Stands (old new : Instructions) (notes : Notes) (length slot : ℕ) (place : Place) (i : Insn) : Type 0 where
-  pub made : Forms
-  pub reaches : extras new (record { old = old; slot = slot; length = length }) most_extras place.first place.body (form_in place.forms) ≡ Some made
+-- the next one has fewer extra ones in front
+unfoldable pub adds : Notes → Front → Facts → ℕ → ℕ → Insn → Bool
+adds notes front facts left new_slot moved = option_map_or (λ change. arrives notes facts change front.slot left (new_slot + slot_count moved)) (extra front facts moved) false
+
+-- ---- what is noted of a new slot
+
+pub record IsBody (old new : Instructions) (notes : Notes) (slot : ℕ) (note : Note) : Type 0 where
+  pub insn : Insn
+  pub insn_is : insn_at old.list note.old ≡ Some insn
   pub moved : Insn
-  pub stands : insn_at new.list place.body ≡ Some moved
-  pub follows : Follows notes slot place.body made i moved
+  pub moved_is : insn_at new.list slot ≡ Some moved
+  pub same : Bool
+  pub same_is : IsTrue same ↔ (undirected moved ≡ undirected insn)
+  pub good : stands notes note.facts same note.old slot insn moved ≡ true
+
+pub record IsExtra (old new : Instructions) (notes : Notes) (length slot : ℕ) (note : Note) (left : ℕ) : Type 0 where
+  pub moved : Insn
+  pub moved_is : insn_at new.list slot ≡ Some moved
+  pub good : adds notes (record { old = old; slot = note.old; length = length }) note.facts left slot moved ≡ true
+
+-- by how many extra instructions stand from here on
+abbrev pub IsEither : Instructions → Instructions → Notes → ℕ → ℕ → Note → ℕ → Type 0
+IsEither old new notes length slot note zero = IsBody old new notes slot note
+IsEither old new notes length slot note (suc left) = IsExtra old new notes length slot note left
+
+-- what is noted of a slot holds there
+abbrev pub HoldsAt : Instructions → Instructions → Notes → ℕ → ℕ → Type 0
+HoldsAt old new notes length slot = (note : Note) → note_at notes slot ≡ Some note → IsEither old new notes length slot note note.extras
 
 -- ---- the start
 
--- r1 is where the context begins, and all else is the same in both
-abbrev pub start_forms : Forms
-start_forms = form_in (Is (same R0) ∷ Is (record { base = None; turned = true; frames = pos 0; moved = pos 0 }) ∷ Is (same R2) ∷ Is (same R3) ∷ Is (same R4) ∷ Is (same R5) ∷ Is (same R6) ∷ Is (same R7) ∷ Is (same R8) ∷ Is (same R9) ∷ Is (same R10) ∷ [])
+-- r1 is where the context begins, and all is the same in both
+abbrev pub by_itself : Reg → Fact
+by_itself r = record { of = Some r; base = Some r; by = Some zero_term }
 
--- what is made of where the context begins is made of the old program's r1
-abbrev pub by_r1 : Term → Term
-by_r1 t = record { base = Some R1; turned = either true t.turned; frames = t.frames; moved = t.moved }
-
-abbrev pub GivesFirst : Form → Form → Type 0
-GivesFirst have want = Gives have want ⊎ ((t : Term) × (have ≡ Is t) × (t.base ≡ None) × (want ≡ Is (by_r1 t)))
-
--- the new program begins with extra instructions that make of what is given what is wanted
-pub record Enters (old new : Instructions) (notes : Notes) (length : ℕ) : Type 0 where
-  pub place : Place
-  pub noted : place_at notes 0 ≡ Some place
-  pub made : Forms
-  pub reaches : extras new (record { old = old; slot = 0; length = length }) most_extras 0 place.first start_forms ≡ Some made
-  pub gives : (n : ℕ) → n < 11 → GivesFirst (made n) (form_in place.forms n)
+abbrev pub start_facts : Facts
+start_facts =
+    record { of = Some R1; base = None; by = Some context_offset } ∷ record { of = None; base = Some R1; by = Some context_offset }
+    ∷ by_itself R0 ∷ by_itself R1 ∷ by_itself R2 ∷ by_itself R3 ∷ by_itself R4 ∷ by_itself R5 ∷ by_itself R6 ∷ by_itself R7 ∷ by_itself R8 ∷ by_itself R9 ∷ by_itself R10 ∷ []
 
 -- ---- the notes match
 
-pub record Matches (old new : Instructions) (notes : Notes) (bounds : Bounds) : Type 0 where
-  pub plain : bounds.padded ≡ false
-  pub short : bounds.length < 2 ^ 32
+pub record Matches (old new : Instructions) (notes : Notes) (length : ℕ) : Type 0 where
+  pub short : length < 2 ^ 32
   pub order_is : new.order ≡ old.order
-  pub start : Enters old new notes bounds.length
-  pub each : (slot : ℕ) (place : Place) (i : Insn) → place_at notes slot ≡ Some place → insn_at old.list slot ≡ Some i → Stands old new notes bounds.length slot place i
+  pub few : count notes ≤ slots new.list
+  pub start : arrives notes start_facts Kept 0 most_extras 0 ≡ true
+  pub each : (slot : ℕ) → HoldsAt old new notes length slot
 
 -- ---- which exits of the new program are named
 
-abbrev pub StandsForExit : Instructions → Notes → ℕ → Type 0
-StandsForExit old notes new_slot = (slot : ℕ) × (place : Place) × (place_at notes slot ≡ Some place) × (insn_at old.list slot ≡ Some Exit) × (new_slot ≡ place.body)
+pub record StandsForExit (old : Instructions) (notes : Notes) (new_slot : ℕ) : Type 0 where
+  pub note : Note
+  pub noted : note_at notes new_slot ≡ Some note
+  pub body : note.extras ≡ 0
+  pub exit : insn_at old.list note.old ≡ Some Exit

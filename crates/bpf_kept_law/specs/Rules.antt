@@ -1,15 +1,16 @@
--- What instructions make of forms. Nothing here speaks of runs.
-use Rattle.std.specs.Prelude.{zero, ◌==◌, ◌%◌, ◌^◌, nat_lt, ℤ, pos, negsuc, ◌+ℤ◌, Bool, true, false, not, ◌&&◌, ◌||◌, ◌≡◌, ◌⊎◌, Option, Some, None, is_none, option_map, if◌then◌else◌}
-use Rattle.std.specs.List.{list_all}
-use Rattle.std.specs.Option.{option_map_or, option_or}
+-- What instructions make of facts. Nothing here speaks of runs.
+use Rattle.std.specs.Prelude.{◌+◌, zero, ◌==◌, ◌%◌, ◌^◌, nat_lt, ℤ, pos, negsuc, Bool, true, false, not, ◌&&◌, ◌||◌, List, [], ◌∷◌, Option, Some, None, is_none, option_map, if◌then◌else◌}
+use Rattle.std.specs.List.{find, list_all, list_any}
+use Rattle.std.specs.Option.{is_some, option_map_or, option_or}
 use Rattle.std.specs.Ordering.{int_eq}
 use Rattle.bpf_insn.specs.Options.{◌>>=◌}
 use Rattle.bpf_insn.specs.Arithmetic.{extended}
-use Rattle.bpf_insn.specs.Effects.{Access, access_of, registers_read, is_frame_pointer}
+use Rattle.bpf_insn.specs.Effects.{registers_read, is_frame_pointer}
 use Rattle.bpf_insn.specs.Limits.{frame_bytes}
-use Rattle.bpf_insn.specs.Instruction.{register_number}
+use Rattle.bpf_insn.specs.Instruction.{register_number, byte_count}
 use Rattle.bpf_insn.specs.declared.instruction.Reg.{Reg}
-use Rattle.bpf_insn.specs.declared.instruction.Reg.TheVariants.{R10}
+use Rattle.bpf_insn.specs.declared.instruction.Reg.TheVariants.{R0}
+use Rattle.bpf_insn.specs.declared.instruction.Size.{Size}
 use Rattle.bpf_insn.specs.declared.instruction.Operand.{Operand}
 use Rattle.bpf_insn.specs.declared.instruction.Operand.TheVariants.{Imm, Reg as FromReg}
 use Rattle.bpf_insn.specs.declared.instruction.Width.{Width}
@@ -20,39 +21,66 @@ use Rattle.bpf_insn.specs.declared.instruction.Cond.{Cond}
 use Rattle.bpf_insn.specs.declared.instruction.Cond.TheVariants.{Eq, Gt, Ge, Ne, SGt, SGe, Lt, Le, SLt, SLe}
 use Rattle.bpf_insn.specs.declared.instruction.EndBits.TheVariants.{B16 as E16, B32 as E32}
 use Rattle.bpf_insn.specs.declared.instruction.Insn.{Insn}
-use Rattle.bpf_insn.specs.declared.instruction.Insn.TheVariants.{Alu, Neg, MovSx, End, LoadImm64, Load, LoadSx, Store, StoreImm, JumpIf}
-use Rattle.bpf_kept_law.specs.Terms.{Term, Form, Forms, either, constant, in_frame, frame_offset, based, plus, minus, negated, times}
-use Rattle.bpf_kept_law.specs.Terms.Form.{Free, Low, Is}
+use Rattle.bpf_insn.specs.declared.instruction.Insn.TheVariants.{Alu, Neg, MovSx, End, LoadImm64, Load, LoadSx, Store, StoreImm, Ja, JaLong, JumpIf, CallLocal, Exit}
+use Rattle.bpf_semantics.specs.Flat.{addresses}
+use Rattle.bpf_kept_law.specs.Far.{middle}
+use Rattle.bpf_kept_law.specs.declared.notes.Term.{Term}
+use Rattle.bpf_kept_law.specs.declared.notes.Fact.{Fact}
+use Rattle.bpf_kept_law.specs.declared.notes.Change.{Change}
+use Rattle.bpf_kept_law.specs.declared.notes.Change.TheVariants.{Kept, Put, Made}
+use Rattle.bpf_kept_law.specs.Terms.{Facts, constant, zero_term, frame_offset, frame_end, plus, minus, negated, times}
 
--- ---- what a register of the new program has, by the same register of the old one
+-- ---- which facts give which
+
+abbrev pub same_register : Reg → Reg → Bool
+same_register a b = register_number a == register_number b
 
 abbrev pub is_register : Reg → Option Reg → Bool
 is_register r None = false
-is_register r (Some of) = register_number of == register_number r
+is_register r (Some of) = same_register of r
 
-abbrev pub own_term : Reg → Form → Option Term
-own_term r Free = None
-own_term r (Low base) = None
-own_term r (Is t) = if is_register r t.base then Some t else None
+-- both are one register, or both 0
+abbrev pub is_base : Option Reg → Option Reg → Bool
+is_base None other = is_none other
+is_base (Some r) other = is_register r other
 
-abbrev pub own : Forms → Reg → Option Term
-own forms r = own_term r (forms (register_number r))
+abbrev pub same_term : Term → Term → Bool
+same_term a b = a.frames == b.frames && a.moved == b.moved
+
+-- a term whose constant is a multiple of 2 ^ 32 tells the low half, since frames lie at such
+abbrev pub is_high : Term → Bool
+is_high t = t.moved % 2 ^ 32 == 0
+
+-- one difference is enough for another
+abbrev pub is_enough : Option Term → Option Term → Bool
+is_enough (Some a) (Some b) = same_term a b
+is_enough (Some a) None = is_high a
+is_enough None want = is_none want
+
+abbrev pub gives : Fact → Fact → Bool
+gives have want = is_base have.of want.of && (is_base have.base want.base && is_enough have.by want.by)
+
+-- ---- what a register of the new program has, by the same register of the old one
+
+abbrev pub is_own : Reg → Fact → Bool
+is_own r fact = is_register r fact.of && (is_register r fact.base && is_some fact.by)
+
+unfoldable pub own : Facts → Reg → Option Term
+own facts r = find (is_own r) facts >>= λ fact. fact.by
 
 -- the same
 abbrev pub is_zero : Term → Bool
-is_zero t = not t.turned && (int_eq t.frames (pos 0) && int_eq t.moved (pos 0))
+is_zero t = t.frames == 0 && t.moved == 0
 
-abbrev pub is_same : Forms → Reg → Bool
-is_same forms r = option_map_or is_zero (own forms r) false
+abbrev pub is_same : Facts → Reg → Bool
+is_same facts r = option_map_or is_zero (own facts r) false
 
--- the same low half: contexts and frames lie at multiples of 2 ^ 32
-abbrev pub is_low_form : Reg → Form → Bool
-is_low_form r Free = false
-is_low_form r (Low base) = is_register r base
-is_low_form r (Is t) = is_register r t.base && int_eq t.moved (pos 0)
+-- the same low half
+abbrev pub is_low_fact : Reg → Fact → Bool
+is_low_fact r fact = is_register r fact.of && (is_register r fact.base && is_enough fact.by None)
 
-abbrev pub is_low : Forms → Reg → Bool
-is_low forms r = is_low_form r (forms (register_number r))
+abbrev pub is_low : Facts → Reg → Bool
+is_low facts r = list_any (is_low_fact r) facts
 
 -- ---- an instruction that puts a number into a register, and does nothing else
 
@@ -67,33 +95,33 @@ put_into (LoadSx size dst src off) = Some dst
 put_into i = None
 
 -- what the new program's result is by the old one's, where both do the same: 64-bit sums, differences and moves are those of terms
-abbrev pub operand_term : Forms → Operand → Option Term
-operand_term forms (Imm imm) = Some (constant (pos 0))
-operand_term forms (FromReg r) = own forms r
+abbrev pub operand_term : Facts → Operand → Option Term
+operand_term facts (Imm imm) = Some zero_term
+operand_term facts (FromReg r) = own facts r
 
 abbrev pub linear : AluOp → Term → Term → Option Term
 linear Add a b = Some (plus a b)
 linear Sub a b = Some (minus a b)
 linear op a b = None
 
-abbrev pub computed : Forms → AluOp → Reg → Operand → Option Term
-computed forms Mov dst src = operand_term forms src
-computed forms op dst src = own forms dst >>= λ a. operand_term forms src >>= λ b. linear op a b
+abbrev pub computed : Facts → AluOp → Reg → Operand → Option Term
+computed facts Mov dst src = operand_term facts src
+computed facts op dst src = own facts dst >>= λ a. operand_term facts src >>= λ b. linear op a b
 
 -- products by constants, and shifts to the left, are sums; to turn all bits is to turn the sign, less one
-abbrev pub by_constant : Forms → AluOp → Reg → ℤ → Option Term
-by_constant forms Mul dst imm = option_map (times (extended imm)) (own forms dst)
-by_constant forms Lsh dst imm = option_map (times (2 ^ (extended imm % 64))) (own forms dst)
-by_constant forms Xor dst (negsuc zero) = option_map negated (own forms dst)
-by_constant forms op dst imm = None
+abbrev pub by_constant : Facts → AluOp → Reg → ℤ → Option Term
+by_constant facts Mul dst imm = option_map (times (extended imm)) (own facts dst)
+by_constant facts Lsh dst imm = option_map (times (2 ^ (extended imm % 64))) (own facts dst)
+by_constant facts Xor dst (negsuc zero) = option_map negated (own facts dst)
+by_constant facts op dst imm = None
 
-abbrev pub by_terms : Forms → Insn → Option Term
-by_terms forms (Alu Mul W64 dst (Imm imm)) = by_constant forms Mul dst imm
-by_terms forms (Alu Lsh W64 dst (Imm imm)) = by_constant forms Lsh dst imm
-by_terms forms (Alu Xor W64 dst (Imm imm)) = by_constant forms Xor dst imm
-by_terms forms (Alu op W64 dst src) = computed forms op dst src
-by_terms forms (Neg W64 dst) = option_map negated (own forms dst)
-by_terms forms i = None
+abbrev pub by_terms : Facts → Insn → Option Term
+by_terms facts (Alu Mul W64 dst (Imm imm)) = by_constant facts Mul dst imm
+by_terms facts (Alu Lsh W64 dst (Imm imm)) = by_constant facts Lsh dst imm
+by_terms facts (Alu Xor W64 dst (Imm imm)) = by_constant facts Xor dst imm
+by_terms facts (Alu op W64 dst src) = computed facts op dst src
+by_terms facts (Neg W64 dst) = option_map negated (own facts dst)
+by_terms facts i = None
 
 -- a mask of 32 bits
 abbrev pub is_mask : ℤ → Bool
@@ -112,11 +140,11 @@ reads_low (JumpIf cond W32 dst src off) = true
 reads_low i = false
 
 -- all that it reads is the same
-abbrev pub reads_same : Forms → Insn → Bool
-reads_same forms i = list_all (is_same forms) (registers_read i) || (reads_low i && list_all (is_low forms) (registers_read i))
+unfoldable pub reads_same : Facts → Insn → Bool
+reads_same facts i = list_all (is_same facts) (registers_read i) || (reads_low i && list_all (is_low facts) (registers_read i))
 
-unfoldable pub result_term : Forms → Insn → Option Term
-result_term forms i = option_or (by_terms forms i) (if reads_same forms i then Some (constant (pos 0)) else None)
+unfoldable pub result_term : Facts → Insn → Option Term
+result_term facts i = option_or (by_terms facts i) (if reads_same facts i then Some zero_term else None)
 
 -- 64-bit operations whose low halves depend on low halves alone
 abbrev pub keeps_low : AluOp → Bool
@@ -130,153 +158,185 @@ keeps_low Lsh = true
 keeps_low Mov = true
 keeps_low op = false
 
-abbrev pub has_low_result : Forms → Insn → Bool
-has_low_result forms (Alu op W64 dst src) = keeps_low op && list_all (is_low forms) (registers_read (Alu op W64 dst src))
-has_low_result forms i = false
+abbrev pub has_low_result : Facts → Insn → Bool
+has_low_result facts (Alu op W64 dst src) = keeps_low op && list_all (is_low facts) (registers_read (Alu op W64 dst src))
+has_low_result facts i = false
 
--- a load by another register
-abbrev pub rebased : Insn → Reg → ℤ → Option Insn
-rebased (Load size dst src off) base at = Some (Load size dst base at)
-rebased (LoadSx size dst src off) base at = Some (LoadSx size dst base at)
-rebased i base at = None
+-- ---- loads and stores by another register
 
--- its base has what the old one's base has, but for a constant that its displacement makes good
-abbrev pub meets : Term → Reg → ℤ → ℤ → Bool
-meets t src off at = is_register src t.base && (not t.turned && (int_eq t.frames (pos 0) && int_eq (t.moved +ℤ at) off))
+-- it has what the old one's base has, but for a constant that the displacement makes good
+abbrev pub is_address : Reg → ℤ → Reg → ℤ → Fact → Bool
+is_address base at src off fact = is_register base fact.of && (is_register src fact.base && option_map_or (λ t. t.frames == 0 && (t.moved + extended at) % addresses == extended off) fact.by false)
 
-pub record SameAddress (forms : Forms) (i moved : Insn) : Type 0 where
-  pub old : Access
-  pub old_is : access_of i ≡ Some old
-  pub base : Reg
-  pub at : ℤ
-  pub alike : rebased i base at ≡ Some moved
-  pub term : Term
-  pub term_is : forms (register_number base) ≡ Is term
-  pub same_place : meets term old.base old.offset at ≡ true
+abbrev pub same_size : Size → Size → Bool
+same_size a b = byte_count a == byte_count b
+
+unfoldable pub same_address : Facts → Reg → ℤ → Reg → ℤ → Bool
+same_address facts base at src off = list_any (is_address base at src off) facts
+
+abbrev pub loads_alike : Facts → Insn → Insn → Bool
+loads_alike facts (Load size dst src off) (Load other into base at) = same_size size other && (same_register dst into && same_address facts base at src off)
+loads_alike facts (LoadSx size dst src off) (LoadSx other into base at) = same_size size other && (same_register dst into && same_address facts base at src off)
+loads_alike facts i moved = false
+
+-- what is stored is the same
+abbrev pub stores_alike : Facts → Insn → Insn → Bool
+stores_alike facts (Store size dst off src) (Store other base at from) = same_size size other && (same_register src from && (is_same facts src && same_address facts base at dst off))
+stores_alike facts (StoreImm size dst off imm) (StoreImm other base at value) = same_size size other && (int_eq imm value && same_address facts base at dst off)
+stores_alike facts i moved = false
 
 -- the end of the own frame is moved to a register, and the new instruction puts its offset there
-pub record IsFramed (i moved : Insn) : Type 0 where
-  pub dst : Reg
-  pub old_is : i ≡ Alu Mov W64 dst (FromReg R10)
-  pub new_is : moved ≡ Alu Mov W64 dst (Imm (pos frame_bytes))
-
--- the new instruction puts what the old one puts, but for a term; or its low half is that one's
-abbrev pub PutsAlike : Forms → Insn → Insn → Option Term → Type 0
-PutsAlike forms i moved (Some t) = ((moved ≡ i) × (result_term forms i ≡ Some t)) ⊎ ((SameAddress forms i moved × (t ≡ constant (pos 0))) ⊎ (IsFramed i moved × (t ≡ frame_offset)))
-PutsAlike forms i moved None = (moved ≡ i) × (has_low_result forms i ≡ true)
-
--- what is said of registers behind it: of what stood in the old program's register nothing is left
-abbrev pub is_based : Reg → Form → Bool
-is_based r Free = false
-is_based r (Low base) = is_register r base
-is_based r (Is t) = is_register r t.base
-
-abbrev pub left : Reg → Form → Form
-left r form = if is_based r form then Free else form
-
-abbrev pub put_form : Reg → Option Term → Form
-put_form r (Some t) = Is (based (Some r) t)
-put_form r None = Low (Some r)
-
-abbrev pub behind : Forms → Reg → Option Term → Forms
-behind forms r result n = if n == register_number r then put_form r result else left r (forms n)
-
--- ---- stores of what is the same in both
-
-abbrev pub rebased_store : Insn → Reg → ℤ → Option Insn
-rebased_store (Store size dst off src) base at = Some (Store size base at src)
-rebased_store (StoreImm size dst off imm) base at = Some (StoreImm size base at imm)
-rebased_store i base at = None
-
-abbrev pub stores_same : Forms → Insn → Bool
-stores_same forms (Store size dst off src) = is_same forms src
-stores_same forms i = true
-
-pub record StoresAlike (forms : Forms) (i moved : Insn) : Type 0 where
-  pub old : Access
-  pub old_is : access_of i ≡ Some old
-  pub base : Reg
-  pub at : ℤ
-  pub alike : rebased_store i base at ≡ Some moved
-  pub term : Term
-  pub term_is : forms (register_number base) ≡ Is term
-  pub same_place : meets term old.base old.offset at ≡ true
-  pub stored : stores_same forms i ≡ true
+abbrev pub is_framed : Insn → Insn → Bool
+is_framed (Alu Mov W64 dst (FromReg r)) (Alu Mov W64 into (Imm imm)) = same_register dst into && (is_frame_pointer r && int_eq imm (pos frame_bytes))
+is_framed i moved = false
 
 -- ---- tests
 
 -- how a test with sign compares without it, and the other way round
-abbrev pub turned_test : Cond → Option Cond
-turned_test Gt = Some SGt
-turned_test Ge = Some SGe
-turned_test Lt = Some SLt
-turned_test Le = Some SLe
-turned_test SGt = Some Gt
-turned_test SGe = Some Ge
-turned_test SLt = Some Lt
-turned_test SLe = Some Le
-turned_test cond = None
+abbrev pub turned_test : Cond → Cond → Bool
+turned_test Gt SGt = true
+turned_test Ge SGe = true
+turned_test Lt SLt = true
+turned_test Le SLe = true
+turned_test SGt Gt = true
+turned_test SGe Ge = true
+turned_test SLt Lt = true
+turned_test SLe Le = true
+turned_test cond other = false
 
-abbrev pub are_alike : Term → Term → Bool
-are_alike a b = not (either a.turned b.turned) && (int_eq a.frames b.frames && int_eq a.moved b.moved)
-
--- both are offsets into the context
+-- an offset into the context
 abbrev pub is_offset : Term → Bool
-is_offset t = t.turned && (int_eq t.frames (pos 0) && int_eq t.moved (pos 0))
+is_offset t = t.frames == 0 && t.moved == middle
 
 abbrev pub are_offsets : Term → Term → Bool
 are_offsets a b = is_offset a && is_offset b
 
-abbrev pub are : (Term → Term → Bool) → Forms → Reg → Operand → Bool
-are test forms dst (Imm imm) = false
-are test forms dst (FromReg src) = option_map_or (λ a. option_map_or (test a) (own forms src) false) (own forms dst) false
+abbrev pub are : (Term → Term → Bool) → Facts → Reg → Reg → Bool
+are test facts dst src = option_map_or (λ a. option_map_or (test a) (own facts src) false) (own facts dst) false
 
 -- whether two are equal is whether those are that differ by the same
-abbrev pub by_equality : Forms → Cond → Width → Reg → Operand → Bool
-by_equality forms Eq W64 dst src = are are_alike forms dst src
-by_equality forms Ne W64 dst src = are are_alike forms dst src
-by_equality forms cond width dst src = false
+abbrev pub by_equality : Facts → Insn → Bool
+by_equality facts (JumpIf Eq W64 dst (FromReg src) off) = are same_term facts dst src
+by_equality facts (JumpIf Ne W64 dst (FromReg src) off) = are same_term facts dst src
+by_equality facts i = false
 
 -- the order of pointers into the context is the order of offsets with their signs, since the context lies in the middle
-abbrev pub by_order : Forms → Width → Reg → Operand → Bool
-by_order forms W64 dst src = are are_offsets forms dst src
-by_order forms W32 dst src = false
+abbrev pub by_order : Facts → Insn → Insn → Bool
+by_order facts (JumpIf cond W64 dst (FromReg src) off) (JumpIf other W64 left (FromReg right) new_off) = turned_test cond other && (same_register dst left && (same_register src right && are are_offsets facts dst src))
+by_order facts i moved = false
 
--- the new test answers as the old one
-abbrev pub TestsAlike : Forms → Width → Reg → Operand → Cond → Cond → Type 0
-TestsAlike forms width dst src cond other =
-    ((other ≡ cond) × ((reads_same forms (JumpIf cond width dst src (pos 0)) || by_equality forms cond width dst src) ≡ true))
-    ⊎ ((turned_test cond ≡ Some other) × (by_order forms width dst src ≡ true))
+-- ---- an instruction, and the one that stands for it
+
+-- but for where they lead
+abbrev pub undirected : Insn → Insn
+undirected (Ja off) = Ja (pos 0)
+undirected (JaLong off) = JaLong (pos 0)
+undirected (JumpIf cond width dst src off) = JumpIf cond width dst src (pos 0)
+undirected (CallLocal off) = CallLocal (pos 0)
+undirected i = i
+
+abbrev pub is_jump : Insn → Bool
+is_jump (Ja off) = true
+is_jump (JaLong off) = true
+is_jump i = false
+
+-- the same instruction does the same: a test answers alike, and the end gives the same number
+abbrev pub is_kept : Facts → Insn → Bool
+is_kept facts (JumpIf cond width dst src off) = reads_same facts (JumpIf cond width dst src (pos 0)) || by_equality facts (JumpIf cond width dst src off)
+is_kept facts Exit = is_same facts R0
+is_kept facts i = false
+
+-- neither changes a register, and both do the same
+unfoldable pub keeps : Facts → Bool → Insn → Insn → Bool
+keeps facts same i moved = (is_jump i && is_jump moved) || ((same && is_kept facts i) || (by_order facts i moved || stores_alike facts i moved))
+
+-- by what the new result differs from the old one: the same instruction; a load by another register; an offset into the frame
+abbrev pub low_result : Facts → Insn → Option (Option Term)
+low_result facts i = if has_low_result facts i then Some None else None
+
+abbrev pub put_by : Facts → Bool → Insn → Insn → Option (Option Term)
+put_by facts true i moved = option_or (option_map Some (result_term facts i)) (low_result facts i)
+put_by facts false i moved = if loads_alike facts i moved then Some (Some zero_term) else if is_framed i moved then Some (Some frame_offset) else None
+
+abbrev pub put : Reg → Option Term → Change
+put r by = Put (record { of = Some r; base = Some r; by = by })
+
+abbrev pub puts : Facts → Bool → Insn → Insn → Option Change
+puts facts same i moved = put_into i >>= λ r. if is_frame_pointer r then None else option_map (put r) (put_by facts same i moved)
+
+-- what both change, where the one stands for the other; `same` says whether they are the same but for where they lead
+unfoldable pub paired : Facts → Bool → Insn → Insn → Option Change
+paired facts same i moved = if keeps facts same i moved then Some Kept else puts facts same i moved
 
 -- ---- extra instructions, while the old program stands still
 
-abbrev pub operand_form : Forms → Operand → Form
-operand_form forms (Imm imm) = Is (constant imm)
-operand_form forms (FromReg r) = if is_frame_pointer r then Is (in_frame (pos frame_bytes)) else forms (register_number r)
+abbrev pub sum_base : Option Reg → Option Reg → Option Reg → Bool
+sum_base a b want = (is_none a && is_base b want) || (is_none b && is_base a want)
 
--- a sum has one base, a difference the base of the first, or none where both have one
-abbrev pub added : Form → Form → Form
-added (Is a) (Is b) = if is_none a.base then Is (based b.base (plus a b)) else if is_none b.base then Is (based a.base (plus a b)) else Free
-added a b = Free
+abbrev pub difference_base : Option Reg → Option Reg → Option Reg → Bool
+difference_base a b want = (is_none b && is_base a want) || (is_base a b && is_none want)
 
-abbrev pub is_base : Option Reg → Option Reg → Bool
-is_base None other = is_none other
-is_base (Some r) other = is_register r other
+abbrev pub both : (Term → Term → Term) → Option Term → Option Term → Option Term
+both combine a b = a >>= λ a. option_map (combine a) b
 
-abbrev pub taken_away : Form → Form → Form
-taken_away (Is a) (Is b) = if is_none b.base then Is (based a.base (minus a b)) else if is_base a.base b.base then Is (minus a b) else Free
-taken_away a b = Free
+abbrev pub is_known : Option Term → Option Term → Bool
+is_known by want = option_map_or (λ t. is_enough (Some t) want) by false
 
-abbrev pub made : Forms → AluOp → Reg → Operand → Form
-made forms Mov dst src = operand_form forms src
-made forms Add dst src = added (forms (register_number dst)) (operand_form forms src)
-made forms Sub dst src = taken_away (forms (register_number dst)) (operand_form forms src)
-made forms op dst src = Free
+-- the sum of what a register has and what the operand has; likewise the difference
+abbrev pub is_sum : Reg → Fact → Fact → Fact → Bool
+is_sum dst b want a = is_register dst a.of && (sum_base a.base b.base want.base && is_known (both plus a.by b.by) want.by)
 
-abbrev pub extra_form : Forms → Insn → Option Form
-extra_form forms (Alu op W64 dst src) = Some (made forms op dst src)
-extra_form forms (LoadImm64 dst value) = Some (Is (constant (pos value)))
-extra_form forms i = None
+abbrev pub is_difference : Reg → Fact → Fact → Fact → Bool
+is_difference dst b want a = is_register dst a.of && (difference_base a.base b.base want.base && is_known (both minus a.by b.by) want.by)
 
-abbrev pub with_form : Forms → Reg → Form → Forms
-with_form forms r form n = if n == register_number r then form else forms n
+abbrev pub is_moved : Fact → Fact → Bool
+is_moved b want = is_base b.base want.base && is_enough b.by want.by
+
+abbrev pub made_by : Facts → AluOp → Reg → Fact → Fact → Bool
+made_by facts Mov dst want b = is_moved b want
+made_by facts Add dst want b = list_any (is_sum dst b want) facts
+made_by facts Sub dst want b = list_any (is_difference dst b want) facts
+made_by facts op dst want b = false
+
+-- the operand by itself: a constant, or the frame's end
+abbrev pub known_number : Option Reg → Term → Fact
+known_number of t = record { of = of; base = None; by = Some t }
+
+abbrev pub known_operand : Operand → Option Fact
+known_operand (Imm imm) = Some (known_number None (constant (extended imm)))
+known_operand (FromReg r) = if is_frame_pointer r then Some (known_number (Some r) frame_end) else None
+
+-- what is known of the operand: of a register, or of 0 and so of each constant
+abbrev pub of_operand : Operand → Fact → Option Fact
+of_operand (Imm imm) fact = if is_none fact.of then option_map (λ t. record { of = None; base = fact.base; by = Some (plus t (constant (extended imm))) }) fact.by else None
+of_operand (FromReg r) fact = if is_register r fact.of then Some fact else None
+
+abbrev pub by_operand : Facts → AluOp → Reg → Operand → Fact → Fact → Bool
+by_operand facts op dst src want fact = option_map_or (made_by facts op dst want) (of_operand src fact) false
+
+unfoldable pub made : Facts → Insn → Fact → Bool
+made facts (Alu op W64 dst src) want = option_map_or (made_by facts op dst want) (known_operand src) false || list_any (by_operand facts op dst src want) facts
+made facts (LoadImm64 dst value) want = is_moved (known_number None (constant value)) want
+made facts i want = false
+
+-- ---- what holds behind a change
+
+-- it is of neither program's register
+abbrev pub stays : Reg → Fact → Bool
+stays r fact = not (is_register r fact.of) && not (is_register r fact.base)
+
+-- what is put, and what is left of the rest
+abbrev pub put_gives : Facts → Fact → Fact → Bool
+put_gives facts fact want = gives fact want || option_map_or (λ r. list_any (λ have. stays r have && gives have want) facts) fact.of false
+
+abbrev pub made_gives : Facts → Reg → Insn → Fact → Bool
+made_gives facts r i want = (is_register r want.of && made facts i want) || list_any (λ have. not (is_register r have.of) && gives have want) facts
+
+abbrev pub change_gives : Facts → Change → Fact → Bool
+change_gives facts Kept want = list_any (λ have. gives have want) facts
+change_gives facts (Put fact) want = put_gives facts fact want
+change_gives facts (Made r i) want = made_gives facts r i want
+
+-- that 0 is 0 holds always
+unfoldable pub holds_behind : Facts → Change → Fact → Bool
+holds_behind facts change want = gives (known_number None zero_term) want || change_gives facts change want

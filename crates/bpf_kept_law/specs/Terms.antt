@@ -1,40 +1,29 @@
--- Terms: what the new program has in a place, by what the old one has there or in another place.
-use Rattle.std.specs.Prelude.{◌≡◌, ℕ, ◌%◌, ◌^◌, ◌==◌, ◌&&◌, ℤ, pos, negsuc, ◌+ℤ◌, ◌-ℤ◌, ◌*ℤ◌, neg_ℤ, Bool, true, false, not, Option, Some, None, if◌then◌else◌, ⊤}
+-- Terms: how far what the new program has is from what the old one has.
+use Rattle.std.specs.Prelude.{◌≡◌, ℕ, ◌+◌, ◌-◌, ◌*◌, ◌%◌, ◌^◌, ℤ, pos, ◌+ℤ◌, ◌-ℤ◌, List, get_or, Option, Some, None}
+use Rattle.std.specs.List.{AllByRecursion}
 use Rattle.bpf_insn.specs.Arithmetic.{modulo}
+use Rattle.bpf_insn.specs.Instruction.{register_number}
+use Rattle.bpf_insn.specs.Limits.{frame_bytes}
 use Rattle.bpf_insn.specs.declared.instruction.Reg.{Reg}
-use Rattle.bpf_semantics.specs.Flat.{FlatState, addresses, flat_register}
+use Rattle.bpf_semantics.specs.Flat.{FlatState, addresses}
 use Rattle.bpf_kept_law.specs.Far.{middle}
+use Rattle.bpf_kept_law.specs.declared.notes.Term.{Term}
+use Rattle.bpf_kept_law.specs.declared.notes.Fact.{Fact}
 
--- A base, which is a register of the old program or 0; whether the context's first address is taken away from it, which is the same as added; how
--- often the frame's first address is taken away; and a constant.
-pub record Term : Type 0 where
-  pub base : Option Reg
-  pub turned : Bool
-  pub frames : ℤ
-  pub moved : ℤ
-
--- Of a place nothing is known, or that its low half is that of its base, or all of it.
-pub data Form : Type 0 where
-  Free : Form
-  Low : Option Reg → Form
-  Is : Term → Form
-
--- what is said of each register, by its number
-abbrev pub Forms : Type 0
-Forms = ℕ → Form
+-- what is known in front of an instruction: several facts may be of one register
+abbrev pub Facts : Type 0
+Facts = List Fact
 
 -- ---- what they mean, where the function's own frame begins at an address
 
-abbrev pub base_value : FlatState → Option Reg → ℕ
-base_value f None = 0
-base_value f (Some r) = flat_register f r
-
-abbrev pub turn : Bool → ℤ
-turn turned = pos (if turned then middle else 0)
+-- what a register holds, or 0
+abbrev pub value_in : List ℕ → Option Reg → ℕ
+value_in registers None = 0
+value_in registers (Some r) = get_or registers (register_number r) 0
 
 -- what is added to the base, modulo 2 ^ 64
 abbrev pub shift : ℕ → Term → ℤ
-shift own t = (turn t.turned -ℤ t.frames *ℤ pos own) +ℤ t.moved
+shift own t = pos t.moved -ℤ pos (t.frames * own)
 
 -- the new program has y where the old one has x
 abbrev pub Differs : ℕ → Term → ℕ → ℕ → Type 0
@@ -43,43 +32,50 @@ Differs own t x y = y ≡ modulo (pos x +ℤ shift own t) addresses
 abbrev pub AreLow : ℕ → ℕ → Type 0
 AreLow x y = y % 2 ^ 32 ≡ x % 2 ^ 32
 
--- a place of the new program that has y, by its form, where the old program is in state f
-abbrev pub Holds : ℕ → FlatState → Form → ℕ → Type 0
-Holds own f Free y = ⊤
-Holds own f (Low base) y = AreLow (base_value f base) y
-Holds own f (Is t) y = Differs own t (base_value f t.base) y
+-- they differ by a term, or have the same low half
+abbrev pub DiffersBy : ℕ → Option Term → ℕ → ℕ → Type 0
+DiffersBy own (Some t) x y = Differs own t x y
+DiffersBy own None x y = AreLow x y
 
--- ---- arithmetic on terms, their bases left aside
+-- where the old program is in state f, and the new one has these registers
+abbrev pub Holds : ℕ → FlatState → List ℕ → Fact → Type 0
+Holds own f registers fact = DiffersBy own fact.by (value_in f.registers fact.base) (value_in registers fact.of)
 
-abbrev pub either : Bool → Bool → Bool
-either true b = not b
-either false b = b
+abbrev pub AllHold : ℕ → FlatState → Facts → List ℕ → Type 0
+AllHold own f facts registers = AllByRecursion (Holds own f registers) facts
 
--- the same, or a constant more
-abbrev pub constant : ℤ → Term
-constant z = record { base = None; turned = false; frames = pos 0; moved = z }
+-- ---- arithmetic on terms
 
-abbrev pub based : Option Reg → Term → Term
-based base t = record { base = base; turned = t.turned; frames = t.frames; moved = t.moved }
+abbrev pub constant : ℕ → Term
+constant n = record { frames = 0; moved = n }
 
-abbrev pub same : Reg → Term
-same r = based (Some r) (constant (pos 0))
+-- the same
+abbrev pub zero_term : Term
+zero_term = constant 0
 
--- where the frame begins, moved by a constant; what is taken away from a pointer into it to make an offset
-abbrev pub in_frame : ℤ → Term
-in_frame z = record { base = None; turned = false; frames = negsuc 0; moved = z }
+-- an offset into the context, by the pointer, and the pointer by the offset: that lies in the middle of the addresses
+abbrev pub context_offset : Term
+context_offset = constant middle
 
+-- an offset into the own frame, by the pointer
 abbrev pub frame_offset : Term
-frame_offset = record { base = None; turned = false; frames = pos 1; moved = pos 0 }
+frame_offset = record { frames = 1; moved = 0 }
+
+-- where the own frame ends
+abbrev pub frame_end : Term
+frame_end = record { frames = addresses - 1; moved = frame_bytes }
 
 abbrev pub plus : Term → Term → Term
-plus a b = record { base = None; turned = either a.turned b.turned; frames = a.frames +ℤ b.frames; moved = a.moved +ℤ b.moved }
+plus a b = record { frames = (a.frames + b.frames) % addresses; moved = (a.moved + b.moved) % addresses }
 
-abbrev pub minus : Term → Term → Term
-minus a b = record { base = None; turned = either a.turned b.turned; frames = a.frames -ℤ b.frames; moved = a.moved -ℤ b.moved }
+abbrev pub opposite : ℕ → ℕ
+opposite n = (addresses - n % addresses) % addresses
 
 abbrev pub negated : Term → Term
-negated a = record { base = None; turned = a.turned; frames = neg_ℤ a.frames; moved = neg_ℤ a.moved }
+negated a = record { frames = opposite a.frames; moved = opposite a.moved }
+
+abbrev pub minus : Term → Term → Term
+minus a b = plus a (negated b)
 
 abbrev pub times : ℕ → Term → Term
-times n a = record { base = None; turned = a.turned && n % 2 == 1; frames = a.frames *ℤ pos n; moved = a.moved *ℤ pos n }
+times n a = record { frames = (a.frames * n) % addresses; moved = (a.moved * n) % addresses }

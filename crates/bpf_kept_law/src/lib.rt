@@ -3,6 +3,7 @@
 #![tactic(auto)]
 
 mod laws;
+mod notes;
 
 pub use laws::{
     certified_keeps_flat_meaning, exact_runs_are_flat, far_is_placement, flat_meaning_is_exact,
@@ -10,3 +11,4 @@ pub use laws::{
     one_address_is_context, one_distance_is_frame, other_exits_are_traps, zero_run_ends,
     zero_start_fits, zero_step_is_step,
 };
+pub use notes::{Change, FACTS, Fact, Need, Note, Term};

@@ -1,0 +1,4 @@
+mod InsideLemmas
+mod ReadLemmas
+mod AheadLemmas
+mod Further

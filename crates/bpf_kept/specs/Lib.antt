@@ -1,0 +1,2 @@
+-- what is shown, and why it isn't
+pub mod Mismatches

@@ -1,0 +1,119 @@
+//! Whether a new program keeps the meaning of an old one on plain addresses: a pass over the new program's slots decides whether the notes are a
+//! simulation relation, and the law says what that means for runs.
+
+ghost use Rattle.std.specs.Prelude.{◌≡◌, ◌↔◌, ◌≤◌, ℕ, IsOk, IfErr, IsTrue, length as list_length};
+ghost use Rattle.bpf_insn.specs.Limits.{max_slots};
+ghost use Rattle.bpf_kept_law.specs.declared.notes.Change.TheVariants.{Kept};
+ghost use Rattle.bpf_safety.specs.Certified.{Certified};
+ghost use Rattle.bpf_kept_law.specs.Meaning.{NeverStuck};
+ghost use Rattle.bpf_kept_law.specs.Matching.{most_extras, start_facts, arrives, HoldsAt, Matches};
+ghost use Rattle.bpf_kept.specs.Mismatches.{Keeps, IsMismatch, IsLowest, IsAt};
+
+use crate::edges::{Edge, arrives, start_facts};
+use crate::mismatch::Mismatch;
+use crate::stands::{At, MOST_EXTRAS, holds_at};
+use bpf_cert::Certificate;
+use bpf_insn::{Code, Order};
+use bpf_kept_law::{
+    Change, Note, certified_keeps_flat_meaning, matching_keeps_flat_meaning,
+};
+
+/// Whether what is noted of each new slot holds. The lowest slot where it doesn't is told.
+fn all_hold<O: Code, N: Code>(
+    old: &O,
+    new: &N,
+    notes: &[Option<Note>],
+    length: u32,
+) -> Result<(), Mismatch>
+    requires few { list_length notes.now ≤ max_slots }
+    ensures exact { IsOk result ↔ ((slot : ℕ) → HoldsAt (O.program old.now) (N.program new.now) notes.now length slot) }
+    ensures err { IfErr result (IsAt (IsLowest (O.program old.now) (N.program new.now) notes.now length)) }
+{
+    for slot in 0..notes.len() as u32 {
+        if !holds_at(old, new, notes, At { slot, length }) {
+            return Err(Mismatch::At { slot });
+        }
+    }
+    Ok(())
+}
+
+/// Whether two byte orders are the same.
+fn same_order(a: Order, b: Order) -> bool
+    ensures { IsTrue result ↔ (a ≡ b) }
+{
+    a == b
+}
+
+/// Whether what is noted of the first slot asks for no more than what holds at the start.
+fn starts(notes: &[Option<Note>]) -> bool
+    ensures { result ≡ arrives notes.now start_facts Kept 0 most_extras 0 }
+{
+    let edge = Edge {
+        slot: 0,
+        most: MOST_EXTRAS,
+        new_slot: 0,
+    };
+    arrives(notes, &start_facts(), Change::Kept, edge)
+}
+
+/// Whether the notes match.
+fn matches<O: Code, N: Code>(
+    old: &O,
+    new: &N,
+    notes: &[Option<Note>],
+    length: u32,
+) -> Result<(), Mismatch>
+    ensures exact { IsOk result ↔ Matches (O.program old.now) (N.program new.now) notes.now length }
+    ensures err { IfErr result (IsMismatch (O.program old.now) (N.program new.now) notes.now length) }
+{
+    if !same_order(new.order(), old.order()) {
+        return Err(Mismatch::Order);
+    }
+    if notes.len() > new.slots() as usize {
+        return Err(Mismatch::Notes);
+    }
+    if !starts(notes) {
+        return Err(Mismatch::Start);
+    }
+    all_hold(old, new, notes, length)
+}
+
+/// Whether the new program is shown to keep the meaning of the old one, which is one function: on each context of so many bytes on which the old
+/// one ends with a number on plain addresses, with frames near and wide, the new one ends with that number, if it is never stuck. The notes, one
+/// for each slot of the new program that is used, are looked at and not trusted. It takes one pass. Else it is told what fails first.
+pub fn follows<O: Code, N: Code>(
+    old: &O,
+    new: &N,
+    notes: &[Option<Note>],
+    length: u32,
+) -> Result<(), Mismatch>
+    ensures keeps { IsOk result → NeverStuck (N.program new.now) length → Keeps (O.program old.now) (N.program new.now) notes.now length }
+    ensures exact { IsOk result ↔ Matches (O.program old.now) (N.program new.now) notes.now length }
+    ensures err { IfErr result (IsMismatch (O.program old.now) (N.program new.now) notes.now length) }
+{
+    let _slots = old.slots();
+    let _new_slots = new.slots();
+    matching_keeps_flat_meaning();
+    matches(old, new, notes, length)
+}
+
+/// The same of a new program with a certificate for contexts of so many bytes: where that certifies it, it is never stuck.
+pub fn follows_certified<O: Code, N: Code>(
+    old: &O,
+    new: &N,
+    notes: &[Option<Note>],
+    certificate: &Certificate,
+    length: u32,
+) -> Result<(), Mismatch>
+    ensures keeps { IsOk result → Certified (N.program new.now) certificate.now → Keeps (O.program old.now) (N.program new.now) notes.now length }
+    ensures exact { IsOk result ↔ ((certificate.now.least ≤ length) × (length ≤ certificate.now.most) × Matches (O.program old.now) (N.program new.now) notes.now length) }
+{
+    certificate.valid();
+    let _slots = old.slots();
+    let _new_slots = new.slots();
+    certified_keeps_flat_meaning();
+    if length < certificate.least() || certificate.most() < length {
+        return Err(Mismatch::Length);
+    }
+    matches(old, new, notes, length)
+}
