@@ -7,6 +7,7 @@ use Rattle.std.proofs.lemmas.List.Folds.{list_any-append}
 use Rattle.bpf_insn.specs.Effects.{Access}
 use Rattle.bpf_insn.specs.Instruction.{Instructions, slot_count, insn_at}
 use Rattle.bpf_insn.specs.declared.instruction.Insn.{Insn}
+use Rattle.bpf_insn.specs.declared.instruction.Insn.TheVariants.{LoadImm64}
 use Rattle.bpf_insn.specs.declared.instruction.Reg.{Reg}
 use Rattle.bpf_kept_law.specs.declared.notes.Need.{Need}
 use Rattle.bpf_kept_law.specs.Guards.{accesses_by, is_passed, is_met, accesses_ahead}
@@ -52,3 +53,7 @@ module _ (old : Instructions) (r : Reg) (need : Need) where
   unfolding accesses_ahead
   over zero slot none = refl
   over (suc n) slot none = absurd (omega arith)
+
+pub few_slots : (i : Insn) → slot_count i ≤ 2
+few_slots (LoadImm64 dst value) = omega arith
+few_slots i = omega arith
