@@ -2,7 +2,7 @@
 use Rattle.std.specs.Prelude.{◌≡◌, ◌≢◌, ℕ, ◌<◌, ◌≤◌, true, false, length as count}
 use Rattle.bpf_insn.specs.Instruction.{Instructions, slots}
 use Rattle.bpf_kept_law.specs.Meaning.{KeepsFlatMeaning}
-use Rattle.bpf_kept_law.specs.Matching.{Notes, most_extras, arrives, start_facts, HoldsAt, StandsForExit}
+use Rattle.bpf_kept_law.specs.Matching.{Notes, most_at_start, arrives, start_facts, HoldsAt, StandsForExit}
 use Rattle.bpf_kept_law.specs.declared.notes.Change.TheVariants.{Kept}
 use Rattle.bpf_kept.specs.declared.mismatch.Mismatch.{Mismatch}
 use Rattle.bpf_kept.specs.declared.mismatch.Mismatch.TheVariants.{Order, Notes as TooMany, Start, At, Length}
@@ -21,7 +21,7 @@ IsAt Holds (At slot) = Holds slot
 IsAt Holds mismatch = ⊥
 
 abbrev pub Starts : Notes → Type 0
-Starts notes = arrives notes start_facts Kept 0 most_extras 0 ≡ true
+Starts notes = arrives notes start_facts Kept 0 most_at_start 0 ≡ true
 
 -- The byte orders differ; or they don't, and there are too many notes; or there aren't, and the start doesn't match; or it does, and a slot
 -- doesn't. That a certificate is of other lengths is no matter of notes.

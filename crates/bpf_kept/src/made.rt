@@ -1,10 +1,8 @@
 //! What an extra instruction puts into a register of the new program alone.
 
-ghost use Rattle.std.specs.Prelude.{◌≡◌, false, None, Some, option_map};
+ghost use Rattle.std.specs.Prelude.{◌≡◌, false};
 ghost use Rattle.std.specs.Option.{option_map_or};
-ghost use Rattle.bpf_insn.specs.Arithmetic.{extended};
-ghost use Rattle.bpf_kept_law.specs.Terms.{plus, constant};
-ghost use Rattle.bpf_kept_law.specs.Rules.{sum_base, difference_base, is_known, is_sum, is_difference, is_moved, made_by, known_number, known_operand, of_operand, by_operand, made, both, put_gives, made_gives, change_gives, holds_behind};
+ghost use Rattle.bpf_kept_law.specs.Rules.{sum_base, difference_base, is_known, is_sum, is_difference, is_moved, made_by, known_number, known_operand, of_number, of_operand, by_operand, made, both, put_gives, made_gives, change_gives, holds_behind};
 
 use crate::facts::{gives, is_base, is_register, stays};
 use crate::terms::{constant, frame_end, is_enough, minus, plus, zero};
@@ -94,16 +92,29 @@ fn known_operand(src: Operand) -> Option<Fact>
     }
 }
 
-/// A constant, by what 0 is.
-fn moved_number(fact: Fact, imm: i32) -> Option<Fact>
-    ensures { result ≡ option_map (λ t. record { of = None; base = fact.base; by = Some (plus t (constant (extended imm))) }) fact.by }
+/// A number, by what 0 is.
+fn of_number(n: u64, fact: Fact) -> Option<Fact>
+    ensures { result ≡ of_number n fact }
 {
+    if fact.of.is_some() {
+        return None;
+    }
     let t = fact.by?;
     Some(Fact {
         of: None,
         base: fact.base,
-        by: Some(plus(t, constant(extended(imm)))),
+        by: Some(plus(t, constant(n))),
     })
+}
+
+/// Whether a number is known as wanted, by what 0 is.
+fn is_number(n: u64, want: Fact, fact: Fact) -> bool
+    ensures { result ≡ option_map_or (λ b. is_moved b want) (of_number n fact) false }
+{
+    match of_number(n, fact) {
+        Some(b) => is_moved(b, want),
+        None => false,
+    }
 }
 
 /// What a fact says of an operand.
@@ -111,12 +122,12 @@ fn of_operand(src: Operand, fact: Fact) -> Option<Fact>
     ensures { result ≡ of_operand src fact }
 {
     match src {
-        Operand::Imm(imm) => if fact.of.is_none() {
-            moved_number(fact, imm)
+        Operand::Imm(imm) => of_number(extended(imm), fact),
+        Operand::Reg(r) => if is_register(r, fact.of) {
+            Some(fact)
         } else {
             None
         },
-        Operand::Reg(r) => if is_register(r, fact.of) { Some(fact) } else { None },
     }
 }
 
@@ -163,8 +174,14 @@ fn made(facts: &[Fact], insn: &Insn, want: Fact) -> bool
             let wanted = Wanted { op, dst, src, want };
             by_itself(facts, wanted) || facts.iter().any(|fact| by_operand(facts, wanted, *fact))
         }
-        Insn::LoadImm64 { value, .. } => is_moved(known_number(None, constant(value)), want),
-        Insn::Alu { width: Width::W32, .. } => false,
+        Insn::LoadImm64 { value, .. } => {
+            is_moved(known_number(None, constant(value)), want)
+                || facts.iter().any(|fact| is_number(value, want, *fact))
+        }
+        Insn::Alu {
+            width: Width::W32,
+            ..
+        } => false,
         Insn::Neg { .. } | Insn::MovSx { .. } | Insn::End { .. } => false,
         Insn::Load { .. } | Insn::LoadSx { .. } | Insn::Store { .. } => false,
         Insn::StoreImm { .. } | Insn::Atomic { .. } | Insn::Ja { .. } => false,
@@ -180,7 +197,9 @@ fn put_gives(facts: &[Fact], fact: Fact, want: Fact) -> bool
 {
     gives(fact, want)
         || match fact.of {
-            Some(r) => facts.iter().any(|have| stays(r, *have) && gives(*have, want)),
+            Some(r) => facts
+                .iter()
+                .any(|have| stays(r, *have) && gives(*have, want)),
             None => false,
         }
 }
@@ -190,7 +209,9 @@ fn made_gives(facts: &[Fact], r: Reg, insn: &Insn, want: Fact) -> bool
     ensures { result ≡ made_gives facts.now r insn.now want }
 {
     (is_register(r, want.of) && made(facts, insn, want))
-        || facts.iter().any(|have| !is_register(r, have.of) && gives(*have, want))
+        || facts
+            .iter()
+            .any(|have| !is_register(r, have.of) && gives(*have, want))
 }
 
 /// Whether a fact holds behind a change, by those in front of it.

@@ -6,17 +6,18 @@ ghost use Rattle.bpf_insn.specs.Limits.{max_slots};
 ghost use Rattle.bpf_kept_law.specs.declared.notes.Change.TheVariants.{Kept};
 ghost use Rattle.bpf_safety.specs.Certified.{Certified};
 ghost use Rattle.bpf_kept_law.specs.Meaning.{NeverStuck};
-ghost use Rattle.bpf_kept_law.specs.Matching.{most_extras, start_facts, arrives, HoldsAt, Matches};
+ghost use Rattle.bpf_kept_law.specs.Matching.{most_at_start, start_facts, arrives, HoldsAt, Matches};
 ghost use Rattle.bpf_kept.specs.Mismatches.{Keeps, IsMismatch, IsLowest, IsAt};
 
 use crate::edges::{Edge, arrives, start_facts};
 use crate::mismatch::Mismatch;
-use crate::stands::{At, MOST_EXTRAS, holds_at};
+use crate::stands::{At, holds_at};
 use bpf_cert::Certificate;
 use bpf_insn::{Code, Order};
-use bpf_kept_law::{
-    Change, Note, certified_keeps_flat_meaning, matching_keeps_flat_meaning,
-};
+use bpf_kept_law::{Change, Note, certified_keeps_flat_meaning, matching_keeps_flat_meaning};
+
+/// The greatest number of extra instructions at the start.
+const MOST_AT_START: u32 = 256;
 
 /// Whether what is noted of each new slot holds. The lowest slot where it doesn't is told.
 fn all_hold<O: Code, N: Code>(
@@ -46,11 +47,11 @@ fn same_order(a: Order, b: Order) -> bool
 
 /// Whether what is noted of the first slot asks for no more than what holds at the start.
 fn starts(notes: &[Option<Note>]) -> bool
-    ensures { result ≡ arrives notes.now start_facts Kept 0 most_extras 0 }
+    ensures { result ≡ arrives notes.now start_facts Kept 0 most_at_start 0 }
 {
     let edge = Edge {
         slot: 0,
-        most: MOST_EXTRAS,
+        most: MOST_AT_START,
         new_slot: 0,
     };
     arrives(notes, &start_facts(), Change::Kept, edge)

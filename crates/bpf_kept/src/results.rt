@@ -122,7 +122,14 @@ fn reads_low(insn: &Insn) -> bool
     ensures { result ≡ reads_low insn.now }
 {
     match *insn {
-        Insn::Alu { width: Width::W32, .. } | Insn::Neg { width: Width::W32, .. } => true,
+        Insn::Alu {
+            width: Width::W32,
+            ..
+        }
+        | Insn::Neg {
+            width: Width::W32,
+            ..
+        } => true,
         Insn::Alu {
             op: AluOp::And,
             src: Operand::Imm(imm),

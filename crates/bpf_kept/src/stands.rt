@@ -5,15 +5,15 @@ ghost use Rattle.bpf_insn.specs.Limits.{max_slots};
 ghost use Rattle.bpf_kept_law.specs.Matching.{led, falls, leads, goes, stands, makes, extra, adds, IsBody, IsExtra, HoldsAt};
 
 use crate::alike::{are_same, paired};
-use crate::edges::{Edge, arrives, note_at};
 use crate::code::insn_at;
+use crate::edges::{Edge, arrives, note_at};
 use crate::guards::{Front, passes};
 use crate::results::put_into;
 use bpf_insn::{Code, Insn, target};
 use bpf_kept_law::{Change, Fact, Note};
 
 /// The greatest number of extra instructions in front of one.
-pub const MOST_EXTRAS: u32 = 128;
+const MOST_EXTRAS: u32 = 128;
 
 /// An instruction of the old program, and one of the new one.
 #[derive(Clone, Copy)]
@@ -35,7 +35,7 @@ fn led(slot: u32, insn: &Insn) -> Option<u32>
 
 /// Whether the next new instruction stands for the next old one, if that may follow.
 fn falls(notes: &[Option<Note>], facts: &[Fact], change: Change, pair: Pair) -> bool
-    requires { pair.slot < max_slots }
+    requires old { pair.slot < max_slots }
     requires new { pair.new_slot < max_slots }
     ensures { result ≡ falls notes.now facts.now change pair.slot pair.new_slot pair.insn pair.moved }
 {
@@ -52,7 +52,7 @@ fn falls(notes: &[Option<Note>], facts: &[Fact], change: Change, pair: Pair) -> 
 
 /// Whether the new one leads where the old one leads.
 fn leads(notes: &[Option<Note>], facts: &[Fact], change: Change, pair: Pair) -> bool
-    requires { pair.slot < max_slots }
+    requires old { pair.slot < max_slots }
     requires new { pair.new_slot < max_slots }
     ensures { result ≡ leads notes.now facts.now change pair.slot pair.new_slot pair.insn pair.moved }
 {
@@ -72,7 +72,7 @@ fn leads(notes: &[Option<Note>], facts: &[Fact], change: Change, pair: Pair) -> 
 
 /// Whether the one stands for the other; `same` says whether they are the same but for where they lead.
 fn stands(notes: &[Option<Note>], facts: &[Fact], same: bool, pair: Pair) -> bool
-    requires { pair.slot < max_slots }
+    requires old { pair.slot < max_slots }
     requires new { pair.new_slot < max_slots }
     ensures { result ≡ stands notes.now facts.now same pair.slot pair.new_slot pair.insn pair.moved }
 {
@@ -90,10 +90,7 @@ fn makes(moved: &Insn) -> Option<Change>
     if into.is_frame_pointer() {
         return None;
     }
-    Some(Change::Made {
-        into,
-        insn: *moved,
-    })
+    Some(Change::Made { into, insn: *moved })
 }
 
 /// What an extra instruction changes.
@@ -133,13 +130,7 @@ fn is_body<O: Code, N: Code>(
 }
 
 /// Whether the instruction at a new slot is an extra one, with at most so many behind it.
-fn is_extra<O: Code, N: Code>(
-    old: &O,
-    new: &N,
-    notes: &[Option<Note>],
-    at: At,
-    note: &Note,
-) -> bool
+fn is_extra<O: Code, N: Code>(old: &O, new: &N, notes: &[Option<Note>], at: At, note: &Note) -> bool
     requires { 0 < note.now.extras }
     ensures { IsTrue result ↔ IsExtra (O.program old.now) (N.program new.now) notes.now at.length at.slot note.now (note.now.extras - 1) }
 {

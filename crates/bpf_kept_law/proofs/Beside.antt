@@ -1,5 +1,5 @@
 -- The old program's two runs and the new program's, side by side: what is known in front of an old instruction, and how extra ones keep it.
-use Rattle.std.proofs.Common.{◌≡◌, ℕ, zero, suc, ◌+◌, ◌*◌, ◌^◌, ◌<◌, ◌≤◌, ◌==◌, inl, inr, refl, sym, ap, ◌∙◌, subst, arith, Bool, true, false, [], ◌∷◌, length, Option, Some, None, cond}
+use Rattle.std.proofs.Common.{◌≡◌, ℕ, suc, ◌+◌, ◌*◌, ◌^◌, ◌<◌, ◌≤◌, ◌==◌, refl, sym, ap, ◌∙◌, subst, arith, Bool, true, false, [], ◌∷◌, length, Option, Some, None, cond}
 use Rattle.std.specs.Prelude.{ℤ, option_and_then, nat_le, ◌&&◌}
 use Rattle.std.specs.List.{AllByRecursion, list_all, list_any}
 use Rattle.std.specs.Option.{option_map_or}
@@ -15,7 +15,6 @@ use Rattle.bpf_insn.specs.declared.instruction.Width.TheVariants.{W64}
 use Rattle.bpf_insn.specs.declared.instruction.Cond.TheVariants.{Gt}
 use Rattle.bpf_insn.specs.declared.instruction.Insn.{Insn}
 use Rattle.bpf_insn.specs.declared.instruction.Insn.TheVariants.{JumpIf, Exit}
-use Rattle.bpf_insn.proofs.RegisterLemmas.{reg_below}
 use Rattle.bpf_semantics.specs.State.{State, start}
 use Rattle.bpf_semantics.specs.Step.{Step}
 use Rattle.bpf_semantics.specs.Run.{Steps}
@@ -24,7 +23,7 @@ use Rattle.bpf_semantics.specs.Placement.{IsPlacement, Fits}
 use Rattle.bpf_semantics.specs.declared.value.Value.TheVariants.{Number}
 use Rattle.bpf_semantics.proofs.FlatBase.{stands as stands_in}
 use Rattle.bpf_semantics.proofs.NumberLemmas.{modulo_below}
-use Rattle.bpf_semantics.proofs.StateLemmas.{encoding_at, option_map_some}
+use Rattle.bpf_semantics.proofs.StateLemmas.{encoding_at}
 use Rattle.bpf_kept_law.specs.Far.{near, wide}
 use Rattle.bpf_kept_law.specs.Zero.{zero_start, zero_does, zero_step, zero_after, IsZeroState}
 use Rattle.bpf_kept_law.specs.Meaning.{most_for_one}
@@ -35,7 +34,7 @@ use Rattle.bpf_kept_law.specs.declared.notes.Change.TheVariants.{Kept, Made}
 use Rattle.bpf_kept_law.specs.Terms.{Facts, DiffersBy, Holds, AllHold, value_in}
 use Rattle.bpf_kept_law.specs.Rules.{is_register, put_into, holds_behind}
 use Rattle.bpf_kept_law.specs.Guards.{Front, guarded, is_tested, passes, accesses_ahead, farthest_ahead}
-use Rattle.bpf_kept_law.specs.Matching.{note_at, most_extras, suits, arrives, makes, extra, adds, IsExtra}
+use Rattle.bpf_kept_law.specs.Matching.{note_at, most_at_start, suits, arrives, makes, extra, adds, IsExtra}
 use Rattle.bpf_kept_law.proofs.FarLaw.{far_is_placement}
 use Rattle.bpf_kept_law.proofs.ZeroLaw.{zero_step_is_step}
 use Rattle.bpf_kept_law.proofs.HoldsLaw.{any_holds, register_value}
@@ -252,12 +251,12 @@ module _ (given : Setting) where
     pub note : Note
     pub noted : note_at notes state.top.slot ≡ Some note
     pub old_is : fn.slot ≡ note.old
-    pub few : n + note.extras ≤ most_extras + most_for_one * j
+    pub few : n + note.extras ≤ most_at_start + most_for_one * j
     pub old_at : OldAt j fn fw
     pub new_at : NewAt note.facts n state fn fw gn gw
 
   -- an edge leads there
-  pub arrived : (facts : Facts) (change : Change) (j n slot most new_slot : ℕ) (s : State) (fn fw gn gw : FlatState) → arrives notes facts change slot most new_slot ≡ true → s.top.slot ≡ new_slot → fn.slot ≡ slot → n + most ≤ most_extras + most_for_one * j
+  pub arrived : (facts : Facts) (change : Change) (j n slot most new_slot : ℕ) (s : State) (fn fw gn gw : FlatState) → arrives notes facts change slot most new_slot ≡ true → s.top.slot ≡ new_slot → fn.slot ≡ slot → n + most ≤ most_at_start + most_for_one * j
       → OldAt j fn fw → ((wants : Facts) → list_all (holds_behind facts change) wants ≡ true → NewAt wants n s fn fw gn gw) → (r : Ready j) × (r.note.extras ≤ most)
   unfolding arrives
   arrived facts change j n slot most new_slot s fn fw gn gw e at old_at few o new_at = by_note (note_at notes new_slot) refl e

@@ -1,10 +1,10 @@
 -- An example that the definitions can be met: a filter that puts pointers in order before it reads, and what a hardener makes of it, with notes that
 -- match.
-use Rattle.std.proofs.Common.{◌≡◌, ℕ, zero, suc, ◌+◌, ◌<◌, refl, sym, ap, ◌∙◌, subst, arith, Bool, true, false, List, [], ◌∷◌, Option, Some, None}
-use Rattle.std.specs.Prelude.{pos, negsuc, IsTrue, ◌↔◌}
+use Rattle.std.proofs.Common.{ℕ, zero, suc, refl, sym, ap, subst, arith, Bool, true, false, [], ◌∷◌, Option, Some, None}
+use Rattle.std.specs.Prelude.{pos, negsuc}
 use Rattle.std.proofs.lemmas.Bool.{false≢true}
 use Rattle.std.proofs.lemmas.Option.{none-some, same_Some}
-use Rattle.bpf_insn.specs.Instruction.{Instructions, insn_at}
+use Rattle.bpf_insn.specs.Instruction.{Instructions}
 use Rattle.bpf_insn.specs.declared.order.Order.TheVariants.{Little}
 use Rattle.bpf_insn.specs.declared.instruction.Reg.{Reg}
 use Rattle.bpf_insn.specs.declared.instruction.Reg.TheVariants.{R0, R1, R2, R3, R5, R9}
@@ -18,9 +18,9 @@ use Rattle.bpf_insn.specs.declared.instruction.Insn.TheVariants.{Alu, Load, Stor
 use Rattle.bpf_kept_law.specs.Far.{middle}
 use Rattle.bpf_kept_law.specs.declared.notes.Fact.{Fact}
 use Rattle.bpf_kept_law.specs.declared.notes.Note.{Note}
-use Rattle.bpf_kept_law.specs.Rules.{own, reads_same, result_term, same_address, keeps, paired, made, holds_behind, undirected}
+use Rattle.bpf_kept_law.specs.Rules.{own, reads_same, result_term, same_address, keeps, paired, made, holds_behind}
 use Rattle.bpf_kept_law.specs.Guards.{accesses_ahead, is_ahead, passes}
-use Rattle.bpf_kept_law.specs.Matching.{Notes, note_at, arrives, stands, extra, adds, IsBody, IsExtra, IsEither, HoldsAt, Matches}
+use Rattle.bpf_kept_law.specs.Matching.{Notes, arrives, stands, extra, adds, IsBody, IsExtra, IsEither, HoldsAt, Matches}
 
 -- a fact with a term
 abbrev pub fact : Option Reg → Option Reg → ℕ → ℕ → Fact

@@ -1,11 +1,11 @@
 -- What the new program puts into a register by itself, and what a change leaves of all facts.
-use Rattle.std.proofs.Common.{◌≡◌, ℕ, ◌+◌, ◌*◌, ◌-◌, ◌%◌, ◌^◌, ◌<◌, ◌==◌, inl, inr, refl, sym, ap, ap₂, ◌∙◌, subst, arith, Bool, true, false, List, length, Option, Some, None, cond}
-use Rattle.std.specs.Prelude.{ℤ, pos, ◌+ℤ◌, ◌-ℤ◌, ◌&&◌, ◌||◌, not, is_none, get_or, set, option_map, if◌then◌else◌}
-use Rattle.std.specs.List.{AllByRecursion, list_all, list_any}
+use Rattle.std.proofs.Common.{◌≡◌, ℕ, ◌+◌, ◌%◌, ◌<◌, inl, inr, refl, sym, ap, ◌∙◌, subst, arith, Bool, true, false, List, length, Option, Some, None, cond}
+use Rattle.std.specs.Prelude.{ℤ, pos, ◌+ℤ◌, ◌-ℤ◌, ◌&&◌, not, is_none, get_or, set, option_map}
+use Rattle.std.specs.List.{list_all, list_any}
 use Rattle.std.specs.Option.{option_map_or}
 use Rattle.std.proofs.lemmas.Bool.{and_parts, or_cases, eqb-true, eq-eqb, false≢true}
 use Rattle.std.proofs.lemmas.Int.{ints}
-use Rattle.std.proofs.lemmas.Option.{none-some, same_Some, option_and_then_some}
+use Rattle.std.proofs.lemmas.Option.{none-some, same_Some}
 use Rattle.bpf_insn.specs.Arithmetic.{modulo, extended}
 use Rattle.bpf_insn.specs.Effects.{is_frame_pointer}
 use Rattle.bpf_insn.specs.Limits.{frame_bytes}
@@ -21,17 +21,15 @@ use Rattle.bpf_insn.specs.declared.instruction.AluOp.TheVariants.{Add, Sub, Mov}
 use Rattle.bpf_insn.specs.declared.instruction.Insn.{Insn}
 use Rattle.bpf_insn.specs.declared.instruction.Insn.TheVariants.{Alu, LoadImm64}
 use Rattle.bpf_semantics.specs.Flat.{FlatState, addresses, flat_register, flat_operand, flat_put}
-use Rattle.bpf_semantics.proofs.FlatArith.{Same, same_refl, same_sym, same_trans, same_plus, same_minus, same_equal, modulo-same, modulo_of_small}
+use Rattle.bpf_semantics.proofs.FlatArith.{Same, same_refl, same_sym, same_trans, same_plus, same_minus, same_equal, modulo-same}
 use Rattle.bpf_semantics.proofs.NumberLemmas.{modulo_below}
-use Rattle.bpf_semantics.proofs.StateLemmas.{option_map_some}
 use Rattle.bpf_kept_law.specs.declared.notes.Term.{Term}
 use Rattle.bpf_kept_law.specs.declared.notes.Fact.{Fact}
-use Rattle.bpf_kept_law.specs.declared.notes.Change.{Change}
 use Rattle.bpf_kept_law.specs.declared.notes.Change.TheVariants.{Kept, Put, Made}
 use Rattle.bpf_kept_law.specs.Terms.{Facts, Differs, DiffersBy, Holds, AllHold, value_in, shift, constant, zero_term, frame_end, plus, minus}
-use Rattle.bpf_kept_law.specs.Rules.{is_register, is_base, is_enough, gives, put_into, sum_base, difference_base, both, is_known, is_sum, is_difference, is_moved, made_by, known_number, known_operand, of_operand, by_operand, made, stays, put_gives, made_gives, holds_behind}
+use Rattle.bpf_kept_law.specs.Rules.{is_register, is_base, is_enough, gives, sum_base, difference_base, both, is_known, is_sum, is_difference, is_moved, made_by, known_number, known_operand, of_number, of_operand, by_operand, made, stays, put_gives, made_gives, holds_behind}
 use Rattle.bpf_kept_law.proofs.TermLaw.{shift_plus, shift_minus, shift_constant, differs_same, same_differs, same_number}
-use Rattle.bpf_kept_law.proofs.HoldsLaw.{IsHigh, any_holds, all_of, register_value, none_value, base_same, enough_differs, value_holds, gives_holds, stays_holds, other_holds, there_now}
+use Rattle.bpf_kept_law.proofs.HoldsLaw.{IsHigh, any_holds, all_of, register_value, none_value, base_same, enough_differs, gives_holds, stays_holds, other_holds, there_now}
 use Rattle.bpf_kept_law.proofs.PutLaw.{IsEnd, put_value}
 
 -- a number is known by what it is to be
@@ -134,22 +132,22 @@ shifted_known start x n t small d =
     let first : pos n ≡ pos 0 +ℤ pos n = omega (arith, ints) in
     same_differs start (plus t (constant n)) x n small (same_trans (same_equal first) (same_trans sum (same_trans (same_equal again) (same_plus (same_refl (pos x)) (same_sym by)))))
 
-of_operand_is : (start : ℕ) (f g : FlatState) (src : Operand) (fact b : Fact) → Holds start f g.registers fact → of_operand src fact ≡ Some b → KnownAs start f b (flat_operand g src)
-of_operand_is start f g (Imm imm) fact b h e = by_test (is_none fact.of) refl e
+of_number_is : (start : ℕ) (f : FlatState) (registers : List ℕ) (n : ℕ) (fact b : Fact) → n < addresses → Holds start f registers fact → of_number n fact ≡ Some b → KnownAs start f b n
+of_number_is start f registers n fact b small h e = by_test (is_none fact.of) refl e
   where
-    more : Term → Fact
-    more t = record { of = None; base = fact.base; by = Some (plus t (constant (extended imm))) }
+    by_by : (o : Option Term) → fact.by ≡ o → is_none fact.of ≡ true → option_map (λ t. record { of = None; base = fact.base; by = Some (plus t (constant n)) }) o ≡ Some b → KnownAs start f b n
+    by_by None eo ec m = absurd (none-some _ m)
+    by_by (Some t) eo ec m =
+        let d : DiffersBy start (Some t) (value_in f.registers fact.base) (value_in registers fact.of) = subst (λ by. DiffersBy start by (value_in f.registers fact.base) (value_in registers fact.of)) eo h in
+        subst (λ b. KnownAs start f b n) (same_Some _ b m)
+        (shifted_known start (value_in f.registers fact.base) n t small (subst (λ y. Differs start t (value_in f.registers fact.base) y) (none_value registers fact.of ec) d))
 
-    by_by : (o : Option Term) → fact.by ≡ o → is_none fact.of ≡ true → option_map more o ≡ Some b → KnownAs start f b (extended imm)
-    by_by None eo ec n = absurd (none-some _ n)
-    by_by (Some t) eo ec n =
-        let d : DiffersBy start (Some t) (value_in f.registers fact.base) (value_in g.registers fact.of) = subst (λ by. DiffersBy start by (value_in f.registers fact.base) (value_in g.registers fact.of)) eo h in
-        subst (λ b. KnownAs start f b (extended imm)) (same_Some (more t) b n)
-        (shifted_known start (value_in f.registers fact.base) (extended imm) t (modulo_below imm) (subst (λ y. Differs start t (value_in f.registers fact.base) y) (none_value g.registers fact.of ec) d))
+    by_test : (c : Bool) → is_none fact.of ≡ c → cond c (option_map (λ t. record { of = None; base = fact.base; by = Some (plus t (constant n)) }) fact.by) None ≡ Some b → KnownAs start f b n
+    by_test false ec m = absurd (none-some _ m)
+    by_test true ec m = by_by fact.by refl ec m
 
-    by_test : (c : Bool) → is_none fact.of ≡ c → cond c (option_map more fact.by) None ≡ Some b → KnownAs start f b (extended imm)
-    by_test false ec n = absurd (none-some _ n)
-    by_test true ec n = by_by fact.by refl ec n
+of_operand_is : (start : ℕ) (f g : FlatState) (src : Operand) (fact b : Fact) → Holds start f g.registers fact → of_operand src fact ≡ Some b → KnownAs start f b (flat_operand g src)
+of_operand_is start f g (Imm imm) fact b h e = of_number_is start f g.registers (extended imm) fact b (modulo_below imm) h e
 of_operand_is start f g (FromReg r) fact b h e = by_test (is_register r fact.of) refl e
   where
     by_test : (c : Bool) → is_register r fact.of ≡ c → cond c (Some fact) None ≡ Some b → KnownAs start f b (flat_register g r)
@@ -189,7 +187,14 @@ module _ (order : Order) (start : ℕ) (facts : Facts) (f g : FlatState) (high :
       by_one : (fact : Fact) → Holds start f g.registers fact → (o : Option Fact) → of_operand src fact ≡ o → option_map_or (made_by facts op dst want) o false ≡ true → KnownAs start f want (put_value order (Alu op W64 dst src) g)
       by_one fact hf None eo h = absurd (false≢true h)
       by_one fact hf (Some b) eo h = by_fact op dst src want b (of_operand_is start f g src fact b hf eo) h
-  made_known (LoadImm64 dst value) want enc e = moved_known start f (known_number None (constant value)) want value high (constant_known start value enc) e
+  made_known (LoadImm64 dst value) want enc e = elim (or_cases (is_moved (known_number None (constant value)) want) (list_any (λ fact. option_map_or (λ b. is_moved b want) (of_number value fact) false) facts) e) [
+    | inl by_itself ↦ moved_known start f (known_number None (constant value)) want value high (constant_known start value enc) by_itself
+    | inr by_other ↦ (let h = any_holds (λ fact. option_map_or (λ b. is_moved b want) (of_number value fact) false) (Holds start f g.registers) facts by_other all in by_zero h.0 h.2 (of_number value h.0) refl h.1)
+  ]
+    where
+      by_zero : (fact : Fact) → Holds start f g.registers fact → (o : Option Fact) → of_number value fact ≡ o → option_map_or (λ b. is_moved b want) o false ≡ true → KnownAs start f want value
+      by_zero fact hf None eo h = absurd (false≢true h)
+      by_zero fact hf (Some b) eo h = moved_known start f b want value high (of_number_is start f g.registers value fact b enc hf eo) h
   made_known m want enc e = absurd (false≢true e)
 
 -- ---- what holds behind a change

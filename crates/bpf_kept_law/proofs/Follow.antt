@@ -1,6 +1,6 @@
 -- Each instruction of the old program is followed by one of the new one's, to the end.
 use Rattle.std.proofs.Common.{◌≡◌, ℕ, zero, suc, ◌+◌, ◌*◌, ◌^◌, ◌<◌, ◌≤◌, ◌⊎◌, inl, inr, refl, sym, ap, ◌∙◌, subst, arith, Bool, true, false, length, Option, Some, None, cond}
-use Rattle.std.specs.Prelude.{ℤ, pos, ◌↔◌, IsTrue, ◌&&◌, ◌||◌, option_and_then, option_map}
+use Rattle.std.specs.Prelude.{ℤ, ◌↔◌, IsTrue, ◌&&◌, ◌||◌, option_and_then, option_map}
 use Rattle.std.specs.Option.{option_map_or}
 use Rattle.std.proofs.lemmas.Bool.{and_parts, or_cases, cases_order, false≢true}
 use Rattle.std.proofs.lemmas.Option.{none-some, same_Some, option_and_then_some}
@@ -17,7 +17,6 @@ use Rattle.bpf_insn.specs.declared.instruction.Width.TheVariants.{W64}
 use Rattle.bpf_insn.specs.declared.instruction.Cond.{Cond}
 use Rattle.bpf_insn.specs.declared.instruction.Insn.{Insn}
 use Rattle.bpf_insn.specs.declared.instruction.Insn.TheVariants.{Store, StoreImm, Ja, JaLong, JumpIf, Exit}
-use Rattle.bpf_semantics.specs.State.{State}
 use Rattle.bpf_semantics.specs.Step.{Finish}
 use Rattle.bpf_semantics.specs.Flat.{FlatState, flat_register, flat_operand, flat_at, flat_next, flat_does}
 use Rattle.bpf_semantics.proofs.FlatInsn.{number_stands}
@@ -27,10 +26,10 @@ use Rattle.bpf_kept_law.specs.Zero.{zero_start, zero_does, zero_step, zero_after
 use Rattle.bpf_kept_law.specs.Meaning.{EndsAt, most_for_one}
 use Rattle.bpf_kept_law.specs.declared.notes.Term.{Term}
 use Rattle.bpf_kept_law.specs.declared.notes.Change.{Change}
-use Rattle.bpf_kept_law.specs.declared.notes.Change.TheVariants.{Kept, Put}
+use Rattle.bpf_kept_law.specs.declared.notes.Change.TheVariants.{Kept}
 use Rattle.bpf_kept_law.specs.Terms.{Facts, AllHold}
 use Rattle.bpf_kept_law.specs.Rules.{same_register, is_same, put_into, turned_test, are_offsets, are, by_order, undirected, is_jump, is_kept, keeps, put_by, put, puts, paired, stores_alike}
-use Rattle.bpf_kept_law.specs.Matching.{most_extras, arrives, led, falls, leads_to, leads, goes, stands, IsBody, IsEither, StandsForExit}
+use Rattle.bpf_kept_law.specs.Matching.{most_extras, most_at_start, arrives, led, falls, leads_to, leads, goes, stands, IsBody, IsEither, StandsForExit}
 use Rattle.bpf_kept_law.proofs.HoldsLaw.{same_value, still_holds}
 use Rattle.bpf_kept_law.proofs.PutLaw.{put_value, put_does, AtOnce, IsEnd, end_left, register_is, put_both}
 use Rattle.bpf_kept_law.proofs.ExtraLaw.{put_hold}
@@ -60,7 +59,7 @@ module _ (given : Setting) where
     here : insn_at is ready.fn.slot ≡ Some i
     there : insn_at js ready.state.top.slot ≡ Some moved
 
-  few_at : (j : ℕ) (i moved : Insn) (at : At j i moved) → at.ready.n ≤ most_extras + most_for_one * j
+  few_at : (j : ℕ) (i moved : Insn) (at : At j i moved) → at.ready.n ≤ most_at_start + most_for_one * j
   few_at j i moved at = let few = at.ready.few in let body = at.body in omega arith
 
   -- both put a number into a register

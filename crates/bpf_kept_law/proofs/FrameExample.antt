@@ -1,26 +1,22 @@
 -- The same of a program that stores into its frame at an index that it has read.
-use Rattle.std.proofs.Common.{◌≡◌, ℕ, zero, suc, ◌+◌, ◌<◌, refl, sym, ap, ◌∙◌, subst, arith, Bool, true, false, List, [], ◌∷◌, Option, Some, None}
-use Rattle.std.specs.Prelude.{pos, negsuc, IsTrue, ◌↔◌}
+use Rattle.std.proofs.Common.{ℕ, zero, suc, refl, sym, ap, subst, arith, true, false, [], ◌∷◌, Some}
+use Rattle.std.specs.Prelude.{pos, negsuc}
 use Rattle.std.proofs.lemmas.Bool.{false≢true}
 use Rattle.std.proofs.lemmas.Option.{none-some, same_Some}
-use Rattle.bpf_insn.specs.Instruction.{Instructions, insn_at}
+use Rattle.bpf_insn.specs.Instruction.{Instructions}
 use Rattle.bpf_insn.specs.declared.order.Order.TheVariants.{Little}
-use Rattle.bpf_insn.specs.declared.instruction.Reg.{Reg}
 use Rattle.bpf_insn.specs.declared.instruction.Reg.TheVariants.{R0, R1, R3, R4, R5, R10}
 use Rattle.bpf_insn.specs.declared.instruction.Operand.TheVariants.{Imm, Reg as FromReg}
 use Rattle.bpf_insn.specs.declared.instruction.Width.TheVariants.{W64}
 use Rattle.bpf_insn.specs.declared.instruction.Size.TheVariants.{B}
 use Rattle.bpf_insn.specs.declared.instruction.AluOp.TheVariants.{Add, Mov}
 use Rattle.bpf_insn.specs.declared.instruction.Cond.TheVariants.{Gt}
-use Rattle.bpf_insn.specs.declared.instruction.Insn.{Insn}
 use Rattle.bpf_insn.specs.declared.instruction.Insn.TheVariants.{Alu, Load, StoreImm, JumpIf, Exit}
-use Rattle.bpf_kept_law.specs.Far.{middle}
-use Rattle.bpf_kept_law.specs.declared.notes.Fact.{Fact}
 use Rattle.bpf_kept_law.specs.declared.notes.Note.{Note}
-use Rattle.bpf_kept_law.specs.Rules.{own, reads_same, result_term, same_address, keeps, paired, made, holds_behind, undirected}
+use Rattle.bpf_kept_law.specs.Rules.{own, reads_same, result_term, same_address, keeps, paired, made, holds_behind}
 use Rattle.bpf_kept_law.specs.Guards.{accesses_ahead, is_ahead, passes}
-use Rattle.bpf_kept_law.specs.Matching.{Notes, note_at, arrives, stands, extra, adds, IsBody, IsExtra, IsEither, HoldsAt, Matches}
-use Rattle.bpf_kept_law.proofs.Example.{fact, compares_signed, goes_by_r5, puts_constant, goes_by_r9}
+use Rattle.bpf_kept_law.specs.Matching.{Notes, arrives, stands, extra, adds, IsBody, IsExtra, IsEither, HoldsAt, Matches}
+use Rattle.bpf_kept_law.proofs.Example.{fact, goes_by_r5, puts_constant}
 
 -- The array has the 16 bytes below r10. A byte of the context is the index.
 abbrev pub old : Instructions

@@ -1,6 +1,6 @@
 -- What facts say of registers, which facts give which, and what is left of them behind an instruction.
-use Rattle.std.proofs.Common.{◌≡◌, ℕ, suc, ◌+◌, ◌*◌, ◌/◌, ◌%◌, ◌^◌, ◌<◌, ◌==◌, inl, inr, refl, sym, ap, ap₂, ◌∙◌, subst, arith, Bool, true, false, List, [], ◌∷◌, length, Option, Some, None, cond}
-use Rattle.std.specs.Prelude.{ℤ, pos, ◌+ℤ◌, ◌-ℤ◌, ◌&&◌, ◌||◌, not, is_none, get_or, set, if◌then◌else◌}
+use Rattle.std.proofs.Common.{◌≡◌, ℕ, ◌*◌, ◌/◌, ◌%◌, ◌^◌, ◌<◌, ◌==◌, inl, inr, refl, sym, ap, ◌∙◌, subst, arith, Bool, true, false, List, [], ◌∷◌, length, Option, Some, None, cond}
+use Rattle.std.specs.Prelude.{ℤ, pos, ◌+ℤ◌, ◌-ℤ◌, ◌&&◌, not, is_none, get_or, set}
 use Rattle.std.specs.List.{AllByRecursion, find, list_all, list_any}
 use Rattle.std.specs.Option.{is_some, option_map_or}
 use Rattle.std.proofs.lemmas.Bool.{and_parts, or_cases, eqb-true, eqb-false, false≢true}
@@ -10,12 +10,12 @@ use Rattle.std.proofs.lemmas.Option.{none-some, same_Some, option_and_then_some}
 use Rattle.bpf_insn.specs.Instruction.{register_number}
 use Rattle.bpf_insn.specs.declared.instruction.Reg.{Reg}
 use Rattle.bpf_insn.proofs.RegisterLemmas.{reg_below}
-use Rattle.bpf_semantics.specs.Flat.{FlatState, IsFlat, addresses, flat_register, flat_put}
+use Rattle.bpf_semantics.specs.Flat.{FlatState, IsFlat, flat_register, flat_put}
 use Rattle.bpf_semantics.proofs.FlatArith.{Same}
 use Rattle.bpf_kept_law.specs.declared.notes.Term.{Term}
 use Rattle.bpf_kept_law.specs.declared.notes.Fact.{Fact}
-use Rattle.bpf_kept_law.specs.Terms.{Facts, Differs, AreLow, DiffersBy, Holds, AllHold, value_in, shift, constant, zero_term}
-use Rattle.bpf_kept_law.specs.Rules.{is_register, is_base, same_term, is_high, is_enough, gives, is_own, own, is_zero, is_same, is_low_fact, is_low, stays, known_number}
+use Rattle.bpf_kept_law.specs.Terms.{Facts, Differs, AreLow, DiffersBy, Holds, AllHold, value_in, shift}
+use Rattle.bpf_kept_law.specs.Rules.{is_register, is_base, is_high, is_enough, gives, is_own, own, is_zero, is_same, is_low_fact, is_low, stays}
 use Rattle.bpf_kept_law.proofs.TermLaw.{differs_same, zero_differs}
 
 -- ---- lists

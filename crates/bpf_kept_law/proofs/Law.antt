@@ -1,6 +1,6 @@
 -- The law: the start, and then the simulation to the end.
-use Rattle.std.proofs.Common.{◌≡◌, ℕ, zero, suc, ◌*◌, ◌^◌, ◌<◌, inl, inr, refl, sym, ap, ◌∙◌, subst, arith, Bool, true, false, List, length, None}
-use Rattle.std.specs.Prelude.{ℤ, pos, ◌+ℤ◌, ◌-ℤ◌, ◌*ℤ◌, get_or}
+use Rattle.std.proofs.Common.{◌≡◌, ℕ, suc, ◌*◌, ◌^◌, ◌<◌, refl, sym, ap, ◌∙◌, subst, arith, false, List, length}
+use Rattle.std.specs.Prelude.{ℤ, pos, ◌+ℤ◌, get_or}
 use Rattle.std.proofs.lemmas.Int.{ints}
 use Rattle.bpf_insn.specs.Arithmetic.{modulo}
 use Rattle.bpf_insn.specs.Image.{IsProgram}
@@ -18,7 +18,7 @@ use Rattle.bpf_kept_law.specs.Zero.{zero_start, zero_after, IsZeroState}
 use Rattle.bpf_kept_law.specs.Meaning.{Bounds, FlatEnds, EndsAt, AreGiven, most_for_one, NeverStuck}
 use Rattle.bpf_kept_law.specs.declared.notes.Change.TheVariants.{Kept}
 use Rattle.bpf_kept_law.specs.Terms.{Differs, Holds, AllHold, shift, context_offset}
-use Rattle.bpf_kept_law.specs.Matching.{Notes, most_extras, by_itself, start_facts, Matches, StandsForExit}
+use Rattle.bpf_kept_law.specs.Matching.{Notes, most_at_start, by_itself, start_facts, Matches, StandsForExit}
 use Rattle.bpf_kept_law.specs.Laws.{MatchingKeepsFlatMeaning}
 use Rattle.bpf_kept_law.proofs.FarLaw.{far_is_placement}
 use Rattle.bpf_kept_law.proofs.ZeroLaw.{zero_start_fits}
@@ -124,7 +124,7 @@ module _ (given : Setting) where
         near_fits = near_fits.0;
         wide_fits = wide_fits.0;
       } in
-      (arrived given start_facts Kept 0 0 0 most_extras 0 (start context) fn fw fn fw matches.start refl refl (omega arith) o (λ wants e. new_kept given start_facts wants 0 (start context) fn fw fn fw at e)).0
+      (arrived given start_facts Kept 0 0 0 most_at_start 0 (start context) fn fw fn fw matches.start refl refl (omega arith) o (λ wants e. new_kept given start_facts wants 0 (start context) fn fw fn fw at e)).0
 
   pub ended : EndsAt (program order js) context v (StandsForExit (program order is) notes) (most_for_one * suc (suc k))
   ended = ends given k 0 (omega arith) begins

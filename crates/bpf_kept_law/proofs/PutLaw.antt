@@ -1,15 +1,14 @@
 -- Instructions that put a number into a register: what the new program puts where it does what the old one does, and where it does it alone.
 use Rattle.std.proofs.Common.{set, cond, Bool, ◌==◌, false, List, ◌≡◌, ℕ, zero, suc, ◌+◌, ◌%◌, ◌^◌, ◌-◌, ◌*◌, ◌/◌, ◌<◌, ◌≤◌, inl, inr, refl, sym, ap, ap₂, ◌∙◌, subst, arith, true, ◌∷◌, length, Option, Some, None}
-use Rattle.std.specs.Prelude.{◌↔◌, IsTrue, ◌||◌, option_map, ℤ, pos, negsuc, ◌+ℤ◌, ◌-ℤ◌, ◌*ℤ◌, neg_ℤ, ◌&&◌, not, is_none, get_or, bit_and, bit_or, bit_xor, if◌then◌else◌}
+use Rattle.std.specs.Prelude.{◌↔◌, IsTrue, option_map, ℤ, pos, negsuc, ◌+ℤ◌, ◌-ℤ◌, ◌&&◌, get_or, bit_and, bit_or, bit_xor, if◌then◌else◌}
 use Rattle.std.specs.Int.{cast_signed, w32, w64, bit_at, byte_at, bytes_low_first}
-use Rattle.std.specs.List.{AllByRecursion, list_all, list_any}
+use Rattle.std.specs.List.{AllByRecursion, list_all}
 use Rattle.std.specs.Option.{option_map_or, option_or}
 use Rattle.std.specs.Ordering.{int_eq}
-use Rattle.std.proofs.lemmas.Bool.{and_parts, or_cases, ltb-true, eqb-true, eqb-false, cond_both, false≢true}
+use Rattle.std.proofs.lemmas.Bool.{and_parts, or_cases, ltb-true, eqb-true, eqb-false, false≢true}
 use Rattle.std.proofs.lemmas.Bool.Decides.{Decides-int_eq}
 use Rattle.std.proofs.lemmas.Int.{ints}
 use Rattle.std.proofs.lemmas.List.{get_or-set_same, get_or-set_other}
-use Rattle.std.proofs.Math.IntN.{pos-*ℤ-pos, negsuc-*ℤ-pos}
 use Rattle.std.proofs.lemmas.Nat.{and_le_r, and_mod, or_mod, xor_mod, xor_lt}
 use Rattle.std.proofs.lemmas.Nat.Bits.{same_from_bits_below, bit_at_ones, bit_at_xor, bit_at_not, bit_at-lt}
 use Rattle.std.proofs.lemmas.Option.{none-some, same_Some, option_and_then_some}
@@ -42,7 +41,7 @@ use Rattle.bpf_insn.proofs.RegisterLemmas.{reg_below}
 use Rattle.bpf_semantics.specs.Step.{size_type}
 use Rattle.bpf_semantics.specs.Flat.{FlatState, IsFlat, addresses, address, bytes_from, flat_register, flat_operand, flat_put, flat_next, flat_number, flat_does}
 use Rattle.bpf_semantics.specs.FlatLaws.{in_registers}
-use Rattle.bpf_semantics.proofs.FlatArith.{Same, modulo_same, same_refl, same_sym, same_trans, same_plus, same_minus, same_equal, modulo-same, modulo_of_small}
+use Rattle.bpf_semantics.proofs.FlatArith.{Same, modulo_same, same_refl, same_sym, same_trans, same_plus, same_equal, modulo-same}
 use Rattle.bpf_semantics.proofs.FlatRegistersLaw.{flat_reads_registers}
 use Rattle.bpf_semantics.proofs.NumberLemmas.{modulo_below}
 use Rattle.bpf_semantics.proofs.StateLemmas.{cond_option, option_map_some}

@@ -1,12 +1,12 @@
 -- The simulation: by induction on the old program's two runs, each step of which the new program follows by extra instructions and one of its own.
-use Rattle.std.proofs.Common.{◌≡◌, ℕ, zero, suc, ◌+◌, ◌*◌, ◌%◌, ◌^◌, ◌<◌, ◌≤◌, inl, inr, refl, sym, ap, ap₂, ◌∙◌, subst, arith, Bool, true, false, List, [], ◌∷◌, length, Option, Some, None, cond}
-use Rattle.std.specs.Prelude.{get_or, ℤ, pos, ltb, option_and_then, option_map}
-use Rattle.std.proofs.lemmas.Bool.{and_parts, cond-true, cond-false, le-ltb, false≢true}
+use Rattle.std.proofs.Common.{◌≡◌, ℕ, zero, suc, ◌+◌, ◌*◌, ◌^◌, ◌<◌, ◌≤◌, refl, sym, ap, ap₂, ◌∙◌, subst, arith, Bool, true, false, List, [], ◌∷◌, length, Option, Some, None, cond}
+use Rattle.std.specs.Prelude.{ℤ, pos, ltb, option_and_then, option_map}
+use Rattle.std.proofs.lemmas.Bool.{cond-true, cond-false, le-ltb, false≢true}
 use Rattle.std.proofs.lemmas.Option.{none-some, option_and_then_some}
 use Rattle.std.specs.List.{list_any}
 use Rattle.bpf_insn.specs.Arithmetic.{extended, jumps}
 use Rattle.bpf_insn.specs.Image.{IsProgram}
-use Rattle.bpf_insn.specs.Instruction.{Instructions, register_number, insn_at, target}
+use Rattle.bpf_insn.specs.Instruction.{Instructions, insn_at, target}
 use Rattle.bpf_insn.specs.Laws.{AreBytes}
 use Rattle.bpf_insn.specs.declared.order.Order.{Order}
 use Rattle.bpf_insn.specs.declared.instruction.Reg.{Reg}
@@ -37,7 +37,7 @@ use Rattle.bpf_kept_law.specs.Terms.{Facts}
 use Rattle.bpf_kept_law.specs.Rules.{put_into, undirected, is_jump}
 use Rattle.bpf_kept_law.specs.Guards.{Front, guarded, passes}
 use Rattle.bpf_kept_law.specs.Meaning.{most_for_one}
-use Rattle.bpf_kept_law.specs.Matching.{most_extras, led}
+use Rattle.bpf_kept_law.specs.Matching.{most_extras, most_at_start, led}
 use Rattle.bpf_kept_law.proofs.PutLaw.{put_value}
 
 -- ---- instructions that neither call nor exit
@@ -203,10 +203,10 @@ none_first true o y e = absurd (none-some _ e)
 none_first false o y e = (refl, e)
 
 -- how many instructions the new program has done
-pub more : (j n : ℕ) → n ≤ most_extras + most_for_one * j → suc n + most_extras ≤ most_extras + most_for_one * suc j
+pub more : (j n : ℕ) → n ≤ most_at_start + most_for_one * j → suc n + most_extras ≤ most_at_start + most_for_one * suc j
 more j n le = omega arith
 
-pub in_time : (j k n : ℕ) → n ≤ most_extras + most_for_one * j → j ≡ k → suc n ≤ most_for_one * suc (suc k)
+pub in_time : (j k n : ℕ) → n ≤ most_at_start + most_for_one * j → j ≡ k → suc n ≤ most_for_one * suc (suc k)
 in_time j k n le e = omega arith
 
 abbrev pub put_next : Order → Insn → Reg → FlatState → FlatState

@@ -1,6 +1,6 @@
 -- What has to hold of the notes at each slot of the new program, where the old one is one function, and the new one keeps in its frame what the old
 -- one keeps there. Nothing here speaks of runs.
-use Rattle.std.specs.Prelude.{◌≡◌, ◌↔◌, ℕ, zero, suc, ◌+◌, ◌==◌, ◌&&◌, ◌^◌, ◌<◌, ◌≤◌, nat_le, Bool, IsTrue, true, false, List, [], ◌∷◌, get_or, length as count, Option, Some, None, option_map, if◌then◌else◌}
+use Rattle.std.specs.Prelude.{◌≡◌, ◌↔◌, ℕ, zero, suc, ◌+◌, ◌==◌, ◌&&◌, ◌^◌, ◌<◌, ◌≤◌, nat_le, Bool, IsTrue, true, false, List, [], ◌∷◌, get_or, length as count, Option, Some, None, if◌then◌else◌}
 use Rattle.std.specs.List.{list_all}
 use Rattle.std.specs.Option.{option_map_or}
 use Rattle.bpf_insn.specs.Options.{◌>>=◌}
@@ -10,7 +10,6 @@ use Rattle.bpf_insn.specs.declared.instruction.Reg.{Reg}
 use Rattle.bpf_insn.specs.declared.instruction.Reg.TheVariants.{R0, R1, R2, R3, R4, R5, R6, R7, R8, R9, R10}
 use Rattle.bpf_insn.specs.declared.instruction.Insn.{Insn}
 use Rattle.bpf_insn.specs.declared.instruction.Insn.TheVariants.{Exit}
-use Rattle.bpf_kept_law.specs.declared.notes.Term.{Term}
 use Rattle.bpf_kept_law.specs.declared.notes.Fact.{Fact}
 use Rattle.bpf_kept_law.specs.declared.notes.Note.{Note}
 use Rattle.bpf_kept_law.specs.declared.notes.Change.{Change}
@@ -31,6 +30,10 @@ note_at notes slot = get_or notes slot None
 -- the greatest number of extra instructions in front of one
 abbrev pub most_extras : ℕ
 most_extras = 128
+
+-- at the start as many once more
+abbrev pub most_at_start : ℕ
+most_at_start = 256
 
 -- ---- edges
 
@@ -118,7 +121,7 @@ pub record Matches (old new : Instructions) (notes : Notes) (length : ℕ) : Typ
   pub short : length < 2 ^ 32
   pub order_is : new.order ≡ old.order
   pub few : count notes ≤ slots new.list
-  pub start : arrives notes start_facts Kept 0 most_extras 0 ≡ true
+  pub start : arrives notes start_facts Kept 0 most_at_start 0 ≡ true
   pub each : (slot : ℕ) → HoldsAt old new notes length slot
 
 -- ---- which exits of the new program are named

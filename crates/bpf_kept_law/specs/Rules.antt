@@ -1,5 +1,5 @@
 -- What instructions make of facts. Nothing here speaks of runs.
-use Rattle.std.specs.Prelude.{◌+◌, zero, ◌==◌, ◌%◌, ◌^◌, nat_lt, ℤ, pos, negsuc, Bool, true, false, not, ◌&&◌, ◌||◌, List, [], ◌∷◌, Option, Some, None, is_none, option_map, if◌then◌else◌}
+use Rattle.std.specs.Prelude.{ℕ, ◌+◌, zero, ◌==◌, ◌%◌, ◌^◌, nat_lt, ℤ, pos, negsuc, Bool, true, false, not, ◌&&◌, ◌||◌, Option, Some, None, is_none, option_map, if◌then◌else◌}
 use Rattle.std.specs.List.{find, list_all, list_any}
 use Rattle.std.specs.Option.{is_some, option_map_or, option_or}
 use Rattle.std.specs.Ordering.{int_eq}
@@ -13,7 +13,6 @@ use Rattle.bpf_insn.specs.declared.instruction.Reg.TheVariants.{R0}
 use Rattle.bpf_insn.specs.declared.instruction.Size.{Size}
 use Rattle.bpf_insn.specs.declared.instruction.Operand.{Operand}
 use Rattle.bpf_insn.specs.declared.instruction.Operand.TheVariants.{Imm, Reg as FromReg}
-use Rattle.bpf_insn.specs.declared.instruction.Width.{Width}
 use Rattle.bpf_insn.specs.declared.instruction.Width.TheVariants.{W32, W64}
 use Rattle.bpf_insn.specs.declared.instruction.AluOp.{AluOp}
 use Rattle.bpf_insn.specs.declared.instruction.AluOp.TheVariants.{Add, Sub, Mul, Or, And, Lsh, Xor, Mov}
@@ -307,8 +306,11 @@ known_operand (Imm imm) = Some (known_number None (constant (extended imm)))
 known_operand (FromReg r) = if is_frame_pointer r then Some (known_number (Some r) frame_end) else None
 
 -- what is known of the operand: of a register, or of 0 and so of each constant
+abbrev pub of_number : ℕ → Fact → Option Fact
+of_number n fact = if is_none fact.of then option_map (λ t. record { of = None; base = fact.base; by = Some (plus t (constant n)) }) fact.by else None
+
 abbrev pub of_operand : Operand → Fact → Option Fact
-of_operand (Imm imm) fact = if is_none fact.of then option_map (λ t. record { of = None; base = fact.base; by = Some (plus t (constant (extended imm))) }) fact.by else None
+of_operand (Imm imm) fact = of_number (extended imm) fact
 of_operand (FromReg r) fact = if is_register r fact.of then Some fact else None
 
 abbrev pub by_operand : Facts → AluOp → Reg → Operand → Fact → Fact → Bool
@@ -316,7 +318,7 @@ by_operand facts op dst src want fact = option_map_or (made_by facts op dst want
 
 unfoldable pub made : Facts → Insn → Fact → Bool
 made facts (Alu op W64 dst src) want = option_map_or (made_by facts op dst want) (known_operand src) false || list_any (by_operand facts op dst src want) facts
-made facts (LoadImm64 dst value) want = is_moved (known_number None (constant value)) want
+made facts (LoadImm64 dst value) want = is_moved (known_number None (constant value)) want || list_any (λ fact. option_map_or (λ b. is_moved b want) (of_number value fact) false) facts
 made facts i want = false
 
 -- ---- what holds behind a change
