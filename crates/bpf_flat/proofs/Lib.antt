@@ -7,3 +7,4 @@ pub mod FlowLemmas
 pub mod PlaceLemmas
 pub mod StepLemmas
 pub mod RunLemmas
+pub mod OpcodeLemmas
