@@ -1,3 +1,4 @@
 pub mod EndLemmas
 pub mod VerdictLemmas
 pub mod LoadedLemmas
+pub mod RegisterLemmas
