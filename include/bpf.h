@@ -19,8 +19,8 @@
 extern "C" {
 #endif
 
-/* The version of this header, 0.3.0, as one number: 10,000 times its first part, 100 times its second, and its third, together. */
-#define BPF_HOST_VERSION 300
+/* The version of this header, 0.3.1, as one number: 10,000 times its first part, 100 times its second, and its third, together. */
+#define BPF_HOST_VERSION 301
 
 /* The greatest image that there is, in bytes. */
 enum { BPF_IMAGE_MOST = 524288 };
@@ -106,6 +106,14 @@ struct bpf_certified {
     uint32_t is_shown;      /* 1: it keeps the meaning of the old one, on those runs; 0: nobody showed it */
 };
 
+/* For which contexts and runs it is asked whether a new image keeps the meaning of an old one, as by the options of `bpf follows`. */
+struct bpf_following {
+    uint32_t size;      /* how many bytes a context has, at most 4,096 */
+    uint32_t padded;    /* 1: a context is a block, of which the old program is given the packet; else 0 */
+    uint32_t turns;     /* for runs that come to no instruction more often; 0: 65,536 times, in bpf_follows */
+    uint32_t untouched; /* and that leave so many of the lowest bytes of each frame, at most 512, to r10 */
+};
+
 /* The form of the contexts that a filter of classic BPF is converted for. */
 enum bpf_form {
     BPF_BLOCKS = 0, /* a packet's length in eight bytes, in the image's order, the packet, as much of it as fits, and anything */
@@ -144,9 +152,10 @@ int32_t bpf_host_run_loaded(const uint8_t *memory, size_t memory_len, const uint
                             uint64_t *value);
 int32_t bpf_host_run(const uint8_t *image, size_t image_len, uint32_t order, const uint8_t *context, size_t context_len,
                      uint64_t fuel, struct bpf_outcome *outcome);
+int32_t bpf_host_run_prepared(const uint8_t *memory, size_t memory_len, const uint8_t *context, size_t context_len,
+                              uint64_t fuel, struct bpf_outcome *outcome);
 int32_t bpf_host_follows(const uint8_t *old_image, size_t old_len, const uint8_t *new_image, size_t new_len, uint32_t order,
-                         const uint8_t *notes, size_t notes_len, uint32_t size, uint32_t turns, uint32_t padded, uint32_t untouched,
-                         struct bpf_refusal *refusal);
+                         const uint8_t *notes, size_t notes_len, const struct bpf_following *asked, struct bpf_refusal *refusal);
 size_t bpf_host_convert_size(size_t count);
 int32_t bpf_host_convert(const uint8_t *filter, size_t filter_len, uint32_t filter_order, uint32_t form, uint32_t size, uint32_t order,
                          uint8_t *made, size_t made_len, uint8_t *text, size_t text_len, struct bpf_converted *converted,
@@ -253,7 +262,7 @@ static inline size_t bpf_prepared_size(size_t image_len) {
     return bpf_host_prepared_size(image_len);
 }
 
-/* Prepares the program of an image for bpf_run_checked, in words of the caller; what they hold is the library's, and another version
+/* Prepares the program of an image for bpf_run_checked and bpf_run_prepared, in words of the caller; what they hold is the library's, and another version
  * doesn't run it. It may be copied and moved. BPF_YES. BPF_NO: the image is refused (bpf_verify says why).
  * BPF_TOO_SMALL: there are fewer words than bpf_prepared_size(image_len), whatever the image holds. Before both, BPF_BAD_CALL: an
  * order that isn't one; BPF_BAD_MEMORY: no bytes, no words, or words that lie in the image. Only BPF_YES changes the words. Nothing is
@@ -348,6 +357,26 @@ static inline int32_t bpf_run(const void *image, size_t image_len, uint32_t orde
     if (!bpf_is_apart(outcome, sizeof *outcome, image, image_len, context, context_len)) return BPF_BAD_MEMORY;
     answer = bpf_host_run(bpf_bytes(image), image_len, order, bpf_bytes(context), context_len, fuel, &end);
     if ((answer == BPF_YES || answer == BPF_NO) && outcome) *outcome = end;
+    return answer;
+}
+
+/* Runs a prepared program that nobody verified, as bpf_run runs its image, which isn't judged again at each call. BPF_YES: it ran, and
+ * *outcome says how that ended. BPF_BAD_MEMORY: no words, no bytes, or an outcome that lies in them. BPF_BAD_LENGTH: a context of more than
+ * 4,096 bytes. BPF_BAD_WORDS: another version prepared the words, or there are fewer than the image takes. *outcome stays then. Nothing is
+ * allocated.
+ *
+ * The caller's duty, which nobody looks at here: bpf_prepare said BPF_YES to these words, and they are as it left them. Where that
+ * isn't so, nothing is promised of what comes. */
+static inline int32_t bpf_run_prepared(const uint64_t *words, size_t words_len, const void *context, size_t context_len,
+                                       uint64_t fuel, struct bpf_outcome *outcome) {
+    struct bpf_outcome end = {0, 0, 0, 0, 0};
+    int32_t answer;
+    if (!bpf_are_words(words, words_len) || !bpf_are_bytes(context, context_len)) return BPF_BAD_MEMORY;
+    if (!bpf_is_apart(outcome, sizeof *outcome, words, 8 * words_len, context, context_len)) return BPF_BAD_MEMORY;
+    if (context_len > 4096) return BPF_BAD_LENGTH;
+    if (words_len < BPF_PREPARED_HEAD) return BPF_BAD_WORDS;
+    answer = bpf_host_run_prepared((const uint8_t *)words, 8 * words_len, bpf_bytes(context), context_len, fuel, &end);
+    if (answer == BPF_YES && outcome) *outcome = end;
     return answer;
 }
 
@@ -475,14 +504,6 @@ static inline int32_t bpf_convert(const void *filter, size_t count, uint32_t for
     return answer;
 }
 
-/* For which contexts and runs it is asked whether a new image keeps the meaning of an old one, as by the options of `bpf follows`. */
-struct bpf_following {
-    uint32_t size;      /* how many bytes a context has, at most 4,096 */
-    uint32_t padded;    /* 1: a context is a block, of which the old program is given the packet; else 0 */
-    uint32_t turns;     /* for runs that come to no instruction more often; 0: 65,536 times */
-    uint32_t untouched; /* and that leave so many of the lowest bytes of each frame, at most 512, to r10 */
-};
-
 /* Whether the text of notes shows that a new image keeps the meaning of an old one. BPF_YES: on each such context on which the old one ends with
  * a number, by such a run, the new one ends with that number. BPF_NO: *refusal says why, by E (the old image where `condition` is 0, the new one
  * where it is 1), N or M. BPF_NO_MEMORY. BPF_BAD_CALL: an order or `padded` that isn't one, `size` above 4,096, or `untouched` above 512.
@@ -490,12 +511,14 @@ struct bpf_following {
 static inline int32_t bpf_follows(const void *old_image, size_t old_len, const void *new_image, size_t new_len, uint32_t order,
                                   const void *notes, size_t notes_len, const struct bpf_following *asked, struct bpf_refusal *refusal) {
     struct bpf_refusal why = {0, 0, 0, 0};
+    struct bpf_following runs;
     int32_t answer;
     if (!bpf_are_bytes(old_image, old_len) || !bpf_are_bytes(new_image, new_len) || !bpf_are_bytes(notes, notes_len)) return BPF_BAD_MEMORY;
     if (!asked || !bpf_is_apart(refusal, sizeof *refusal, old_image, old_len, new_image, new_len)) return BPF_BAD_MEMORY;
     if (!bpf_is_apart(refusal, sizeof *refusal, notes, notes_len, asked, sizeof *asked)) return BPF_BAD_MEMORY;
-    answer = bpf_host_follows(bpf_bytes(old_image), old_len, bpf_bytes(new_image), new_len, order, bpf_bytes(notes), notes_len, asked->size,
-                              asked->turns ? asked->turns : 65536, asked->padded, asked->untouched, &why);
+    runs = *asked;
+    if (!runs.turns) runs.turns = 65536;
+    answer = bpf_host_follows(bpf_bytes(old_image), old_len, bpf_bytes(new_image), new_len, order, bpf_bytes(notes), notes_len, &runs, &why);
     if (answer == BPF_NO && refusal) *refusal = why;
     return answer;
 }

@@ -14,13 +14,11 @@ pub struct Name(pub Place);
 
 impl fmt::Display for Name {
     fn fmt<W: fmt::Write>(&self, f: &mut fmt::Formatter<W>) -> fmt::Result {
-        match self.0 {
-            Place::Register(r) => {
-                let number = r as u8;
-                write!(f, "r{number}")
-            }
-            Place::Slot(k) => write!(f, "s{k}"),
-        }
+        let (letter, number) = match self.0 {
+            Place::Register(r) => ("r", r as u8),
+            Place::Slot(k) => ("s", k),
+        };
+        write!(f, "{letter}{number}")
     }
 }
 
@@ -49,29 +47,53 @@ fn says_more_bits(n: Num) -> bool {
 /// A constant, with its signed value behind it where that is negative.
 fn write_constant<W: fmt::Write>(f: &mut fmt::Formatter<W>, value: u64) -> fmt::Result {
     let signed = value.cast_signed();
-    if signed < 0 {
-        write!(f, "{value} ({signed})")
+    if signed >= 0 {
+        return fmt::Display::fmt(&value, f);
+    }
+    write!(f, "{value} ({signed})")
+}
+
+/// A part of what is known of a number: its letter, and two numbers with what stands between them.
+type NumPart = (&'static str, i128, &'static str, i128);
+
+/// The unsigned bounds, if they say something.
+fn unsigned_part(n: Num) -> Option<NumPart> {
+    let (lo, hi) = (n.unsigned().lo(), n.unsigned().hi());
+    if lo == 0 && hi == u64::MAX {
+        None
     } else {
-        write!(f, "{value}")
+        Some(("u", i128::from(lo), "..", i128::from(hi)))
+    }
+}
+
+/// The signed bounds, if they say more than the unsigned ones do.
+fn signed_part(n: Num) -> Option<NumPart> {
+    if says_more_signed(n) {
+        let (lo, hi) = (n.signed().lo(), n.signed().hi());
+        Some(("s", i128::from(lo), "..", i128::from(hi)))
+    } else {
+        None
+    }
+}
+
+/// The bits, if they say more than the bounds do.
+fn bits_part(n: Num) -> Option<NumPart> {
+    if says_more_bits(n) {
+        let (value, mask) = (n.bits().value(), n.bits().mask());
+        Some(("k", i128::from(value), "/", i128::from(mask)))
+    } else {
+        None
     }
 }
 
 /// The parts of a number with what stands between them.
 fn write_parts<W: fmt::Write>(f: &mut fmt::Formatter<W>, n: Num) -> fmt::Result {
     let mut comma = "";
-    let (lo, hi) = (n.unsigned().lo(), n.unsigned().hi());
-    if lo != 0 || hi != u64::MAX {
-        write!(f, "u{lo}..{hi}")?;
-        comma = ",";
-    }
-    if says_more_signed(n) {
-        let (lo, hi) = (n.signed().lo(), n.signed().hi());
-        write!(f, "{comma}s{lo}..{hi}")?;
-        comma = ",";
-    }
-    if says_more_bits(n) {
-        let (value, mask) = (n.bits().value(), n.bits().mask());
-        return write!(f, "{comma}k{value}/{mask}");
+    for part in [unsigned_part(n), signed_part(n), bits_part(n)] {
+        if let Some((letter, first, between, second)) = part {
+            write!(f, "{comma}{letter}{first}{between}{second}")?;
+            comma = ",";
+        }
     }
     f.write_str(if comma.is_empty() { "any number" } else { "" })
 }
@@ -114,7 +136,7 @@ pub struct Known(pub SlotState);
 impl fmt::Display for Known {
     fn fmt<W: fmt::Write>(&self, f: &mut fmt::Formatter<W>) -> fmt::Result {
         match self.0 {
-            SlotState::Bytes(0) => write!(f, "anything"),
+            SlotState::Bytes(0) => f.write_str("anything"),
             SlotState::Bytes(mask) => write!(f, "b{mask}"),
             SlotState::Word(number) => fmt::Display::fmt(&Number(number), f),
             SlotState::Spilled(Pointer { area, lo, hi }) => {
@@ -150,11 +172,8 @@ pub struct Offset(pub i64);
 impl fmt::Display for Offset {
     fn fmt<W: fmt::Write>(&self, f: &mut fmt::Formatter<W>) -> fmt::Result {
         let amount = self.0.unsigned_abs();
-        if self.0 < 0 {
-            write!(f, "- {amount}")
-        } else {
-            write!(f, "+ {amount}")
-        }
+        let sign = if self.0 < 0 { "-" } else { "+" };
+        write!(f, "{sign} {amount}")
     }
 }
 
@@ -173,7 +192,7 @@ fn behind_blank(line: &[u8]) -> &[u8] {
 impl fmt::Display for Written {
     fn fmt<W: fmt::Write>(&self, f: &mut fmt::Formatter<W>) -> fmt::Result {
         if let SlotState::Bytes(0) = self.0 {
-            return write!(f, "nothing");
+            return f.write_str("nothing");
         }
         // The name in front is cut off, so that any will do.
         let line = bpf_cert::entry_text(Place::Register(Reg::R0), self.0);

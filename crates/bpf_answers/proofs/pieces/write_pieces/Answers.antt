@@ -1,45 +1,12 @@
-use Rattle.std.proofs.Common.{◌≡◌, ◌<◌, ◌++◌, [], length, get_or, take, ap, sym, ◌∙◌, subst, arith}
-use Rattle.std.proofs.Math.Seq.{take-length}
-use Rattle.bpf_insn.specs.Written.{AppendsBeginning, Gathers}
-use Rattle.bpf_insn.proofs.WriteLemmas.{gathers_nothing, gathered_all, gathered_some, on_err, on_ok_map, on_err_map}
-use Rattle.bpf_text.proofs.WriteLemmas.{put_more, began_more}
-use Rattle.bpf_answers.specs.Pieces.{pieces_text, text_in}
-use Rattle.bpf_answers.proofs.PiecesLemmas.{piece_at}
+use Rattle.std.proofs.Common.{subst}
+use Rattle.bpf_insn.specs.Written.{Gathers}
+use Rattle.bpf_insn.proofs.WriteLemmas.{gathered_some, on_err_map}
+use Rattle.bpf_answers.specs.Pieces.{pieces_text}
 use Rattle.bpf_answers.proofs.pieces.write_pieces.Goals as goal
-
-pub pieces-init : goal.pieces-init
-pieces-init g c = subst (λ p. Gathers (g.W.Write.contents c.args.out.now) (g.W.Write.contents c.args.out.now) [] p []) (sym c.new-pending.ensures) (gathers_nothing _ [])
-
-pub returns-in_err-put-clause-err : goal.returns-in_err-put-clause-err
-returns-in_err-put-clause-err g c =
-    let xs = c.args.pieces.now in
-    let i = c.pieces.piece-index in
-    let inside : i < length xs = omega arith in
-    let at = piece_at xs i inside in
-    let here : c.as_bytes.result.now ≡ text_in (get_or xs i at.0) = c.as_bytes.ensures.value ∙ ap text_in (at.1 _) ∙ ap text_in (sym (at.1 at.0)) in
-    on_err c.from_residual.result (began_more _ _ _ [] c.pieces.pending text_in xs i at.0 inside c.pieces.invariant
-    (subst (λ t. AppendsBeginning (g.W.Write.contents c.pieces.out) (g.W.Write.contents c.put.new.out) (c.pieces.pending ++ t)) here c.in_err-put.ensures.err))
-
-pub pieces-preserved : goal.pieces-preserved
-pieces-preserved g c =
-    let xs = c.args.pieces.now in
-    let i = c.pieces.piece-index in
-    let inside : i < length xs = omega arith in
-    let at = piece_at xs i inside in
-    let here : c.as_bytes.result.now ≡ text_in (get_or xs i at.0) = c.as_bytes.ensures.value ∙ ap text_in (at.1 _) ∙ ap text_in (sym (at.1 at.0)) in
-    put_more _ _ _ [] c.pieces.pending c.put.new.self text_in xs i at.0 inside c.pieces.invariant
-    (subst (λ t. Gathers (g.W.Write.contents c.pieces.out) (g.W.Write.contents c.put.new.out) c.pieces.pending c.put.new.self t) here c.in_ok-put.ensures.ok)
-
-pub returns-clause-ok : goal.returns-clause-ok
-returns-clause-ok g c =
-    let xs = c.args.pieces.now in
-    let end : c.pieces.piece-index ≡ length xs = omega arith in
-    on_ok_map c.flush.result (gathered_all _ _ _ c.pieces.pending (pieces_text xs)
-    (subst (λ t. Gathers (g.W.Write.contents c.args.out.now) (g.W.Write.contents c.pieces.out) [] c.pieces.pending (pieces_text t)) (ap (λ n. take n xs) end ∙ take-length xs) c.pieces.invariant)) c.flush.ensures.ok
 
 pub returns-clause-err : goal.returns-clause-err
 returns-clause-err g c =
-    let xs = c.args.pieces.now in
-    let end : c.pieces.piece-index ≡ length xs = omega arith in
-    on_err_map c.flush.result (gathered_some _ _ _ c.pieces.pending (pieces_text xs)
-    (subst (λ t. Gathers (g.W.Write.contents c.args.out.now) (g.W.Write.contents c.pieces.out) [] c.pieces.pending (pieces_text t)) (ap (λ n. take n xs) end ∙ take-length xs) c.pieces.invariant)) c.flush.ensures.err
+    let before = g.W.Write.contents c.args.out.now in
+    let mid = g.W.Write.contents c.put_pieces.new.out in
+    on_err_map c.flush.result (gathered_some before mid (g.W.Write.contents c.flush.new.out) c.put_pieces.new.pending (pieces_text c.args.pieces.now)
+    (subst (λ p. Gathers before mid p c.put_pieces.new.pending (pieces_text c.args.pieces.now)) c.new-pending.ensures c.in_ok-put_pieces.ensures.ok)) c.flush.ensures.err
