@@ -11,6 +11,8 @@ use Rattle.bpf_safety.specs.Labels.{label_at, function_at, first_with}
 use Rattle.bpf_safety.specs.Flaw.{is_not, is_outside}
 use Rattle.bpf_check.specs.code.Search.{rises, last_up_to, with_key}
 use Rattle.bpf_check.specs.LabelIndex.{holds_labels, are_in_place}
+use Rattle.bpf_check.specs.code.Sites.{IsSpot}
+use Rattle.bpf_check.specs.declared.site.Spot.{Spot}
 use Rattle.bpf_check.proofs.SearchLemmas.{rises_tail, rises_head, first_is_last, first_with-append, first_with-append_some, first_with_passes}
 use Rattle.bpf_check.proofs.CertificateFacts.{functions_rise, functions_canonical, last_from_is, last_from_passes}
 
@@ -130,3 +132,15 @@ no_label_there c slot placed at = none_at_all c slot c.functions at placed
 -- a function that is found has its labels in their order
 pub labels_rise_there : (c : CertificateView) (slot : ℕ) (f : FunctionView) → IsCertificate c → function_at c slot ≡ Some f → rises (λ l. l.slot) f.labels ≡ true
 labels_rise_there c slot f valid e = (and_parts _ _ (last_from_passes is_canonical_function None slot c.functions f (functions_canonical c valid) (λ q. absurd (none-some f q)) e)).0
+
+-- ---- a spot behind another, below the next label
+
+pub spot_behind : (c : CertificateView) (here : Spot) (n : ℕ) → IsSpot c here → here.slot < n → n < here.until → IsSpot c (record here { slot = n; label = None })
+spot_behind c here n spot above inside =
+    let quiet = spot.quiet n above inside in
+    record {
+      function = spot.function ∙ sym quiet.1;
+      label = sym quiet.0;
+      limited = tt;
+      quiet = λ m later high. let h = spot.quiet m (omega (arith, above, later)) high in (h.0, h.1 ∙ sym quiet.1);
+    }

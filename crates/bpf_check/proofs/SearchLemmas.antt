@@ -9,7 +9,7 @@ use Rattle.std.proofs.Common.{add-zero}
 use Rattle.std.proofs.lemmas.Bool.{true≢false, leb-true, eq-eqb, and_parts, and_from, ltb-true, leb-false, le-leb, lt-leb, ne_eqb, cond-true, cond-false}
 use Rattle.bpf_cert.specs.Limits.{is_rising}
 use Rattle.bpf_safety.specs.Labels.{first_with}
-use Rattle.bpf_check.specs.code.Search.{rises, last_up_to, with_key}
+use Rattle.bpf_check.specs.code.Search.{rises, last_up_to, with_key, IsFoundIn}
 
 pub is_rising-map : {A B : Type 0} (before : B → B → Bool) (f : A → B) (xs : List A) → is_rising before (map f xs) ≡ is_rising (λ x y. before (f x) (f y)) xs
 is_rising-map before f [] = refl
@@ -112,6 +112,25 @@ back_rises key xs back m r b = ap (rises key) b ∙ rises-drop key m xs r
 
 pub front_rises : {A : Type 0} (key : A → ℕ) (xs front : List A) (m : ℕ) → rises key xs ≡ true → front ≡ take m xs → rises key front ≡ true
 front_rises key xs front m r f = ap (rises key) f ∙ rises-take key m xs r
+
+-- ---- a part in which the last is found
+
+pub found_in_all : {A : Type 0} (key : A → ℕ) (n until : ℕ) (xs : List A) → rises key xs ≡ true → IsFoundIn key n until xs xs
+found_in_all key n until xs r = record { rises = r; last = refl; later = λ m low high. refl }
+
+pub found_in_front : {A : Type 0} (key : A → ℕ) (n : ℕ) (xs front back : List A) (m : ℕ) (y : A) → rises key xs ≡ true → m < length xs → front ≡ take m xs → back ≡ drop m xs → y ≡ get_or back 0 y → n < key (get_or back 0 y) → IsFoundIn key n (key (get_or back 0 y)) xs front
+found_in_front key n xs front back m y r h f b e lt = record {
+  rises = front_rises key xs front m r f;
+  last = in_front key n xs front back m y h f b e lt;
+  later = λ k low high. in_front key k xs front back m y h f b e high;
+}
+
+pub found_from : {A : Type 0} (key : A → ℕ) (n until : ℕ) (xs back part : List A) (m : ℕ) (y : A) → rises key xs ≡ true → m < length xs → back ≡ drop m xs → y ≡ get_or back 0 y → key (get_or back 0 y) ≤ n → IsFoundIn key n until back part → IsFoundIn key n until xs part
+found_from key n until xs back part m y r h b e le found = record {
+  rises = found.rises;
+  last = in_back key n xs back m y r h b e le ∙ found.last;
+  later = λ k low high. in_back key k xs back m y r h b e (omega (arith, le, low)) ∙ found.later k low high;
+}
 
 -- ---- the element with a key, among what a view shows
 

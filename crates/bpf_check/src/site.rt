@@ -1,7 +1,7 @@
 //! An instruction in its place: what a certificate says of its slot and of those that it leads to, looked up once for all
 //! conditions that ask.
 
-ghost use Rattle.std.specs.Prelude.{◌≡◌, ◌≤◌, option_map, IfSome};
+ghost use Rattle.std.specs.Prelude.{◌≡◌, ◌≤◌, ◌<◌, option_map, IfSome};
 ghost use Rattle.bpf_insn.specs.Limits.{greatest_slot, max_slots};
 ghost use Rattle.bpf_cert.specs.View.{function_view};
 ghost use Rattle.bpf_safety.specs.Flow.{callee, jump_target};
@@ -21,6 +21,8 @@ pub struct Spot<'a> {
     pub label: Option<&'a Label>,
     /// No label stands and no function begins behind the slot and below this one.
     pub until: u32,
+    /// A guess at the place of the last label up to the slot among its function's labels. Only the time depends on it.
+    pub place: usize,
 }
 
 impl<'a> Spot<'a> {
@@ -29,13 +31,49 @@ impl<'a> Spot<'a> {
         ensures slot { result.slot ≡ slot }
         ensures value { IsSpot certificate.now result }
     {
+        Spot::near(certificate, slot, 0)
+    }
+
+    /// Looks up a slot, and its label at a place among its function's labels first.
+    fn near(certificate: &'a Index, slot: u32, place: usize) -> Spot<'a>
+        ensures slot { result.slot ≡ slot }
+        ensures value { IsSpot certificate.now result }
+    {
         let (function, within) = function_near(certificate, slot);
-        let (label, unlabelled) = label_given(certificate, function, slot);
+        let (label, unlabelled) = label_given(certificate, function, slot, place);
+        // The labels that a pass comes to are counted from the function's first slot on.
+        let place = match (function, label) {
+            (Some(function), _) if function.first == slot => 0,
+            (_, Some(_label)) => place.saturating_add(1),
+            (_, None) => place,
+        };
         Spot {
             slot,
             function,
             label,
             until: within.min(unlabelled),
+            place,
+        }
+    }
+
+    /// Looks up a slot behind this one.
+    #[tactic(auto, using(crate::proofs::PlaceLemmas::spot_behind))]
+    fn behind(certificate: &'a Index, here: &Spot<'a>, slot: u32) -> Spot<'a>
+        requires here { IsSpot certificate.now here.now }
+        requires behind { here.now.slot < slot }
+        ensures slot { result.slot ≡ slot }
+        ensures value { IsSpot certificate.now result }
+    {
+        if slot < here.until {
+            Spot {
+                slot,
+                function: here.function,
+                label: None,
+                until: here.until,
+                place: here.place,
+            }
+        } else {
+            Spot::near(certificate, slot, here.place)
         }
     }
 }
@@ -75,21 +113,21 @@ impl<'a> Site<'a> {
             certificate,
             insn,
             here,
-            next: Spot::of(certificate, here.slot + insn.slots()),
-            jump: jump_of(certificate, here.slot, &insn),
+            next: Spot::behind(certificate, &here, here.slot + insn.slots()),
+            jump: jump_of(certificate, &here, &insn),
             callee: callee_of(certificate, here.slot, &insn),
         }
     }
 }
 
 /// Where an instruction jumps, looked up.
-fn jump_of<'a>(certificate: &'a Index, slot: u32, insn: &Insn) -> Option<Spot<'a>>
-    requires { slot ≤ max_slots }
-    ensures slot { option_map (λ t. t.slot) result ≡ jump_target slot insn.now }
+fn jump_of<'a>(certificate: &'a Index, here: &Spot<'a>, insn: &Insn) -> Option<Spot<'a>>
+    requires { here.now.slot ≤ max_slots }
+    ensures slot { option_map (λ t. t.slot) result ≡ jump_target here.now.slot insn.now }
     ensures value { IfSome result (λ t. IsSpot certificate.now t) }
 {
-    match jump_target(slot, insn) {
-        Some(to) => Some(Spot::of(certificate, to)),
+    match jump_target(here.slot, insn) {
+        Some(to) => Some(Spot::near(certificate, to, here.place)),
         None => None,
     }
 }

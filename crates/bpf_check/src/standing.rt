@@ -30,7 +30,7 @@ fn label_in(function: &Function, slot: u32) -> Option<&Label>
     ensures value { option_map label_view (option_copied result) ≡ first_with (λ l. l.slot == slot) (function_view function.now).labels }
     ensures limited { IfSome result (λ l. IsTrue (is_limited_label (label_view l.now))) }
 {
-    label_among(&function.labels, slot).0
+    label_among(&function.labels, slot, 0).0
 }
 
 /// What is seen of a function's label at a slot, if it has one there.

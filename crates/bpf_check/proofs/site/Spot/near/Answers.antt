@@ -1,6 +1,6 @@
 use Rattle.std.proofs.Common.{arith}
 use Rattle.std.proofs.Math.Nat.{min-le_left, min-le_right}
-use Rattle.bpf_check.proofs.site.Spot.of.Goals as goal
+use Rattle.bpf_check.proofs.site.Spot.near.Goals as goal
 
 pub returns-clause-value : goal.returns-clause-value
 returns-clause-value c =
