@@ -1,0 +1,13 @@
+pub mod Numbers
+pub mod Lookups
+pub mod States
+pub mod LabelStates
+pub mod Steps
+pub mod Cells
+pub mod Visits
+pub mod Pays
+pub mod Arrivals
+pub mod Edges
+pub mod Tests
+pub mod Starts
+pub mod Plain
