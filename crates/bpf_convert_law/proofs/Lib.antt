@@ -11,3 +11,4 @@ pub mod Edges
 pub mod Tests
 pub mod Starts
 pub mod Plain
+pub mod Words
