@@ -12,3 +12,4 @@ pub mod Tests
 pub mod Starts
 pub mod Plain
 pub mod Words
+pub mod Contexts
