@@ -5,7 +5,7 @@ use Rattle.std.proofs.lemmas.Grind.{flat_map-append}
 use Rattle.std.proofs.lemmas.List.Elements.{All-append, All-cons, All-head, All-nil, All-tail}
 use Rattle.std.proofs.KnownBytes.{Appends-nil, Appends-trans}
 use Rattle.std.specs.Io.KnownBytes.{Appends, Consumes, IsAtEnd}
-use Rattle.bpf_lines.specs.Taken.{IsOneLine}
+use Rattle.bpf_streams.specs.Taken.{IsOneLine}
 use Rattle.bpf_answers.specs.Answer.{Answer, Says, Unfinished, status_of, text_of}
 use Rattle.bpf_answers.specs.Each.{LinesLeft}
 use Rattle.bpf_answers.proofs.MadeLemmas.{keeps}

@@ -1,7 +1,7 @@
 -- The answers to the contexts at a name, one a line.
 use Rattle.std.specs.Prelude.{◌≡◌, ◌⊎◌, ◌++◌, ℕ, List, [], ◌∷◌, Option, Some, None, IfSome}
 use Rattle.std.specs.Io.KnownBytes.{Appends, Keeps}
-use Rattle.bpf_places.specs.Opened.{Opening}
+use Rattle.bpf_answers.specs.Opened.{Opening}
 use Rattle.bpf_answers.specs.Answer.{Answer, Unfinished}
 use Rattle.bpf_answers.specs.Lines.{AllAnswered, BegunLines, RefusedLine, texts_of}
 use Rattle.bpf_answers.specs.Told.{OutputFails}

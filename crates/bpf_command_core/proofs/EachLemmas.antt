@@ -3,7 +3,7 @@ use Rattle.std.proofs.Common.{◌≡◌, ℕ, List, Option, subst, inr}
 use Rattle.bpf_insn.specs.Instruction.{Instructions}
 use Rattle.bpf_cert.specs.View.{CertificateView}
 use Rattle.bpf_check.specs.CheckedProgram.{CheckedProgram, IsCertifiedBy, checked}
-use Rattle.bpf_places.specs.Opened.{Opening}
+use Rattle.bpf_answers.specs.Opened.{Opening}
 use Rattle.bpf_answers.specs.Loaded.{CertificateAt}
 use Rattle.bpf_answers.specs.Each.{AnswersAt, FailsAt, LeftAt}
 use Rattle.bpf_answers.specs.declared.reply.Reply.TheVariants.{Each}

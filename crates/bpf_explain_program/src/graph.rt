@@ -18,9 +18,9 @@ use crate::listing::write_header;
 use crate::reach::reached_from_start;
 use bpf_cert::Certificate;
 use bpf_check::{Index, Refusal};
-use bpf_explain_page::Tell;
 use bpf_infer_base::SlotSet;
 use bpf_insn::Code;
+use bpf_streams::Tell;
 use std::fmt::Display;
 
 /// What a graph shows.

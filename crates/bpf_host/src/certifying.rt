@@ -2,15 +2,14 @@
 
 ghost use Rattle.std.specs.Prelude.{◌≡◌, ◌⊎◌, ◌↔◌, ◌<◌};
 ghost use Rattle.bpf_insn.specs.Limits.{max_context};
-ghost use Rattle.bpf_host_runs.specs.Told.{order_named};
-ghost use Rattle.bpf_host_advice.specs.Certified.{GivesCertified, IsNotCertified, WantsCertifiedRoom};
-ghost use Rattle.bpf_host_runs.specs.declared.answers.TheConstants.{YES, NO, NO_MEMORY, BAD_CALL, TOO_SMALL};
+ghost use Rattle.bpf_host_calls.specs.Told.{order_named};
+ghost use Rattle.bpf_host_calls.specs.Certified.{GivesCertified, IsNotCertified, WantsCertifiedRoom};
+ghost use Rattle.bpf_host_calls.specs.declared.answers.TheConstants.{YES, NO, NO_MEMORY, BAD_CALL, TOO_SMALL};
 
-use bpf_host_advice::{BpfCertified, BpfWish};
-use bpf_host_runs::BpfRefusal;
+use bpf_host_calls::{BpfCertified, BpfRefusal, BpfWish};
 use std::alloc::Global;
 
-/// `certify` of `bpf_host_advice`, for C.
+/// `certify` of `bpf_host_calls`, for C.
 #[unsafe(no_mangle)]
 pub extern "C" fn bpf_host_certify(
     alloc: Global,
@@ -33,7 +32,7 @@ pub extern "C" fn bpf_host_certify(
     ensures certified_kept { (result ≡ YES) ⊎ (result ≡ TOO_SMALL) ⊎ (certified.new ≡ certified.old) }
     ensures refusal_kept { (result ≡ NO) ⊎ (refusal.new ≡ refusal.old) }
 {
-    bpf_host_advice::certify(
+    bpf_host_calls::certify(
         alloc, image, order, size, wish, made, text, certified, refusal,
     )
 }

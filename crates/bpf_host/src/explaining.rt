@@ -2,15 +2,15 @@
 
 ghost use Rattle.std.specs.Prelude.{◌≡◌, ◌⊎◌, ◌↔◌, ◌<◌, length};
 ghost use Rattle.bpf_insn.specs.Limits.{max_context};
-ghost use Rattle.bpf_host_runs.specs.Told.{order_named};
-ghost use Rattle.bpf_host_runs.specs.Answers.{IsRefusedAsTold};
-ghost use Rattle.bpf_host_advice.specs.Explained.{IsSomeImage, IsRefusedImage, IsCertifiedBySome, IsFound, IsNotFound, GivesWords};
-ghost use Rattle.bpf_host_runs.specs.declared.answers.TheConstants.{YES, NO, NO_MEMORY, BAD_CALL, TOO_SMALL};
+ghost use Rattle.bpf_host_calls.specs.Told.{order_named};
+ghost use Rattle.bpf_host_calls.specs.Answers.{IsRefusedAsTold};
+ghost use Rattle.bpf_host_calls.specs.Explained.{IsSomeImage, IsRefusedImage, IsCertifiedBySome, IsFound, IsNotFound, GivesWords};
+ghost use Rattle.bpf_host_calls.specs.declared.answers.TheConstants.{YES, NO, NO_MEMORY, BAD_CALL, TOO_SMALL};
 
-use bpf_host_runs::BpfRefusal;
+use bpf_host_calls::BpfRefusal;
 use std::alloc::Global;
 
-/// `explain` of `bpf_host_advice`, for C.
+/// `explain` of `bpf_host_calls`, for C.
 #[unsafe(no_mangle)]
 pub extern "C" fn bpf_host_explain(
     alloc: Global,
@@ -35,7 +35,7 @@ pub extern "C" fn bpf_host_explain(
     ensures wanted_kept { (result ≡ YES) ⊎ (result ≡ NO) ⊎ (result ≡ TOO_SMALL) ⊎ (wanted.new ≡ wanted.old) }
     ensures refusal_kept { (result ≡ NO) ⊎ (refusal.new ≡ refusal.old) }
 {
-    bpf_host_advice::explain(
+    bpf_host_calls::explain(
         alloc,
         image,
         order,
@@ -49,7 +49,7 @@ pub extern "C" fn bpf_host_explain(
     )
 }
 
-/// `explain_search` of `bpf_host_advice`, for C.
+/// `explain_search` of `bpf_host_calls`, for C.
 #[unsafe(no_mangle)]
 pub extern "C" fn bpf_host_explain_search(
     alloc: Global,
@@ -76,12 +76,12 @@ pub extern "C" fn bpf_host_explain_search(
     ensures wanted_kept { (result ≡ YES) ⊎ (result ≡ NO) ⊎ (result ≡ TOO_SMALL) ⊎ (wanted.new ≡ wanted.old) }
     ensures refusal_kept { (result ≡ NO) ⊎ (refusal.new ≡ refusal.old) }
 {
-    bpf_host_advice::explain_search(
+    bpf_host_calls::explain_search(
         alloc, image, order, least, most, deep, shown, slot, lines, text, wanted, refusal,
     )
 }
 
-/// `explain_image` of `bpf_host_advice`, for C.
+/// `explain_image` of `bpf_host_calls`, for C.
 #[unsafe(no_mangle)]
 pub extern "C" fn bpf_host_explain_image(
     alloc: Global,
@@ -102,5 +102,5 @@ pub extern "C" fn bpf_host_explain_image(
     ensures wanted_kept { (result ≡ YES) ⊎ (result ≡ NO) ⊎ (result ≡ TOO_SMALL) ⊎ (wanted.new ≡ wanted.old) }
     ensures refusal_kept { (result ≡ NO) ⊎ (refusal.new ≡ refusal.old) }
 {
-    bpf_host_advice::explain_image(alloc, image, order, graph, text, wanted, refusal)
+    bpf_host_calls::explain_image(alloc, image, order, graph, text, wanted, refusal)
 }

@@ -29,7 +29,7 @@ use Rattle.bpf_semantics.proofs.RunLaw.{runs_keep_states, runs_are_one, steps_ar
 use Rattle.bpf_semantics.proofs.SlotLaw.{step_keeps_context}
 use Rattle.bpf_semantics.proofs.StateLemmas.{IsGood}
 use Rattle.bpf_kept_law.specs.Zero.{zero_start, zero_entered, zero_left, zero_does, zero_step, zero_after, IsZeroState}
-use Rattle.bpf_packets.specs.Blocks.{head_bytes, told_length}
+use Rattle.bpf_semantics.specs.Blocks.{head_bytes, told_length}
 use Rattle.bpf_kept_law.specs.Far.{near, wide}
 use Rattle.bpf_kept_law.specs.Meaning.{Bounds, AreGiven, FlatEnds, LeavesLowestFlat, counted, turns_to, turns_in_call}
 use Rattle.bpf_kept_law.specs.Exact.{is_at, visits, LeavesLowest}

@@ -6,7 +6,7 @@ use Rattle.bpf_insn.specs.Instruction.{Instructions}
 use Rattle.bpf_semantics.specs.State.{max_frames}
 use Rattle.bpf_semantics.specs.Flat.{Placement, FlatState, FlatStep, FlatSteps, FlatFinish, addresses, frame_start}
 use Rattle.bpf_semantics.specs.Placement.{IsFlatStart, StaysInside}
-use Rattle.bpf_packets.specs.Blocks.{head_bytes}
+use Rattle.bpf_semantics.specs.Blocks.{head_bytes}
 use Rattle.bpf_kept_law.specs.Far.{near_gap}
 use Rattle.bpf_kept_law.specs.Meaning.{Bounds, AreGiven, EndsAt, LeavesLowestFlat, turns_to, most_for_one}
 

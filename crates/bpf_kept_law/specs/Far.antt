@@ -1,7 +1,7 @@
 -- Where context and frames lie far from one another and from both ends of the addresses.
 use Rattle.std.specs.Prelude.{ℕ, ◌+◌, ◌*◌, ◌^◌, Bool, [], ◌∷◌, if◌then◌else◌}
 use Rattle.bpf_semantics.specs.Flat.{Placement}
-use Rattle.bpf_packets.specs.Blocks.{head_bytes}
+use Rattle.bpf_semantics.specs.Blocks.{head_bytes}
 
 -- The context lies in the middle of the addresses, in blocks the packet behind the head of its block; frame n, from 0 to 7, lies at n + 1 times a
 -- gap. So all pointers into the context are in the upper half, and twice the context's first address is 0.

@@ -10,7 +10,7 @@ use Rattle.bpf_semantics.specs.Step.{Finish, IsStuck}
 use Rattle.bpf_semantics.specs.Run.{Steps}
 use Rattle.bpf_semantics.specs.Flat.{Placement, FlatState, FlatFinish, IsAmong, addresses, address, frame_start}
 use Rattle.bpf_semantics.specs.Placement.{StaysInside}
-use Rattle.bpf_packets.specs.Blocks.{IsBlock}
+use Rattle.bpf_semantics.specs.Blocks.{IsBlock}
 use Rattle.bpf_kept_law.specs.Far.{near, wide}
 use Rattle.bpf_kept_law.specs.Zero.{zero_start, zero_after}
 

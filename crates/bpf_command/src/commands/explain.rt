@@ -7,14 +7,16 @@ ghost use Rattle.bpf_cert.specs.Limits.{IsCertificate};
 ghost use Rattle.bpf_safety.specs.Certified.{IsLeastFlaw};
 ghost use Rattle.bpf_check.specs.CheckedProgram.{IsCertifiedBy};
 ghost use Rattle.bpf_check.specs.RefusalNumbers.{refusal_number, refusal_slot};
-ghost use Rattle.bpf_infer_error.specs.RefusalNumbers.{infer_slot};
+ghost use Rattle.bpf_infer_base.specs.RefusalNumbers.{infer_slot};
 ghost use Rattle.bpf_command.specs.Names.{behind_lines, names_explained, names_opened};
 ghost use Rattle.bpf_answers.specs.Loaded.{CertificateAt, CertificateFails, CertificateRefused, ImageFails, OpensFirst, ReadableFails, Tried};
 ghost use Rattle.bpf_command.specs.Explained.{Answers, ExplainFails, ExplainSays, ExplainWithFails, ExplainWithSays, HardenedSays, JudgesOf, LinesAt, LinesFail, SoughtSays, TaskSays, TextSays};
 ghost use Rattle.bpf_command_core.specs.Printed.{ImageSays, JudgedSays, ListSays, LoadedFails, LoadedSays, YesSays};
 ghost use Rattle.bpf_answers.specs.Told.{OutputFails};
 
-use bpf_answers::{Answer, DONE, Failure, REFUSED, image_at, print, readable_text_at, text_at};
+use bpf_answers::{
+    Answer, DONE, Failure, Keeping, Places, REFUSED, image_at, print, readable_text_at, text_at,
+};
 use bpf_cert::{CertError, Certificate, read};
 use bpf_check::Refusal;
 use bpf_explain::{
@@ -24,7 +26,6 @@ use bpf_explain::{
 use bpf_explain_harden::{Hardening, explain_hardening};
 use bpf_infer::{Wanted, Watch};
 use bpf_insn::{Code, DecodeError, MAX_CONTEXT, Order, Program, ProgramView, decode};
-use bpf_places::{Keeping, Places};
 use bpf_request::{Aspect, Explaining, Subject, USUAL_TURNS};
 use bpf_text::{TextError, assemble};
 use std::alloc::Global;

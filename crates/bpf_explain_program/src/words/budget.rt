@@ -5,9 +5,9 @@ use crate::places::tag_at;
 use crate::sight::{Sight, Way};
 use bpf_cert::{Label, Measure, Term};
 use bpf_check::place_of;
-use bpf_explain_page::Tell;
 use bpf_insn::Code;
 use bpf_state::{SlotState, State, Tag};
+use bpf_streams::Tell;
 
 /// What a place that holds a counter did on the way: `r6 falls by 1 at weight 5`.
 fn tell_move<W: Tell>(out: &mut W, old: &Label, term: &Term, tag: Tag) {

@@ -1,6 +1,6 @@
 use Rattle.std.proofs.Common.{rules, IfErr, inr}
 use Rattle.std.proofs.lemmas.Result.{err_from_is_err_and}
-use Rattle.bpf_places.specs.Made.{making}
+use Rattle.bpf_answers.specs.Made.{making}
 use Rattle.bpf_answers.specs.Both.{pairing}
 use Rattle.bpf_answers.specs.Loaded.{LoadsImage}
 use Rattle.bpf_answers.proofs.MadeLemmas.{on_failure}

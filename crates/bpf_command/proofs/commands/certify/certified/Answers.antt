@@ -1,5 +1,5 @@
 use Rattle.std.proofs.Common.{Err, ℕ}
-use Rattle.bpf_places.specs.Made.{making}
+use Rattle.bpf_answers.specs.Made.{making}
 use Rattle.bpf_answers.specs.Both.{pairing}
 use Rattle.bpf_command.proofs.CertifiedLemmas.{with_fails, with_left}
 use Rattle.bpf_command.proofs.commands.certify.certified.Goals as goal

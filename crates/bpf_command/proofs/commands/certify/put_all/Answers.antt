@@ -1,5 +1,5 @@
 use Rattle.std.proofs.Common.{rules, ◌≡◌, IfOk, IfErr, subst}
-use Rattle.bpf_places.specs.Made.{making}
+use Rattle.bpf_answers.specs.Made.{making}
 use Rattle.bpf_answers.specs.Both.{pairing}
 use Rattle.bpf_command.specs.Certified.{NoPair}
 use Rattle.bpf_command.specs.Hardened.{BothStand, NotBothPut, NotBothStand}

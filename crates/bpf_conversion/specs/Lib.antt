@@ -1,0 +1,4 @@
+-- the listing of a filter's program
+pub mod Listed
+-- what is made of a filter
+pub mod Made
