@@ -1,7 +1,7 @@
 -- Notes at a name.
 use Rattle.std.specs.Prelude.{◌≡◌, ◌⊎◌, ◌<◌, ℕ, ◌+◌, ◌*◌, List, length, Option}
 use Rattle.std.specs.List.{AllByRecursion}
-use Rattle.bpf_follows.specs.declared.notes.Place.{Place}
+use Rattle.bpf_follows.specs.declared.notes.Counterpart.{Counterpart}
 use Rattle.bpf_follows.specs.NotesText.{max_lines, SaysAll, notes_text}
 use Rattle.bpf_follows.specs.Refused.{IsRefused}
 use Rattle.bpf_follows.specs.declared.error.NotesError.{NotesError}
@@ -16,7 +16,7 @@ abbrev pub max_notes : ℕ
 max_notes = 3072 * (max_lines + 1)
 
 -- the text at the name is that of the notes, each of which says something of all places: there is one such list
-abbrev pub LoadsNotes : {S : Type 0} → Opening S → S → List ℕ → S → List (Option Place) → Type 0
+abbrev pub LoadsNotes : {S : Type 0} → Opening S → S → List ℕ → S → List (Option Counterpart) → Type 0
 LoadsNotes opening old name new notes = TextAt opening old name new (λ text. AllByRecursion SaysAll notes × (text ≡ notes_text notes))
 
 abbrev pub NotesRefused : {S : Type 0} → Opening S → S → List ℕ → S → NotesError → Type 0

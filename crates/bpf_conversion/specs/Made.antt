@@ -7,7 +7,7 @@ use Rattle.bpf_classic.specs.declared.instruction.Classic.{Classic}
 use Rattle.bpf_classic.specs.declared.raw.Raw.{Raw}
 use Rattle.bpf_classic.specs.declared.refusal.Kind.{Kind}
 use Rattle.bpf_classic.specs.declared.refusal.Kind.TheVariants.{Packets, Seccomp as ForSeccomp, Extended as WithExtensions}
-use Rattle.bpf_classic.specs.declared.refusal.Refusal.TheVariants as refusals
+use Rattle.bpf_classic.specs.declared.refusal.FilterRefusal.TheVariants as refusals
 use Rattle.bpf_classic.specs.Meaning.{HasStarts, KeepsAnswers, insns}
 use Rattle.bpf_classic.specs.declared.layout.Form.{Form}
 use Rattle.bpf_classic.specs.declared.layout.Form.TheVariants.{Blocks, Plain, Seccomp, Extended}

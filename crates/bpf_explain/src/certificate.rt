@@ -21,7 +21,7 @@ const LONG_LINE: &str = "a line has at most 256 bytes";
 
 /// What a line of a certificate begins with.
 #[derive(Clone, Copy, PartialEq)]
-enum Kind {
+enum LineKind {
     Header,
     Function,
     Label,
@@ -32,96 +32,99 @@ enum Kind {
 }
 
 /// What a line begins with.
-fn kind_of(line: &[u8]) -> Kind {
+fn kind_of(line: &[u8]) -> LineKind {
     match parted(line, b' ').0 {
-        b"bpfcert" => Kind::Header,
-        b"fn" => Kind::Function,
-        b"at" => Kind::Label,
-        b"end" => Kind::End,
-        [b'r', b'0'..=b'9', ..] => Kind::Register,
-        [b's', b'0'..=b'9', ..] => Kind::Slot,
-        _ => Kind::Other,
+        b"bpfcert" => LineKind::Header,
+        b"fn" => LineKind::Function,
+        b"at" => LineKind::Label,
+        b"end" => LineKind::End,
+        [b'r', b'0'..=b'9', ..] => LineKind::Register,
+        [b's', b'0'..=b'9', ..] => LineKind::Slot,
+        _ => LineKind::Other,
     }
 }
 
 /// The form of a line, and what its fields mean.
-fn form_of(kind: Kind) -> &'static str {
+fn form_of(kind: LineKind) -> &'static str {
     match kind {
-        Kind::Header => "`bpfcert 1 <len> <steps>` or `bpfcert 2 <least> <most> <steps>`",
-        Kind::Function => "`fn <first> <depth> <num>`, as `fn 0 1 *`",
-        Kind::Label => "`at <slot> <base> <term>...`, as `at 1 2 +2*r6` or `at 1 2 +2*(10-r6)`",
-        Kind::Register => "`r<i> <what>`, as `r6 u1..10`, `r1 ctx0..0` or `r3 *`",
-        Kind::Slot => "`s<k> <what>`, as `s1 *`, `s1 b15` or `s2 ctx0..0`",
-        Kind::End => "`end`",
-        Kind::Other => "`bpfcert`, `fn`, `at`, `r<i>`, `s<k>` or `end`",
+        LineKind::Header => "`bpfcert 1 <len> <steps>` or `bpfcert 2 <least> <most> <steps>`",
+        LineKind::Function => "`fn <first> <depth> <num>`, as `fn 0 1 *`",
+        LineKind::Label => "`at <slot> <base> <term>...`, as `at 1 2 +2*r6` or `at 1 2 +2*(10-r6)`",
+        LineKind::Register => "`r<i> <what>`, as `r6 u1..10`, `r1 ctx0..0` or `r3 *`",
+        LineKind::Slot => "`s<k> <what>`, as `s1 *`, `s1 b15` or `s2 ctx0..0`",
+        LineKind::End => "`end`",
+        LineKind::Other => "`bpfcert`, `fn`, `at`, `r<i>`, `s<k>` or `end`",
     }
 }
 
 /// The limits of a line's fields.
 #[derive(Clone, Copy)]
-struct Limits(Kind);
+struct LineLimits(LineKind);
 
-impl fmt::Display for Limits {
+impl fmt::Display for LineLimits {
     fn fmt<W: fmt::Write>(&self, f: &mut fmt::Formatter<W>) -> fmt::Result {
         match self.0 {
-            Kind::Header => write!(
+            LineKind::Header => write!(
                 f,
                 "lengths are 0 to {MAX_CONTEXT}, the least first, and steps 1 to {MAX_STEPS}; a function must follow"
             ),
-            Kind::Function => write!(
+            LineKind::Function => write!(
                 f,
                 "first is 0 to {LAST_SLOT}, depth 1 to {MAX_DEPTH}; there are at most {MAX_FUNCTIONS} functions, each with a label"
             ),
-            Kind::Label => write!(
+            LineKind::Label => write!(
                 f,
                 "slot is 0 to {LAST_SLOT}, base at most {MAX_BASE}, a weight 1 to {MAX_WEIGHT}, a limit at most {MAX_LIMIT}, a place r0 to r9 or s1 to s64; there are at most {MAX_TERMS} terms and {MAX_LABELS} labels"
             ),
-            Kind::Register => write!(
+            LineKind::Register => write!(
                 f,
                 "registers are r0 to r9, offsets -{FARTHEST} to {FARTHEST}"
             ),
-            Kind::Slot => write!(
+            LineKind::Slot => write!(
                 f,
                 "slots are s1 to s64, masks b1 to b254, offsets -{FARTHEST} to {FARTHEST}"
             ),
-            Kind::End => f.write_str(
+            LineKind::End => f.write_str(
                 "there must be a function, and each function must have a label",
             ),
-            Kind::Other => f.write_str(LONG_LINE),
+            LineKind::Other => f.write_str(LONG_LINE),
         }
     }
 }
 
 /// A text of what a line knows of a number, if it has one.
-fn if_number(kind: Kind, text: &'static str) -> &'static str {
+fn if_number(kind: LineKind, text: &'static str) -> &'static str {
     match kind {
-        Kind::Function | Kind::Register | Kind::Slot => text,
-        Kind::Header | Kind::Label | Kind::End | Kind::Other => "",
+        LineKind::Function | LineKind::Register | LineKind::Slot => text,
+        LineKind::Header | LineKind::Label | LineKind::End | LineKind::Other => "",
     }
 }
 
 /// The lines that may follow a line.
-fn followers(kind: Kind) -> &'static str {
+fn followers(kind: LineKind) -> &'static str {
     match kind {
-        Kind::Header => "a line `fn <first> <depth> <num>` must follow the first",
-        Kind::Function => "a line `at <slot> <base> <term>...` must follow a function's",
-        Kind::Label | Kind::Register | Kind::Slot => {
+        LineKind::Header => "a line `fn <first> <depth> <num>` must follow the first",
+        LineKind::Function => "a line `at <slot> <base> <term>...` must follow a function's",
+        LineKind::Label | LineKind::Register | LineKind::Slot => {
             "`r<i> <what>`, `s<k> <what>`, another `at` or `fn`, or `end` may stand here"
         }
-        Kind::End => "nothing may follow `end`",
-        Kind::Other =>
+        LineKind::End => "nothing may follow `end`",
+        LineKind::Other =>
             "the first line must be `bpfcert 1 <len> <steps>` or `bpfcert 2 <least> <most> <steps>`",
     }
 }
 
 /// Whether a line of a kind may follow a line of another one. Registers behind slots are out of order, which is K2.
-fn may_follow(before: Kind, kind: Kind) -> bool {
+fn may_follow(before: LineKind, kind: LineKind) -> bool {
     match before {
-        Kind::Header => kind == Kind::Function,
-        Kind::Function => kind == Kind::Label,
-        Kind::Label | Kind::Register | Kind::Slot => !matches!(kind, Kind::Header | Kind::Other),
-        Kind::End => false,
-        Kind::Other => kind == Kind::Header,
+        LineKind::Header => kind == LineKind::Function,
+        LineKind::Function => kind == LineKind::Label,
+        LineKind::Label | LineKind::Register | LineKind::Slot => !matches!(
+            kind,
+            LineKind::Header | LineKind::Other
+        ),
+        LineKind::End => false,
+        LineKind::Other => kind == LineKind::Header,
     }
 }
 
@@ -157,9 +160,9 @@ fn line_at(bytes: &[u8], number: usize) -> LineAt<'_> {
 
 /// A line as it stands, its first 80 bytes at most.
 #[derive(Clone, Copy)]
-struct Line<'a>(&'a [u8]);
+struct ShownLine<'a>(&'a [u8]);
 
-impl<'a> fmt::Display for Line<'a> {
+impl<'a> fmt::Display for ShownLine<'a> {
     fn fmt<W: fmt::Write>(&self, f: &mut fmt::Formatter<W>) -> fmt::Result {
         let shown = self.0.get(..self.0.len().min(80)).unwrap_or(&[]);
         match from_utf8(shown) {
@@ -173,15 +176,15 @@ impl<'a> fmt::Display for Line<'a> {
 fn tell_syntax<'a, W: Tell>(out: &mut W, found: LineAt<'a>) {
     let before = kind_of(found.before);
     let kind = kind_of(found.line);
-    let (line, follows) = (Line(found.line), followers(before));
+    let (line, follows) = (ShownLine(found.line), followers(before));
     if !found.is_there {
         write!(out, "the text ends here without `end`: {follows}\n");
-    } else if before == Kind::End && matches!(found.line, [0]) {
+    } else if before == LineKind::End && matches!(found.line, [0]) {
         write!(
             out,
             "a byte 0 behind the last line: a certificate's length doesn't count the one that ends a string of C\n"
         );
-    } else if before == Kind::End {
+    } else if before == LineKind::End {
         write!(out, "{line}: {follows}\n");
     } else if found.line.contains(&b'\r') {
         write!(
@@ -214,22 +217,22 @@ fn has_padded_number(line: &[u8]) -> bool {
 }
 
 /// What makes a line the one spelling of what it says.
-fn spelling_rule(kind: Kind) -> &'static str {
+fn spelling_rule(kind: LineKind) -> &'static str {
     match kind {
-        Kind::Function => "functions rise by their first slots",
-        Kind::Label => {
+        LineKind::Function => "functions rise by their first slots",
+        LineKind::Label => {
             "a function's labels rise by their slots, and terms by their places, registers first"
         }
-        Kind::Register | Kind::Slot => {
+        LineKind::Register | LineKind::Slot => {
             "registers rise and then slots, each once, and one that may hold anything has no line"
         }
-        Kind::Header | Kind::End | Kind::Other => "each certificate has one spelling",
+        LineKind::Header | LineKind::End | LineKind::Other => "each certificate has one spelling",
     }
 }
 
 /// K2: why a line isn't the one spelling of what it says.
 fn tell_spelling<W: Tell>(out: &mut W, text: &[u8]) {
-    let line = Line(text);
+    let line = ShownLine(text);
     if has_padded_number(text) {
         return write!(out, "{line}: a number has a needless zero in front\n");
     }
@@ -248,7 +251,7 @@ fn tell_limit<W: Tell>(out: &mut W, line: &[u8]) {
         return write!(out, "{LONG_LINE}\n");
     }
     let kind = kind_of(line);
-    let (line, limits) = (Line(line), Limits(kind));
+    let (line, limits) = (ShownLine(line), LineLimits(kind));
     let more = if_number(
         kind,
         "; u is 0 to 18446744073709551615, s -9223372036854775808 to 9223372036854775807, lo is at most hi, value and mask share no bit",

@@ -3,10 +3,13 @@
 use crate::texts::parted;
 use bpf_insn::{BuildError, Code};
 use bpf_streams::{Count, Page, Tell};
-use bpf_text::{Item, LineFault, Range, Stop, TextError, code_at, endings_of, first_token, label_name, line_stop, range_behind, target_name};
-use std::fmt;
+use bpf_text::{
+    Item, LineFault, Range, Stop, TextError, code_at, endings_of, first_token, label_name,
+    line_stop, range_behind, target_name,
+};
 use std::alloc::{AllocError, Global};
 use std::collections::BTreeMap;
+use std::fmt;
 use std::io::{self, Write};
 use std::str::from_utf8;
 
@@ -19,9 +22,9 @@ fn code_of(line: &[u8]) -> &[u8] {
 
 /// A word as it stands, its first 40 bytes at most.
 #[derive(Clone, Copy)]
-struct Word<'a>(&'a [u8]);
+struct ShownWord<'a>(&'a [u8]);
 
-impl<'a> fmt::Display for Word<'a> {
+impl<'a> fmt::Display for ShownWord<'a> {
     fn fmt<W: fmt::Write>(&self, f: &mut fmt::Formatter<W>) -> fmt::Result {
         let shown = self.0.get(..self.0.len().min(40)).unwrap_or(&[]);
         match from_utf8(shown) {
@@ -130,7 +133,7 @@ fn tell_endings<'a, W: Tell>(alloc: Global, out: &mut W, stop: &Stop<'a>) {
 /// Where a line leaves all forms.
 fn tell_place<'a, W: Tell>(alloc: Global, out: &mut W, line: &[u8], stop: &Stop<'a>) {
     let column = column_of(line, stop.rest);
-    let word = Word(token_of(stop.rest));
+    let word = ShownWord(token_of(stop.rest));
     if stop.rest.is_empty() {
         write!(out, ", column {column}: the line ends here\n");
     } else {
@@ -144,7 +147,7 @@ fn tell_place<'a, W: Tell>(alloc: Global, out: &mut W, line: &[u8], stop: &Stop<
 
 /// What should be a label.
 fn tell_no_label<W: Tell>(out: &mut W, column: usize, text: &[u8]) {
-    let word = Word(text);
+    let word = ShownWord(text);
     write!(
         out,
         ", column {column}: {word} is no label: a name has 1 to 64 letters, digits and `_`, and begins with no digit\n"
@@ -188,7 +191,7 @@ fn tell_excess<'a, W: Tell>(
     let column = column_of(line, stop.rest);
     let is_negative = last_token(&stop.front) == b"-".as_slice();
     let sign = if is_negative { "minus " } else { "" };
-    let number = Word(number);
+    let number = ShownWord(number);
     write!(out, ", column {column}: {sign}{number} is out of its range");
     match range_behind(alloc, &stop.front) {
         Ok(range) => {
@@ -206,7 +209,7 @@ fn tell_number<'a, W: Tell>(alloc: Global, out: &mut W, line: &[u8], stop: &Stop
     if token.is_empty() {
         let number = last_token(&stop.front);
         let column = column_of(without_blanks(line), number);
-        let number = Word(number);
+        let number = ShownWord(number);
         write!(
             out,
             ", column {column}: {number} is out of its range: {range}\n"
@@ -301,7 +304,7 @@ fn second_label(
 fn tell_second<W: Tell>(alloc: Global, out: &mut W, text: &[u8], number: usize) {
     match second_label(alloc, text, number) {
         Ok(Some((name, above))) => {
-            let word = Word(name);
+            let word = ShownWord(name);
             write!(out, ": the label {word} is defined at line {above}, too\n");
         }
         Ok(None) => write!(out, ": a label is defined twice in the line\n"),
@@ -311,7 +314,7 @@ fn tell_second<W: Tell>(alloc: Global, out: &mut W, text: &[u8], number: usize) 
 
 /// A4 and A5: what is wrong with the label that a jump names.
 fn tell_target<W: Tell>(out: &mut W, text: &[u8], number: usize, words: &str) {
-    let word = Word(target_name(code_at(text, number)).unwrap_or(&[]));
+    let word = ShownWord(target_name(code_at(text, number)).unwrap_or(&[]));
     write!(out, ": the label {word} {words}\n");
 }
 

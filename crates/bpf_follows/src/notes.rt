@@ -75,7 +75,7 @@ pub type Kinds = [Kind; PLACES];
 
 /// What stands in the new program for the instruction at a slot of the old one.
 #[derive(Clone, Copy)]
-pub struct Place {
+pub struct Counterpart {
     /// The new slot to which calls lead, if it is a function's first instruction: from there on the context's start is put away and
     /// counters are set.
     pub entry: u32,

@@ -17,7 +17,7 @@ use crate::proposal::{give, proposal};
 use crate::refusals::Unmade;
 use crate::texts::{answer_words, give_beginning, text_of};
 use bpf_follows::Bounds;
-use bpf_infer::Wanted;
+use bpf_infer::WantedCertificate;
 use bpf_insn::{FRAME_BYTES, MAX_CONTEXT};
 use std::alloc::Global;
 
@@ -52,7 +52,7 @@ pub fn infer(
     if least > most || most > MAX_CONTEXT as u32 || deep > 1 {
         return BAD_CALL;
     }
-    let wanted_of = Wanted {
+    let wanted_of = WantedCertificate {
         least,
         most,
         deep: deep == 1,

@@ -5,20 +5,20 @@ ghost use Rattle.bpf_insn.specs.Limits.{max_context};
 ghost use Rattle.bpf_host_calls.specs.Told.{order_named};
 ghost use Rattle.bpf_host_calls.specs.Answers.{IsRefusedAsTold};
 ghost use Rattle.bpf_host_calls.specs.Explained.{IsSomeImage, IsRefusedImage, IsCertifiedBySome, IsFound, IsNotFound, GivesWords};
-ghost use Rattle.bpf_host_calls.specs.declared.explanation.Judged.TheVariants.{Accepted, Refused};
+ghost use Rattle.bpf_host_calls.specs.declared.explanation.HowJudged.TheVariants.{Accepted, Refused};
 ghost use Rattle.bpf_host_calls.specs.declared.answers.TheConstants.{YES, NO, NO_MEMORY, BAD_CALL, TOO_SMALL};
 
 use crate::answers::{BAD_CALL, BpfRefusal, NO, NO_MEMORY, YES, order_of};
-use crate::explanation::{Given, Judged, checked, read_alone, searched, shown_of};
+use crate::explanation::{Given, HowJudged, checked, read_alone, searched, shown_of};
 use crate::proposal::give;
-use bpf_explain::Search;
-use bpf_infer::Wanted;
+use bpf_explain::CertificateSearch;
+use bpf_infer::WantedCertificate;
 use bpf_insn::MAX_CONTEXT;
 use std::alloc::Global;
 
 /// Gives the words of an explanation where there is room for them, and says how the image was judged; None where memory ran out.
 fn answer(
-    judged: Option<Judged>,
+    judged: Option<HowJudged>,
     words: &[u8],
     text: &mut [u8],
     wanted: &mut usize,
@@ -42,8 +42,8 @@ fn answer(
         return given;
     }
     match judged {
-        Judged::Accepted => YES,
-        Judged::Refused(told) => {
+        HowJudged::Accepted => YES,
+        HowJudged::Refused(told) => {
             *refusal = told;
             NO
         }
@@ -133,8 +133,8 @@ pub fn explain_search(
     let Some(shown) = shown_of(shown, slot, lines) else {
         return BAD_CALL;
     };
-    let asked = Search {
-        wanted: Wanted {
+    let asked = CertificateSearch {
+        wanted: WantedCertificate {
             least,
             most,
             deep: deep == 1,

@@ -28,7 +28,10 @@ mod texts;
 mod unconverted;
 
 pub use advising::{answer_text, harden, infer, refusal_text};
-pub use answers::{BAD_CALL, BAD_LENGTH, BAD_WORDS, BpfOutcome, BpfRefusal, BpfVerdict, NO, NO_MEMORY, TOO_LONG, TOO_SMALL, YES};
+pub use answers::{
+    BAD_CALL, BAD_LENGTH, BAD_WORDS, BpfOutcome, BpfRefusal, BpfVerdict, NO, NO_MEMORY, TOO_LONG,
+    TOO_SMALL, YES,
+};
 pub use certification::{BpfCertified, BpfWish};
 pub use certifying::certify;
 pub use conversion::BpfConverted;
@@ -36,5 +39,7 @@ pub use convert_sizes::convert_size;
 pub use converting::convert;
 pub use explaining::{explain, explain_image, explain_search};
 pub use following::follows;
-pub use running::{load, loaded_size, prepare, prepared_size, run, run_checked, run_loaded, verify, version};
+pub use running::{
+    load, loaded_size, prepare, prepared_size, run, run_checked, run_loaded, verify, version,
+};
 pub use sizes::{explain_size, infer_size};

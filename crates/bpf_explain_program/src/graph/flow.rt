@@ -8,7 +8,7 @@ use bpf_insn::Code;
 
 /// Which instructions and edges runs may take.
 #[derive(Drop)]
-pub struct Flow {
+pub struct FlowOfRuns {
     /// The instructions that a state reaches.
     pub reached: SlotSet,
     /// Those whose jump is live.
@@ -19,10 +19,10 @@ pub struct Flow {
     unknown: SlotSet,
 }
 
-impl Flow {
+impl FlowOfRuns {
     /// All four sets are of such words.
     fn filled(word: u64) -> Self {
-        Flow {
+        FlowOfRuns {
             reached: SlotSet::filled(word),
             jumps: SlotSet::filled(word),
             nexts: SlotSet::filled(word),
@@ -32,7 +32,7 @@ impl Flow {
 
     /// Nothing is ruled out.
     pub fn any() -> Self {
-        Flow::filled(u64::MAX)
+        FlowOfRuns::filled(u64::MAX)
     }
 
     /// Whether the jump at a slot may be taken, as far as is known.
@@ -46,7 +46,7 @@ impl Flow {
     }
 }
 
-impl<C: Code> Observer<C> for Flow {
+impl<C: Code> Observer<C> for FlowOfRuns {
     fn observe(&mut self, sight: &Sight<'_, C>) -> bool {
         let slot = sight.site.here.slot;
         if sight.here.is_some() {
@@ -67,8 +67,8 @@ impl<C: Code> Observer<C> for Flow {
 }
 
 /// Which instructions and edges runs may take, by the checker's pass.
-pub fn flow_of<C: Code>(program: &C, certificate: &Index) -> Flow {
-    let mut flow = Flow::filled(0);
+pub fn flow_of<C: Code>(program: &C, certificate: &Index) -> FlowOfRuns {
+    let mut flow = FlowOfRuns::filled(0);
     let _end = pass_over(program, certificate, false, &mut flow);
     flow
 }
