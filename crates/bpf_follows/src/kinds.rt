@@ -18,7 +18,7 @@ use bpf_insn::{Insn, Reg, extended};
 use bpf_semantics::HEAD_BYTES;
 
 /// How many registers there are.
-pub const REGISTERS: u8 = 11;
+pub const REGISTERS: u8 = bpf_insn::REGISTERS as u8;
 
 /// What stands for an old slot.
 pub fn place_at(notes: &[Option<Counterpart>], slot: u32) -> Option<&Counterpart>

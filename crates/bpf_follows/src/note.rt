@@ -10,7 +10,7 @@ use bpf_insn::Reg;
 use bpf_streams::behind;
 
 /// How many registers there are.
-const REGISTERS: usize = 11;
+const REGISTERS: usize = bpf_insn::REGISTERS;
 
 /// The registers by their numbers.
 const NUMBERED: [Reg; REGISTERS] = [

@@ -68,7 +68,7 @@ pub enum Kind {
 }
 
 /// How many places notes speak of: r0 to r10, and the 64 slots of eight bytes of the frame.
-pub const PLACES: usize = 75;
+pub const PLACES: usize = bpf_insn::PLACES;
 
 /// What r0 to r10 hold, and then the slots of the frame, the lowest first.
 pub type Kinds = [Kind; PLACES];

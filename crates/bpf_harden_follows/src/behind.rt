@@ -124,7 +124,7 @@ fn stored(facts: &Facts, insn: &Insn) -> Kind {
 }
 
 /// How many slots the frame has.
-const SLOTS: u8 = 64;
+const SLOTS: u8 = bpf_insn::FRAME_SLOTS as u8;
 
 /// Whether an access by r10 goes to a slot.
 fn touches(access: Access, slot: u8) -> bool {
