@@ -1,0 +1,4 @@
+-- what notes that match show
+pub mod Shown
+-- why notes don't match
+pub mod NoteFaults
