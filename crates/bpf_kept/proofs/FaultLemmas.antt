@@ -2,8 +2,9 @@
 use Rattle.std.proofs.Common.{◌≡◌, ℕ, ◌≤◌, length as count}
 use Rattle.std.specs.Prelude.{Result, Ok, Err, IfErr}
 use Rattle.bpf_insn.specs.Instruction.{Instructions, slots}
+use Rattle.bpf_cert.specs.View.{CertificateView}
 use Rattle.bpf_kept_law.specs.Matching.{Notes}
-use Rattle.bpf_kept.specs.NoteFaults.{IsAt, IsLowest, Starts, IsNoteFault, IsFaultBeside}
+use Rattle.bpf_kept.specs.NoteFaults.{IsAt, IsLowest, Starts, IsNoteFault, IsFor, IsFaultBeside}
 use Rattle.bpf_kept.specs.declared.note_fault.NoteFault.{NoteFault}
 use Rattle.bpf_kept.specs.declared.note_fault.NoteFault.TheVariants.{Order, TooMany, Start, At, Length}
 
@@ -18,11 +19,11 @@ in_order old new notes length (Err (At slot)) order few starts h = (order, few, 
 in_order old new notes length (Err Length) order few starts h = absurd h
 
 -- and behind the lengths
-pub behind_lengths : {T : Type 0} (least most : ℕ) (old new : Instructions) (notes : Notes) (length : ℕ) (r : Result T NoteFault) → least ≤ length → length ≤ most → IfErr r (IsNoteFault old new notes length) → IfErr r (IsFaultBeside least most old new notes length)
+pub behind_lengths : {T : Type 0} (c : CertificateView) (old new : Instructions) (notes : Notes) (length : ℕ) (r : Result T NoteFault) → IsFor c length → IfErr r (IsNoteFault old new notes length) → IfErr r (IsFaultBeside c old new notes length)
 unfolding IsNoteFault IsFaultBeside
-behind_lengths least most old new notes length (Ok v) low high h = tt
-behind_lengths least most old new notes length (Err Order) low high h = (low, high, h)
-behind_lengths least most old new notes length (Err TooMany) low high h = (low, high, h)
-behind_lengths least most old new notes length (Err Start) low high h = (low, high, h)
-behind_lengths least most old new notes length (Err (At slot)) low high h = (low, high, h)
-behind_lengths least most old new notes length (Err Length) low high h = absurd h
+behind_lengths c old new notes length (Ok v) within h = tt
+behind_lengths c old new notes length (Err Order) within h = (within, h)
+behind_lengths c old new notes length (Err TooMany) within h = (within, h)
+behind_lengths c old new notes length (Err Start) within h = (within, h)
+behind_lengths c old new notes length (Err (At slot)) within h = (within, h)
+behind_lengths c old new notes length (Err Length) within h = absurd h

@@ -4,3 +4,5 @@ pub mod Shown
 pub mod NoteFaults
 -- where nothing is shown
 pub mod Hollow
+-- what the code hands on
+pub mod Fronts

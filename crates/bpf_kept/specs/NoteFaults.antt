@@ -1,6 +1,7 @@
 -- Why notes don't match.
 use Rattle.std.specs.Prelude.{◌≡◌, ◌≢◌, ℕ, ◌<◌, ◌≤◌, true, length as count}
 use Rattle.bpf_insn.specs.Instruction.{Instructions, slots}
+use Rattle.bpf_cert.specs.View.{CertificateView}
 use Rattle.bpf_kept_law.specs.Matching.{Notes, most_at_start, arrives, start_facts, HoldsAt}
 use Rattle.bpf_kept_law.specs.declared.notes.Change.TheVariants.{Kept}
 use Rattle.bpf_kept.specs.declared.note_fault.NoteFault.{NoteFault}
@@ -30,13 +31,17 @@ IsNoteFault old new notes length Start = (new.order ≡ old.order) × (count not
 IsNoteFault old new notes length (At slot) = (new.order ≡ old.order) × (count notes ≤ slots new.list) × Starts notes × IsLowest old new notes length slot
 IsNoteFault old new notes length Length = ⊥
 
--- The certificate isn't for contexts of so many bytes; or it is, and the notes don't match.
-unfoldable pub IsFaultBeside : ℕ → ℕ → Instructions → Instructions → Notes → ℕ → NoteFault → Type 0
-IsFaultBeside least most old new notes length Order = (least ≤ length) × (length ≤ most) × IsNoteFault old new notes length Order
-IsFaultBeside least most old new notes length TooMany = (least ≤ length) × (length ≤ most) × IsNoteFault old new notes length TooMany
-IsFaultBeside least most old new notes length Start = (least ≤ length) × (length ≤ most) × IsNoteFault old new notes length Start
-IsFaultBeside least most old new notes length (At slot) = (least ≤ length) × (length ≤ most) × IsNoteFault old new notes length (At slot)
-IsFaultBeside least most old new notes length Length = (least ≤ length) → (length ≤ most) → ⊥
+-- the certificate is for contexts of so many bytes
+abbrev pub IsFor : CertificateView → ℕ → Type 0
+IsFor c length = (c.least ≤ length) × (length ≤ c.most)
+
+-- It isn't; or it is, and the notes don't match.
+unfoldable pub IsFaultBeside : CertificateView → Instructions → Instructions → Notes → ℕ → NoteFault → Type 0
+IsFaultBeside c old new notes length Order = IsFor c length × IsNoteFault old new notes length Order
+IsFaultBeside c old new notes length TooMany = IsFor c length × IsNoteFault old new notes length TooMany
+IsFaultBeside c old new notes length Start = IsFor c length × IsNoteFault old new notes length Start
+IsFaultBeside c old new notes length (At slot) = IsFor c length × IsNoteFault old new notes length (At slot)
+IsFaultBeside c old new notes length Length = IsFor c length → ⊥
 
 abbrev pub fault_number : NoteFault → ℕ
 fault_number Order = 1

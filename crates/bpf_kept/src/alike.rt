@@ -223,22 +223,20 @@ fn are_ordered(facts: &[Fact], dst: Reg, src: Reg) -> bool
 fn by_equality(facts: &[Fact], insn: &Insn) -> bool
     ensures { result ≡ by_equality facts.now insn.now }
 {
-    match *insn {
-        Insn::JumpIf {
-            cond: Cond::Eq,
-            width: Width::W64,
-            dst,
-            src: Operand::Reg(src),
-            off: _off,
-        } => are_equal(facts, dst, src),
-        Insn::JumpIf {
-            cond: Cond::Ne,
-            width: Width::W64,
-            dst,
-            src: Operand::Reg(src),
-            off: _off,
-        } => are_equal(facts, dst, src),
-        _ => false,
+    let Insn::JumpIf {
+        cond,
+        width: Width::W64,
+        dst,
+        src: Operand::Reg(src),
+        off: _off,
+    } = *insn
+    else {
+        return false;
+    };
+    match cond {
+        Cond::Eq | Cond::Ne => are_equal(facts, dst, src),
+        Cond::Gt | Cond::Ge | Cond::Lt | Cond::Le | Cond::Set => false,
+        Cond::SGt | Cond::SGe | Cond::SLt | Cond::SLe => false,
     }
 }
 

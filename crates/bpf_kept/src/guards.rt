@@ -8,6 +8,7 @@ ghost use Rattle.std.specs.Int.{cast_signed, w64};
 ghost use Rattle.std.specs.List.{list_any};
 ghost use Rattle.bpf_semantics.specs.Flat.{addresses};
 ghost use Rattle.bpf_kept_law.specs.Far.{middle};
+ghost use Rattle.bpf_kept.specs.Fronts.{front};
 ghost use Rattle.bpf_kept_law.specs.Guards.{if_by, accesses_by, is_passed, is_met, is_ahead, are_accessed, is_tested_by, is_tested, guarded, passes};
 
 use crate::code::insn_at;
@@ -121,7 +122,7 @@ struct Tested {
 
 /// Whether accesses follow that keep the number within the limit.
 fn are_accessed<C: Code>(old: &C, site: GuardSite, tested: Tested, r: Reg) -> bool
-    ensures { result ≡ are_accessed (record { old = C.program old.now; slot = site.slot; length = site.length }) tested.size tested.limit tested.moved r }
+    ensures { result ≡ are_accessed (front (C.program old.now) site.slot site.length) tested.size tested.limit tested.moved r }
 {
     let below = Need::Below {
         offset: tested.moved,
@@ -148,7 +149,7 @@ fn of_frame(moved: u64) -> i64
 
 /// Whether a number passes that is so far from a pointer of the old program.
 fn is_tested_by<C: Code>(old: &C, site: GuardSite, limit: u64, t: Term, r: Reg) -> bool
-    ensures { result ≡ is_tested_by (record { old = C.program old.now; slot = site.slot; length = site.length }) limit t r }
+    ensures { result ≡ is_tested_by (front (C.program old.now) site.slot site.length) limit t r }
 {
     let context = Tested {
         size: site.length,
@@ -166,7 +167,7 @@ fn is_tested_by<C: Code>(old: &C, site: GuardSite, limit: u64, t: Term, r: Reg) 
 
 /// Whether a number passes of which a fact is known.
 fn is_tested<C: Code>(old: &C, site: GuardSite, limit: u64, fact: Fact) -> bool
-    ensures { result ≡ is_tested (record { old = C.program old.now; slot = site.slot; length = site.length }) limit fact }
+    ensures { result ≡ is_tested (front (C.program old.now) site.slot site.length) limit fact }
 {
     match (fact.by, fact.base) {
         (Some(t), Some(r)) => is_tested_by(old, site, limit, t, r),
@@ -176,7 +177,7 @@ fn is_tested<C: Code>(old: &C, site: GuardSite, limit: u64, fact: Fact) -> bool
 
 /// Whether a register passes by a fact of it.
 fn guarded<C: Code>(old: &C, site: GuardSite, dst: Reg, limit: u64, fact: Fact) -> bool
-    ensures { result ≡ guarded (record { old = C.program old.now; slot = site.slot; length = site.length }) dst limit fact }
+    ensures { result ≡ guarded (front (C.program old.now) site.slot site.length) dst limit fact }
 {
     is_register(dst, fact.of) && is_tested(old, site, limit, fact)
 }
@@ -184,21 +185,20 @@ fn guarded<C: Code>(old: &C, site: GuardSite, dst: Reg, limit: u64, fact: Fact) 
 /// Whether an instruction is a guard that passes.
 #[tactic(auto, unfolding(bpf_kept_law::specs::Guards::passes))]
 pub fn passes<C: Code>(old: &C, site: GuardSite, facts: &[Fact], insn: &Insn) -> bool
-    ensures { result ≡ passes (record { old = C.program old.now; slot = site.slot; length = site.length }) facts.now insn.now }
+    ensures { result ≡ passes (front (C.program old.now) site.slot site.length) facts.now insn.now }
 {
-    match *insn {
-        Insn::JumpIf {
-            cond: Cond::Gt,
-            width: Width::W64,
-            dst,
-            src: Operand::Imm(imm),
-            off: _off,
-        } => {
-            let limit = extended(imm);
-            facts
-                .iter()
-                .any(|fact| guarded(old, site, dst, limit, *fact))
-        }
-        _ => false,
-    }
+    let Insn::JumpIf {
+        cond: Cond::Gt,
+        width: Width::W64,
+        dst,
+        src: Operand::Imm(imm),
+        off: _off,
+    } = *insn
+    else {
+        return false;
+    };
+    let limit = extended(imm);
+    facts
+        .iter()
+        .any(|fact| guarded(old, site, dst, limit, *fact))
 }

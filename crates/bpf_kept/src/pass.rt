@@ -8,7 +8,7 @@ ghost use Rattle.bpf_safety.specs.Certified.{Certified};
 ghost use Rattle.bpf_kept_law.specs.Meaning.{NeverStuck};
 ghost use Rattle.bpf_kept_law.specs.Matching.{most_at_start, start_facts, arrives, HoldsAt, Matches};
 ghost use Rattle.bpf_kept.specs.Shown.{Keeps};
-ghost use Rattle.bpf_kept.specs.NoteFaults.{IsNoteFault, IsFaultBeside, IsLowest, IsAt};
+ghost use Rattle.bpf_kept.specs.NoteFaults.{IsFor, IsNoteFault, IsFaultBeside, IsLowest, IsAt};
 
 use crate::edges::{Arrival, arrives, start_facts};
 use crate::note_fault::NoteFault;
@@ -114,8 +114,8 @@ pub fn follows_certified<O: Code, N: Code>(
     length: u32,
 ) -> Result<(), NoteFault>
     ensures keeps { IsOk result → Certified (N.program new.now) certificate.now → Keeps (O.program old.now) (N.program new.now) notes.now length }
-    ensures exact { IsOk result ↔ ((certificate.now.least ≤ length) × (length ≤ certificate.now.most) × Matches (O.program old.now) (N.program new.now) notes.now length) }
-    ensures err { IfErr result (IsFaultBeside certificate.now.least certificate.now.most (O.program old.now) (N.program new.now) notes.now length) }
+    ensures exact { IsOk result ↔ (IsFor certificate.now length × Matches (O.program old.now) (N.program new.now) notes.now length) }
+    ensures err { IfErr result (IsFaultBeside certificate.now (O.program old.now) (N.program new.now) notes.now length) }
 {
     certificate.valid();
     let _slots = old.slots();

@@ -4,6 +4,9 @@ ghost use Rattle.std.specs.Prelude.{◌≡◌, true};
 ghost use Rattle.std.specs.List.{list_all};
 ghost use Rattle.std.specs.Option.{option_map_or};
 ghost use Rattle.bpf_insn.specs.Effects.{registers_read};
+ghost use Rattle.bpf_insn.specs.declared.instruction.AluOp.TheVariants.{Xor};
+ghost use Rattle.bpf_insn.specs.declared.instruction.Insn.TheVariants.{Alu};
+ghost use Rattle.bpf_insn.specs.declared.instruction.Reg.{Reg};
 ghost use Rattle.bpf_kept_law.specs.Rules.{put_into, operand_term, linear, computed, by_constant, by_terms, is_mask, reads_low, reads_same, result_term, keeps_low, is_same, is_low, has_low_result, low_result};
 
 use crate::facts::{is_low, is_same, own};
@@ -60,6 +63,17 @@ fn computed(facts: &[Fact], op: AluOp, dst: Reg, src: Operand) -> Option<Term>
     linear(op, a, b)
 }
 
+/// Of the complement.
+fn by_complement(facts: &[Fact], dst: Reg, imm: i32) -> Option<Term>
+    ensures { result ≡ by_constant facts.now Xor dst imm }
+{
+    if imm == -1 {
+        own(facts, dst).map(negated)
+    } else {
+        None
+    }
+}
+
 /// Of products by constants, shifts to the left and the complement.
 fn by_constant(facts: &[Fact], op: AluOp, dst: Reg, imm: i32) -> Option<Term>
     ensures { result ≡ by_constant facts.now op dst imm }
@@ -67,8 +81,31 @@ fn by_constant(facts: &[Fact], op: AluOp, dst: Reg, imm: i32) -> Option<Term>
     match op {
         AluOp::Mul => own(facts, dst).map(|t| times(extended(imm), t)),
         AluOp::Lsh => own(facts, dst).map(|t| times(1 << (extended(imm) % 64), t)),
-        AluOp::Xor if imm == -1 => own(facts, dst).map(negated),
-        _ => None,
+        AluOp::Xor => by_complement(facts, dst, imm),
+        AluOp::Add | AluOp::Sub | AluOp::Mov | AluOp::Div | AluOp::SDiv => None,
+        AluOp::Mod | AluOp::SMod | AluOp::Or | AluOp::And | AluOp::Rsh | AluOp::Arsh => None,
+    }
+}
+
+/// Of an operation.
+fn alu_by_terms(facts: &[Fact], op: AluOp, width: Width, dst: Reg, src: Operand) -> Option<Term>
+    ensures { result ≡ by_terms facts.now (Alu op width dst src) }
+{
+    match op {
+        AluOp::Mul | AluOp::Lsh | AluOp::Xor => match (width, src) {
+            (Width::W64, Operand::Imm(imm)) => by_constant(facts, op, dst, imm),
+            (Width::W64, Operand::Reg(_r)) => computed(facts, op, dst, src),
+            (Width::W32, _) => None,
+        },
+        AluOp::Add | AluOp::Sub | AluOp::Mov | AluOp::Div | AluOp::SDiv | AluOp::Mod =>
+            match width {
+                Width::W64 => computed(facts, op, dst, src),
+                Width::W32 => None,
+            },
+        AluOp::SMod | AluOp::Or | AluOp::And | AluOp::Rsh | AluOp::Arsh => match width {
+            Width::W64 => computed(facts, op, dst, src),
+            Width::W32 => None,
+        },
     }
 }
 
@@ -78,34 +115,19 @@ fn by_terms(facts: &[Fact], insn: &Insn) -> Option<Term>
 {
     match *insn {
         Insn::Alu {
-            op: AluOp::Mul,
-            width: Width::W64,
-            dst,
-            src: Operand::Imm(imm),
-        } => by_constant(facts, AluOp::Mul, dst, imm),
-        Insn::Alu {
-            op: AluOp::Lsh,
-            width: Width::W64,
-            dst,
-            src: Operand::Imm(imm),
-        } => by_constant(facts, AluOp::Lsh, dst, imm),
-        Insn::Alu {
-            op: AluOp::Xor,
-            width: Width::W64,
-            dst,
-            src: Operand::Imm(imm),
-        } => by_constant(facts, AluOp::Xor, dst, imm),
-        Insn::Alu {
             op,
-            width: Width::W64,
+            width,
             dst,
             src,
-        } => computed(facts, op, dst, src),
-        Insn::Neg {
-            width: Width::W64,
-            dst,
-        } => own(facts, dst).map(negated),
-        _ => None,
+        } => alu_by_terms(facts, op, width, dst, src),
+        Insn::Neg { width, dst } => match width {
+            Width::W64 => own(facts, dst).map(negated),
+            Width::W32 => None,
+        },
+        Insn::MovSx { .. } | Insn::End { .. } | Insn::LoadImm64 { .. } => None,
+        Insn::Load { .. } | Insn::LoadSx { .. } | Insn::Store { .. } => None,
+        Insn::StoreImm { .. } | Insn::Atomic { .. } | Insn::Ja { .. } => None,
+        Insn::JaLong { .. } | Insn::JumpIf { .. } | Insn::CallLocal { .. } | Insn::Exit => None,
     }
 }
 
@@ -118,28 +140,35 @@ fn is_mask(imm: i32) -> bool
     imm >= 0
 }
 
+/// Whether an operation reads low halves alone.
+fn alu_reads_low(op: AluOp, width: Width, src: Operand) -> bool
+    ensures { (dst : Reg) → result ≡ reads_low (Alu op width dst src) }
+{
+    match (width, op, src) {
+        (Width::W32, _, _) => true,
+        (Width::W64, AluOp::And, Operand::Imm(imm)) => is_mask(imm),
+        (Width::W64, _, _) => false,
+    }
+}
+
 /// Whether it reads low halves alone.
 fn reads_low(insn: &Insn) -> bool
     ensures { result ≡ reads_low insn.now }
 {
     match *insn {
-        Insn::Alu {
-            width: Width::W32,
-            ..
-        }
-        | Insn::Neg {
-            width: Width::W32,
-            ..
-        } => true,
-        Insn::Alu {
-            op: AluOp::And,
-            src: Operand::Imm(imm),
-            ..
-        } => is_mask(imm),
+        Insn::Alu { op, width, src, .. } => alu_reads_low(op, width, src),
+        Insn::Neg { width, .. } | Insn::JumpIf { width, .. } => match width {
+            Width::W32 => true,
+            Width::W64 => false,
+        },
         Insn::MovSx { .. } => true,
-        Insn::End { bits, .. } => !matches!(bits, EndBits::B64),
-        Insn::JumpIf { width, .. } => matches!(width, Width::W32),
-        _ => false,
+        Insn::End { bits, .. } => match bits {
+            EndBits::B16 | EndBits::B32 => true,
+            EndBits::B64 => false,
+        },
+        Insn::LoadImm64 { .. } | Insn::Load { .. } | Insn::LoadSx { .. } => false,
+        Insn::Store { .. } | Insn::StoreImm { .. } | Insn::Atomic { .. } => false,
+        Insn::Ja { .. } | Insn::JaLong { .. } | Insn::CallLocal { .. } | Insn::Exit => false,
     }
 }
 
@@ -220,14 +249,16 @@ fn keeps_low(op: AluOp) -> bool
 fn has_low_result(facts: &[Fact], insn: &Insn) -> bool
     ensures { result ≡ has_low_result facts.now insn.now }
 {
-    match *insn {
-        Insn::Alu {
-            op,
-            width: Width::W64,
-            ..
-        } => keeps_low(op) && all_low(facts, insn),
-        _ => false,
-    }
+    let Insn::Alu {
+        op,
+        width: Width::W64,
+        dst: _dst,
+        src: _src,
+    } = *insn
+    else {
+        return false;
+    };
+    keeps_low(op) && all_low(facts, insn)
 }
 
 /// That the low halves are the same, if they are.

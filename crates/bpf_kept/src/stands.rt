@@ -2,6 +2,7 @@
 
 ghost use Rattle.std.specs.Prelude.{◌≡◌, ◌<◌, ◌≤◌, ◌↔◌, ◌-◌, IsTrue};
 ghost use Rattle.bpf_insn.specs.Limits.{max_slots};
+ghost use Rattle.bpf_kept.specs.Fronts.{front};
 ghost use Rattle.bpf_kept_law.specs.Matching.{led, falls, leads, stands, makes, extra, adds, IsBody, IsExtra, HoldsAt};
 
 use crate::alike::{are_same, paired};
@@ -97,7 +98,7 @@ fn makes(moved: &Insn) -> Option<Change>
 /// What an extra instruction changes.
 #[tactic(auto, unfolding(bpf_kept_law::specs::Matching::extra))]
 fn extra<O: Code>(old: &O, site: GuardSite, facts: &[Fact], moved: &Insn) -> Option<Change>
-    ensures { result ≡ extra (record { old = O.program old.now; slot = site.slot; length = site.length }) facts.now moved.now }
+    ensures { result ≡ extra (front (O.program old.now) site.slot site.length) facts.now moved.now }
 {
     if passes(old, site, facts, moved) {
         Some(Change::Kept)
@@ -118,7 +119,7 @@ pub struct NewSlot {
 fn adds<O: Code>(old: &O, notes: &[Option<Note>], at: NewSlot, note: &Note, moved: &Insn) -> bool
     requires some { 0 < note.now.extras }
     requires below { at.slot < max_slots }
-    ensures { result ≡ adds notes.now (record { old = O.program old.now; slot = note.now.old; length = at.length }) note.now.facts (note.now.extras - 1) at.slot moved.now }
+    ensures { result ≡ adds notes.now (front (O.program old.now) note.now.old at.length) note.now.facts (note.now.extras - 1) at.slot moved.now }
 {
     let site = GuardSite {
         slot: note.old,
