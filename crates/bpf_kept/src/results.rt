@@ -4,10 +4,11 @@ ghost use Rattle.std.specs.Prelude.{◌≡◌, true};
 ghost use Rattle.std.specs.List.{list_all};
 ghost use Rattle.std.specs.Option.{option_map_or};
 ghost use Rattle.bpf_insn.specs.Effects.{registers_read};
+ghost use Rattle.bpf_insn.specs.Options.{◌>>=◌};
 ghost use Rattle.bpf_insn.specs.declared.instruction.AluOp.TheVariants.{Xor};
 ghost use Rattle.bpf_insn.specs.declared.instruction.Insn.TheVariants.{Alu};
 ghost use Rattle.bpf_insn.specs.declared.instruction.Reg.{Reg};
-ghost use Rattle.bpf_kept_law.specs.Rules.{put_into, operand_term, linear, computed, by_constant, by_terms, is_mask, reads_low, reads_same, result_term, keeps_low, is_same, is_low, has_low_result, low_result};
+ghost use Rattle.bpf_kept_law.specs.Rules.{put_into, operand_term, linear, computed, by_constant, by_terms, own, is_mask, reads_low, reads_same, result_term, keeps_low, is_same, is_low, has_low_result, low_result};
 
 use crate::facts::{is_low, is_same, own};
 use crate::terms::{minus, negated, plus, times, zero};
@@ -47,20 +48,31 @@ fn linear(op: AluOp, a: Term, b: Term) -> Option<Term>
     match op {
         AluOp::Add => Some(plus(a, b)),
         AluOp::Sub => Some(minus(a, b)),
-        _ => None,
+        AluOp::Mul | AluOp::Div | AluOp::SDiv | AluOp::Mod | AluOp::SMod | AluOp::Mov => None,
+        AluOp::Or | AluOp::And | AluOp::Xor | AluOp::Lsh | AluOp::Rsh | AluOp::Arsh => None,
     }
+}
+
+/// Of what both operands differ by.
+fn combined(facts: &[Fact], op: AluOp, dst: Reg, src: Operand) -> Option<Term>
+    ensures { result ≡ (own facts.now dst >>= λ a. operand_term facts.now src >>= λ b. linear op a b) }
+{
+    let a = own(facts, dst)?;
+    let b = operand_term(facts, src)?;
+    linear(op, a, b)
 }
 
 /// Of them and of moves.
 fn computed(facts: &[Fact], op: AluOp, dst: Reg, src: Operand) -> Option<Term>
     ensures { result ≡ computed facts.now op dst src }
 {
-    if let AluOp::Mov = op {
-        return operand_term(facts, src);
+    match op {
+        AluOp::Mov => operand_term(facts, src),
+        AluOp::Add | AluOp::Sub | AluOp::Mul => combined(facts, op, dst, src),
+        AluOp::Div | AluOp::SDiv | AluOp::Mod | AluOp::SMod => combined(facts, op, dst, src),
+        AluOp::Or | AluOp::And | AluOp::Xor => combined(facts, op, dst, src),
+        AluOp::Lsh | AluOp::Rsh | AluOp::Arsh => combined(facts, op, dst, src),
     }
-    let a = own(facts, dst)?;
-    let b = operand_term(facts, src)?;
-    linear(op, a, b)
 }
 
 /// Of the complement.
