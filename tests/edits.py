@@ -101,8 +101,7 @@ PLAIN = {
     "the new program alone stores": ["bpf_kept/extra-lets-a-store-of-the-new-program-alone"],
     "an edge leads elsewhere": ["bpf_kept/suits-takes-any-old-slot", "bpf_kept/leads-needs-no-target"],
     "the start asks for nothing": ["bpf_kept/matches-takes-any-start", "bpf_kept/all_hold-leaves-the-first-slot-out"],
-    "a certificate is of another length": ["bpf_kept/follows_certified-takes-a-certificate-of-another-length"],
-    "a byte of the context is taken for one outside": ["bpf_kept/past-takes-the-last-byte-for-one-outside"],
+    "a certificate is of another length": ["bpf_kept/is_for-takes-a-certificate-of-another-length"],
 }
 
 # Each command, as bpf_words names it, and each call of the library for hosts, as bpf.h does.

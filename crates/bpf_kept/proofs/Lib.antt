@@ -4,6 +4,6 @@ mod AheadLemmas
 mod StandLemmas
 mod FaultLemmas
 mod ShownLemmas
-mod HollowLemmas
 mod NumberLemmas
+mod RuleLemmas
 mod Further

@@ -2,7 +2,5 @@
 pub mod Shown
 -- why notes don't match
 pub mod NoteFaults
--- where nothing is shown
-pub mod Hollow
 -- what the code hands on
 pub mod Fronts

@@ -81,7 +81,7 @@ fn is_passed(insn: &Insn, r: Reg) -> bool
 }
 
 /// Whether such an access surely follows from a slot on.
-pub fn is_ahead<C: Code>(old: &C, slot: u32, r: Reg, need: Need) -> bool
+fn is_ahead<C: Code>(old: &C, slot: u32, r: Reg, need: Need) -> bool
     ensures { result ≡ is_ahead (C.program old.now) r slot need }
 {
     let mut slot = slot;

@@ -6,7 +6,6 @@ mod code;
 mod edges;
 mod facts;
 mod guards;
-mod length;
 mod made;
 mod note_fault;
 mod pass;
@@ -14,6 +13,5 @@ mod results;
 mod stands;
 mod terms;
 
-pub use length::leaves_context;
 pub use note_fault::NoteFault;
 pub use pass::{follows, follows_certified};

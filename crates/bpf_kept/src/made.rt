@@ -1,8 +1,8 @@
 //! What an extra instruction puts into a register of the new program alone.
 
-ghost use Rattle.std.specs.Prelude.{◌≡◌, false};
+ghost use Rattle.std.specs.Prelude.{◌≡◌, ◌&&◌, false};
 ghost use Rattle.std.specs.Option.{option_map_or};
-ghost use Rattle.bpf_kept_law.specs.Rules.{sum_base, difference_base, is_known, is_sum, is_difference, is_moved, made_by, known_number, known_operand, of_number, of_operand, by_operand, made, both, put_gives, made_gives, change_gives, holds_behind};
+ghost use Rattle.bpf_kept_law.specs.Rules.{is_register, sum_base, difference_base, is_known, is_sum, is_difference, is_moved, made_by, known_number, known_operand, of_number, of_operand, by_operand, made, both, put_gives, made_gives, change_gives, holds_behind};
 
 use crate::facts::{gives, is_base, is_register, stays};
 use crate::terms::{constant, frame_end, is_enough, minus, plus, zero};
@@ -205,11 +205,18 @@ fn put_gives(facts: &[Fact], fact: Fact, want: Fact) -> bool
         }
 }
 
+/// Whether it is of this register, and what the new program alone puts there is known so.
+fn is_made_so(facts: &[Fact], r: Reg, insn: &Insn, want: Fact) -> bool
+    ensures { result ≡ (is_register r want.of && made facts.now insn.now want) }
+{
+    is_register(r, want.of) && made(facts, insn, want)
+}
+
 /// Whether what the new program alone puts gives it, or the rest.
 fn made_gives(facts: &[Fact], r: Reg, insn: &Insn, want: Fact) -> bool
     ensures { result ≡ made_gives facts.now r insn.now want }
 {
-    (is_register(r, want.of) && made(facts, insn, want))
+    is_made_so(facts, r, insn, want)
         || facts
             .iter()
             .any(|have| !is_register(r, have.of) && gives(*have, want))

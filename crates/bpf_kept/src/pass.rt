@@ -105,6 +105,13 @@ pub fn follows<O: Code, N: Code>(
     matches(old, new, notes, length)
 }
 
+/// Whether a certificate is for contexts of so many bytes.
+fn is_for(certificate: &Certificate, length: u32) -> bool
+    ensures { IsTrue result ↔ IsFor certificate.now length }
+{
+    certificate.least() <= length && length <= certificate.most()
+}
+
 /// The same of a new program with a certificate for contexts of so many bytes: where that certifies it, it is never stuck.
 pub fn follows_certified<O: Code, N: Code>(
     old: &O,
@@ -123,7 +130,7 @@ pub fn follows_certified<O: Code, N: Code>(
     certified_keeps_flat_meaning();
     flat_meaning_is_far();
     flat_meaning_is_exact();
-    if length < certificate.least() || certificate.most() < length {
+    if !is_for(certificate, length) {
         return Err(NoteFault::Length);
     }
     matches(old, new, notes, length)

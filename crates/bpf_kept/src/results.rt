@@ -1,10 +1,9 @@
 //! What an instruction puts into a register, where both programs do it.
 
-ghost use Rattle.std.specs.Prelude.{◌≡◌, true};
+ghost use Rattle.std.specs.Prelude.{◌≡◌, true, option_and_then};
 ghost use Rattle.std.specs.List.{list_all};
 ghost use Rattle.std.specs.Option.{option_map_or};
 ghost use Rattle.bpf_insn.specs.Effects.{registers_read};
-ghost use Rattle.bpf_insn.specs.Options.{◌>>=◌};
 ghost use Rattle.bpf_insn.specs.declared.instruction.AluOp.TheVariants.{Xor};
 ghost use Rattle.bpf_insn.specs.declared.instruction.Insn.TheVariants.{Alu};
 ghost use Rattle.bpf_insn.specs.declared.instruction.Reg.{Reg};
@@ -55,7 +54,7 @@ fn linear(op: AluOp, a: Term, b: Term) -> Option<Term>
 
 /// Of what both operands differ by.
 fn combined(facts: &[Fact], op: AluOp, dst: Reg, src: Operand) -> Option<Term>
-    ensures { result ≡ (own facts.now dst >>= λ a. operand_term facts.now src >>= λ b. linear op a b) }
+    ensures { result ≡ option_and_then (λ a. option_and_then (linear op a) (operand_term facts.now src)) (own facts.now dst) }
 {
     let a = own(facts, dst)?;
     let b = operand_term(facts, src)?;

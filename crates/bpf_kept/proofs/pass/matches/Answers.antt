@@ -34,3 +34,7 @@ returns-then-not-starts-clause-err g c = (
 pub returns-then-not-same_order-clause-err : goal.returns-then-not-same_order-clause-err
 unfolding IsNoteFault
 returns-then-not-same_order-clause-err g c = λ same. false≢true (sym c.if-not-same_order.true ∙ c.same_order.ensures.1 (c.order.ensures ∙ same ∙ sym c.order-2.ensures))
+
+pub returns-then-notes-slots-clause-err : goal.returns-then-notes-slots-clause-err
+unfolding IsNoteFault
+returns-then-notes-slots-clause-err g c = (sym c.order.ensures ∙ c.same_order.ensures.0 c.if-not-same_order.false ∙ c.order-2.ensures, omega arith)
