@@ -2,6 +2,7 @@
 
 ghost use Rattle.std.specs.Prelude.{◌≡◌, ◌==◌, ◌+◌, ◌%◌, pos, ◌+ℤ◌, ◌-ℤ◌, false};
 ghost use Rattle.std.specs.Option.{option_map_or};
+ghost use Rattle.bpf_insn.specs.Arithmetic.{extended};
 ghost use Rattle.bpf_insn.specs.Effects.{register_written};
 ghost use Rattle.bpf_insn.specs.Instruction.{byte_count, register_number};
 ghost use Rattle.std.specs.Int.{cast_signed, w64};
@@ -182,6 +183,16 @@ fn guarded<C: Code>(old: &C, site: GuardSite, dst: Reg, limit: u64, fact: Fact) 
     is_register(dst, fact.of) && is_tested(old, site, limit, fact)
 }
 
+/// Whether a register is known to be no greater than a constant.
+fn is_below<C: Code>(old: &C, site: GuardSite, facts: &[Fact], dst: Reg, imm: i32) -> bool
+    ensures { result ≡ list_any (guarded (front (C.program old.now) site.slot site.length) dst (extended imm)) facts.now }
+{
+    let limit = extended(imm);
+    facts
+        .iter()
+        .any(|fact| guarded(old, site, dst, limit, *fact))
+}
+
 /// Whether an instruction is a guard that passes.
 #[tactic(auto, unfolding(bpf_kept_law::specs::Guards::passes))]
 pub fn passes<C: Code>(old: &C, site: GuardSite, facts: &[Fact], insn: &Insn) -> bool
@@ -197,8 +208,5 @@ pub fn passes<C: Code>(old: &C, site: GuardSite, facts: &[Fact], insn: &Insn) ->
     else {
         return false;
     };
-    let limit = extended(imm);
-    facts
-        .iter()
-        .any(|fact| guarded(old, site, dst, limit, *fact))
+    is_below(old, site, facts, dst, imm)
 }

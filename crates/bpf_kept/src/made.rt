@@ -2,6 +2,7 @@
 
 ghost use Rattle.std.specs.Prelude.{◌≡◌, ◌&&◌, false};
 ghost use Rattle.std.specs.Option.{option_map_or};
+ghost use Rattle.bpf_insn.specs.declared.instruction.Insn.TheVariants.{Alu};
 ghost use Rattle.bpf_kept_law.specs.Rules.{is_register, sum_base, difference_base, is_known, is_sum, is_difference, is_moved, made_by, known_number, known_operand, of_number, of_operand, by_operand, made, both, put_gives, made_gives, change_gives, holds_behind};
 
 use crate::facts::{gives, is_base, is_register, stays};
@@ -131,10 +132,11 @@ fn of_operand(src: Operand, fact: Fact) -> Option<Fact>
     }
 }
 
-/// An operation of 64 bits, and what is wanted of its result.
+/// An operation, and what is wanted of its result.
 #[derive(Clone, Copy)]
 struct WantedResult {
     op: AluOp,
+    width: Width,
     dst: Reg,
     src: Operand,
     want: Fact,
@@ -160,6 +162,19 @@ fn by_itself(facts: &[Fact], wanted: WantedResult) -> bool
     }
 }
 
+/// Whether the result is known as wanted, by the operand or by a fact of it.
+#[tactic(auto, unfolding(bpf_kept_law::specs::Rules::made))]
+fn is_computed(facts: &[Fact], wanted: WantedResult) -> bool
+    ensures { result ≡ made facts.now (Alu wanted.op wanted.width wanted.dst wanted.src) wanted.want }
+{
+    match wanted.width {
+        Width::W64 => {
+            by_itself(facts, wanted) || facts.iter().any(|fact| by_operand(facts, wanted, *fact))
+        }
+        Width::W32 => false,
+    }
+}
+
 /// Whether what an extra instruction puts is known as wanted.
 #[tactic(auto, unfolding(bpf_kept_law::specs::Rules::made))]
 fn made(facts: &[Fact], insn: &Insn, want: Fact) -> bool
@@ -168,21 +183,23 @@ fn made(facts: &[Fact], insn: &Insn, want: Fact) -> bool
     match *insn {
         Insn::Alu {
             op,
-            width: Width::W64,
+            width,
             dst,
             src,
         } => {
-            let wanted = WantedResult { op, dst, src, want };
-            by_itself(facts, wanted) || facts.iter().any(|fact| by_operand(facts, wanted, *fact))
+            let wanted = WantedResult {
+                op,
+                width,
+                dst,
+                src,
+                want,
+            };
+            is_computed(facts, wanted)
         }
         Insn::LoadImm64 { value, .. } => {
             is_moved(known_number(None, constant(value)), want)
                 || facts.iter().any(|fact| is_number(value, want, *fact))
         }
-        Insn::Alu {
-            width: Width::W32,
-            ..
-        } => false,
         Insn::Neg { .. } | Insn::MovSx { .. } | Insn::End { .. } => false,
         Insn::Load { .. } | Insn::LoadSx { .. } | Insn::Store { .. } => false,
         Insn::StoreImm { .. } | Insn::Atomic { .. } | Insn::Ja { .. } => false,
