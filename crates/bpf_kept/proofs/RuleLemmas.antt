@@ -1,5 +1,5 @@
 -- What the code tries first, and then.
-use Rattle.std.proofs.Common.{◌≡◌, Bool, true, false, None, sym, ap, ◌∙◌}
+use Rattle.std.proofs.Common.{◌≡◌, Bool, false, None, sym, ap, ◌∙◌}
 use Rattle.std.specs.Prelude.{ℕ, ◌||◌}
 use Rattle.std.specs.List.{list_any}
 use Rattle.std.specs.Option.{option_map_or}

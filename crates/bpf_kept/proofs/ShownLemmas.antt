@@ -1,5 +1,5 @@
 -- What notes that match show.
-use Rattle.std.proofs.Common.{ℕ, ◌<◌, ◌^◌, refl, arith}
+use Rattle.std.proofs.Common.{ℕ, ◌<◌, ◌^◌, arith}
 use Rattle.bpf_insn.specs.Image.{IsProgram}
 use Rattle.bpf_insn.specs.Instruction.{Instructions}
 use Rattle.bpf_kept_law.specs.Matching.{Notes, StandsForExit}

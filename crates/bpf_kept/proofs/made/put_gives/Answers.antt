@@ -1,10 +1,10 @@
-use Rattle.std.proofs.Common.{◌≡◌, Bool, true, false, None, sym, ap, ◌∙◌, rules, tests}
-use Rattle.std.specs.Prelude.{not, ◌&&◌, ◌||◌}
+use Rattle.std.proofs.Common.{false, sym, ap, ◌∙◌, rules, tests}
+use Rattle.std.specs.Prelude.{◌&&◌}
 use Rattle.std.specs.List.{list_any}
 use Rattle.std.specs.Option.{option_map_or}
 use Rattle.std.proofs.lemmas.Iterator.{YieldsList-from_slice}
 use Rattle.std.proofs.lemmas.Iterator.Search.{any_from_yields_List}
-use Rattle.bpf_kept_law.specs.Rules.{gives, stays, put_gives}
+use Rattle.bpf_kept_law.specs.Rules.{gives, stays}
 use Rattle.bpf_kept.proofs.RuleLemmas.{or_else}
 use Rattle.bpf_kept.proofs.made.put_gives.Goals as goal
 
