@@ -19,8 +19,8 @@
 extern "C" {
 #endif
 
-/* The version of this header, 0.3.0, as one number: 10,000 times its first part, 100 times its second, and its third, together. */
-#define BPF_HOST_VERSION 300
+/* The version of this header, 0.3.1, as one number: 10,000 times its first part, 100 times its second, and its third, together. */
+#define BPF_HOST_VERSION 301
 
 /* The greatest image that there is, in bytes. */
 enum { BPF_IMAGE_MOST = 524288 };

@@ -35,8 +35,8 @@ use prepared::{has_room, put, size_for};
 use runs::outcome_of;
 use std::alloc::Global;
 
-/// Version 0.3.0.
-const VERSION: u32 = 300;
+/// Version 0.3.1.
+const VERSION: u32 = 301;
 
 /// The library's version as one number: 10,000 times its first part, 100 times its second, and its third, together.
 pub fn version() -> u32
