@@ -50,6 +50,12 @@ static uint64_t unverified(void) {
     return end.value;
 }
 
+static uint64_t prepared(void) {
+    struct bpf_outcome end;
+    bpf_run_prepared(words, sizeof words / sizeof *words, frame, sizeof frame, 1000, &end);
+    return end.value;
+}
+
 static uint64_t verifying(void) {
     struct bpf_verdict verdict;
     return bpf_verify(image, image_len, BPF_LITTLE, certificate, certificate_len, &verdict, NULL) == BPF_YES;
@@ -85,6 +91,7 @@ int main(int argc, char **argv) {
     time_it("bpf_run_loaded", loaded, runs);
     time_it("bpf_run_checked", checked, runs);
     time_it("bpf_run", unverified, runs);
+    time_it("bpf_run_prepared", prepared, runs);
     time_it("bpf_prepare", preparing, runs);
     time_it("bpf_verify", verifying, runs / 10 + 1);
     time_it("bpf_load", loading, runs / 10 + 1);

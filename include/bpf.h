@@ -144,6 +144,8 @@ int32_t bpf_host_run_loaded(const uint8_t *memory, size_t memory_len, const uint
                             uint64_t *value);
 int32_t bpf_host_run(const uint8_t *image, size_t image_len, uint32_t order, const uint8_t *context, size_t context_len,
                      uint64_t fuel, struct bpf_outcome *outcome);
+int32_t bpf_host_run_prepared(const uint8_t *memory, size_t memory_len, const uint8_t *context, size_t context_len,
+                              uint64_t fuel, struct bpf_outcome *outcome);
 int32_t bpf_host_follows(const uint8_t *old_image, size_t old_len, const uint8_t *new_image, size_t new_len, uint32_t order,
                          const uint8_t *notes, size_t notes_len, uint32_t size, uint32_t turns, uint32_t padded, uint32_t untouched,
                          struct bpf_refusal *refusal);
@@ -253,7 +255,7 @@ static inline size_t bpf_prepared_size(size_t image_len) {
     return bpf_host_prepared_size(image_len);
 }
 
-/* Prepares the program of an image for bpf_run_checked, in words of the caller; what they hold is the library's, and another version
+/* Prepares the program of an image for bpf_run_checked and bpf_run_prepared, in words of the caller; what they hold is the library's, and another version
  * doesn't run it. It may be copied and moved. BPF_YES. BPF_NO: the image is refused (bpf_verify says why).
  * BPF_TOO_SMALL: there are fewer words than bpf_prepared_size(image_len), whatever the image holds. Before both, BPF_BAD_CALL: an
  * order that isn't one; BPF_BAD_MEMORY: no bytes, no words, or words that lie in the image. Only BPF_YES changes the words. Nothing is
@@ -348,6 +350,26 @@ static inline int32_t bpf_run(const void *image, size_t image_len, uint32_t orde
     if (!bpf_is_apart(outcome, sizeof *outcome, image, image_len, context, context_len)) return BPF_BAD_MEMORY;
     answer = bpf_host_run(bpf_bytes(image), image_len, order, bpf_bytes(context), context_len, fuel, &end);
     if ((answer == BPF_YES || answer == BPF_NO) && outcome) *outcome = end;
+    return answer;
+}
+
+/* Runs a prepared program that nobody verified, as bpf_run runs its image, which isn't judged again at each call. BPF_YES: it ran, and
+ * *outcome says how that ended. BPF_BAD_MEMORY: no words, no bytes, or an outcome that lies in them. BPF_BAD_LENGTH: a context of more than
+ * 4,096 bytes. BPF_BAD_WORDS: another version prepared the words, or there are fewer than the image takes. *outcome stays then. Nothing is
+ * allocated.
+ *
+ * The caller's duty, which nobody looks at here: bpf_prepare said BPF_YES to these words, and they are as it left them. Where that
+ * isn't so, nothing is promised of what comes. */
+static inline int32_t bpf_run_prepared(const uint64_t *words, size_t words_len, const void *context, size_t context_len,
+                                       uint64_t fuel, struct bpf_outcome *outcome) {
+    struct bpf_outcome end = {0, 0, 0, 0, 0};
+    int32_t answer;
+    if (!bpf_are_words(words, words_len) || !bpf_are_bytes(context, context_len)) return BPF_BAD_MEMORY;
+    if (!bpf_is_apart(outcome, sizeof *outcome, words, 8 * words_len, context, context_len)) return BPF_BAD_MEMORY;
+    if (context_len > 4096) return BPF_BAD_LENGTH;
+    if (words_len < BPF_PREPARED_HEAD) return BPF_BAD_WORDS;
+    answer = bpf_host_run_prepared((const uint8_t *)words, 8 * words_len, bpf_bytes(context), context_len, fuel, &end);
+    if (answer == BPF_YES && outcome) *outcome = end;
     return answer;
 }
 

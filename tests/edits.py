@@ -123,6 +123,7 @@ CALLS = {
     "bpf_host_run": ["bpf_host_runs/run-gives-half-the-fuel"],
     "bpf_host_run_checked": ["bpf_host_runs/run_checked-runs-what-another-version-prepared"],
     "bpf_host_run_loaded": ["bpf_host_runs/run_loaded-takes-any-shorter-context"],
+    "bpf_host_run_prepared": ["bpf_host_runs/run_prepared-gives-one-step-more"],
     "bpf_host_verify": ["bpf_host_runs/verify-tells-the-least-as-the-most"],
 }
 # Those whose answer is an equation, or isn't pinned by a clause (docs/PROOFS.md, "What no clause says").

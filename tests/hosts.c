@@ -90,6 +90,13 @@ static void say_run(uint32_t order, const struct bytes *image, const struct byte
         puts("2 context too long");
         return;
     }
+    if (end.kind != BPF_NOT_RUN) {
+        struct bpf_outcome again = {7, 7, 7, 7, 7};
+        struct prepared p = prepare(image, order, (struct bpf_verdict){0, 0, 0});
+        if (bpf_run_prepared(p.words, p.len, context->at, context->len, fuel, &again) != BPF_YES) abort();
+        if (memcmp(&again, &end, sizeof end)) abort();
+        free(p.words);
+    }
     switch (end.kind) {
     case BPF_DONE: printf("0 done %llu steps %llu\n", (unsigned long long)end.value, (unsigned long long)end.steps); break;
     case BPF_FAULTED:
@@ -517,6 +524,31 @@ static void bad_preparing(void) {
     WANTS(value, 0);
 }
 
+static void bad_prepared_runs(void) {
+    static const uint8_t long_context[4097];
+    uint64_t words[8];
+    size_t size = bpf_prepared_size(sizeof image);
+    struct bpf_outcome end = {7, 7, 7, 7, 7};
+    WANTS(bpf_prepare(IMAGE, BPF_LITTLE, words, 8), BPF_YES);
+    WANTS(bpf_run_prepared(NULL, 8, NULL, 0, 9, &end), BPF_BAD_MEMORY);
+    WANTS(bpf_run_prepared((uint64_t *)(void *)((char *)words + 1), 7, NULL, 0, 9, &end), BPF_BAD_MEMORY);
+    WANTS(bpf_run_prepared(words, size, NULL, 1, 9, &end), BPF_BAD_MEMORY);
+    WANTS(bpf_run_prepared(words, size, long_context, HUGE_LEN, 9, &end), BPF_BAD_MEMORY);
+    WANTS(bpf_run_prepared(words, 8, NULL, 0, 9, (void *)(words + size)), BPF_BAD_MEMORY);
+    WANTS(bpf_run_prepared(words, size, long_context, 4097, 9, &end), BPF_BAD_LENGTH);
+    WANTS(bpf_run_prepared(words, 0, long_context, 4097, 9, &end), BPF_BAD_LENGTH);
+    for (size_t len = 0; len < size; len++) WANTS(bpf_run_prepared(words, len, NULL, 0, 9, &end), BPF_BAD_WORDS);
+    words[1] += 2;
+    WANTS(bpf_run_prepared(words, size, NULL, 0, 9, &end), BPF_BAD_WORDS);
+    words[1] -= 2;
+    WANTS(end.kind == 7 && end.steps == 7, 1);
+    WANTS(bpf_run_prepared(words, size, long_context, 4096, 9, NULL), BPF_YES);
+    WANTS(bpf_run_prepared(words, size, NULL, 0, 1, &end), BPF_YES);
+    WANTS(end.kind, BPF_OUT_OF_FUEL);
+    WANTS(bpf_run_prepared(words, 8, NULL, 0, 2, &end), BPF_YES);
+    WANTS(end.kind == BPF_DONE && end.steps == 2, 1);
+}
+
 static void bad_loading(void) {
     uint64_t words[12] = {7, 7, 7, 7, 7, 7, 7, 7, 7, 7, 7, 7};
     size_t size = bpf_loaded_size(sizeof image);
@@ -919,6 +951,8 @@ static void refuse_runs(const struct bytes *program) {
     WANTS(bpf_prepare(program->at, program->len, BPF_LITTLE, words, 4096), BPF_YES);
     WANTS(bpf_run_checked(words, 4096, context, 16, NULL), BPF_YES);
     WANTS(bpf_run(program->at, program->len, BPF_LITTLE, context, 16, 1000, &end), BPF_YES);
+    WANTS(end.kind, BPF_DONE);
+    WANTS(bpf_run_prepared(words, 4096, context, 16, 1000, &end), BPF_YES);
     WANTS(end.kind, BPF_DONE);
     growths = -1;
 }

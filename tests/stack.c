@@ -104,6 +104,8 @@ static void *run(void *at) {
     job->wrong |= bpf_run_loaded(job->handle, bpf_loaded_size(job->image_len), context, job->verdict.least, &again) != BPF_YES || again != result;
     job->wrong |= bpf_run(job->image, job->image_len, BPF_LITTLE, context, job->verdict.least, 1000000, &outcome) != BPF_YES;
     job->wrong |= outcome.kind != BPF_DONE || outcome.value != result;
+    outcome.value = ~result;
+    job->wrong |= bpf_run_prepared(job->words, len, context, job->verdict.least, 1000000, &outcome) != BPF_YES || outcome.value != result;
     return NULL;
 }
 

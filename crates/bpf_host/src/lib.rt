@@ -11,7 +11,7 @@ ghost use Rattle.bpf_check.specs.Verdicts.{Verified, Promises, Certifies};
 ghost use Rattle.bpf_host_runs.specs.Told.{order_named, IsVerdictOf};
 ghost use Rattle.bpf_host_runs.specs.Prepared.{IsPrepared, IsMarked, IsWhole, prepared_head, version};
 ghost use Rattle.bpf_host_runs.specs.Loaded.{handle_head, IsLoaded, IsMarkedHandle, IsWholeHandle, HoldsLoaded, EndsAsLoaded, loaded_least, loaded_most};
-ghost use Rattle.bpf_host_runs.specs.Answers.{IsRefusedAsTold, IsNoImage, RanImage, IsUnrun, MayRun, EndsAsPrepared};
+ghost use Rattle.bpf_host_runs.specs.Answers.{IsRefusedAsTold, IsNoImage, RanImage, RanPrepared, IsUnrun, HoldsProgram, MayRun, EndsAsPrepared};
 ghost use Rattle.bpf_host_advice.specs.Explained.{IsSomeImage};
 ghost use Rattle.bpf_host_advice.specs.Sizes.{infer_size, explain_size};
 ghost use Rattle.bpf_host_advice.specs.Texts.{refusal_text, answer_text, IsNumbered};
@@ -115,6 +115,25 @@ pub extern "C" fn bpf_host_run_checked(memory: &[u8], context: &[u8], value: &mu
     ensures kept { (result ≡ YES) ⊎ (value.new ≡ value.old) }
 {
     bpf_host_runs::run_checked(memory, context, value)
+}
+
+/// `run_prepared` of `bpf_host_runs`, for C.
+#[unsafe(no_mangle)]
+pub extern "C" fn bpf_host_run_prepared(
+    memory: &[u8],
+    context: &[u8],
+    fuel: u64,
+    outcome: &mut BpfOutcome,
+) -> i32
+    requires head { prepared_head ≤ length memory.now }
+    requires program { IsMarked memory.now → IsWhole memory.now → HoldsProgram memory.now }
+    ensures ran { result ≡ YES → RanPrepared memory.now context.now fuel outcome.new }
+    ensures long { (result ≡ BAD_LENGTH) ↔ (max_context < length context.now) }
+    ensures runs { (result ≡ YES) ↔ ((length context.now ≤ max_context) × (IsMarked memory.now × IsWhole memory.now)) }
+    ensures answers { (result ≡ YES) ⊎ (result ≡ BAD_LENGTH) ⊎ (result ≡ BAD_WORDS) }
+    ensures kept { (result ≡ YES) ⊎ (outcome.new ≡ outcome.old) }
+{
+    bpf_host_runs::run_prepared(memory, context, fuel, outcome)
 }
 
 /// `loaded_size` of `bpf_host_runs`, for C.

@@ -39,6 +39,25 @@ pub record RanImage (order : Order) (image context : List ℕ) (fuel : ℕ) (tol
   pub is_run : IsRun (program_in order program) context fuel outcome
   pub tells : TellsOutcome outcome told
 
+-- memory holds a prepared program, verified or not
+pub record HoldsProgram (memory : List ℕ) : Type 0 where
+  pub order : Order
+  pub image : List ℕ
+  pub is_prepared : IsPrepared order image memory
+  pub program : List Insn
+  pub is_image : IsImageOfProgram order image program
+
+-- the program that is prepared in memory ends so on a context
+abbrev pub IsRunOfPrepared : List ℕ → List ℕ → ℕ → Outcome → Type 0
+IsRunOfPrepared memory context fuel outcome =
+    (order : Order) (image : List ℕ) (is : List Insn) → IsPrepared order image memory → IsImageOfProgram order image is → IsRun (program_in order is) context fuel outcome
+
+-- a run of the program that is prepared in memory, as is told
+pub record RanPrepared (memory context : List ℕ) (fuel : ℕ) (told : BpfOutcome) : Type 0 where
+  pub outcome : Outcome
+  pub is_run : IsRunOfPrepared memory context fuel outcome
+  pub tells : TellsOutcome outcome told
+
 -- an image that isn't run, since it is refused, as is told
 abbrev pub IsUnrun : Order → List ℕ → BpfOutcome → Type 0
 IsUnrun order image told = (e : DecodeError) × IsRefused order image e × TellsUnrun e told

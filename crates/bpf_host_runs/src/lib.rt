@@ -11,7 +11,7 @@ ghost use Rattle.bpf_check.specs.Verdicts.{Verified, Promises, Certifies};
 ghost use Rattle.bpf_host_runs.specs.Told.{order_named, IsVerdictOf};
 ghost use Rattle.bpf_host_runs.specs.Prepared.{IsPrepared, IsMarked, IsWhole, prepared_head, version};
 ghost use Rattle.bpf_host_runs.specs.Loaded.{handle_head, IsLoaded, IsMarkedHandle, IsWholeHandle, HoldsLoaded, EndsAsLoaded, loaded_least, loaded_most};
-ghost use Rattle.bpf_host_runs.specs.Answers.{IsRefusedAsTold, IsNoImage, RanImage, IsUnrun, MayRun, EndsAsPrepared};
+ghost use Rattle.bpf_host_runs.specs.Answers.{IsRefusedAsTold, IsNoImage, RanImage, RanPrepared, IsUnrun, HoldsProgram, MayRun, EndsAsPrepared};
 ghost use Rattle.bpf_host_runs.specs.declared.answers.TheConstants.{YES, NO, NO_MEMORY, BAD_CALL, TOO_SMALL, TOO_LONG, BAD_LENGTH, BAD_WORDS};
 
 mod answers;
@@ -32,7 +32,7 @@ use checked::{end_of, end_of_image};
 use judged::{Given, kept, told};
 use loaded::{found_loaded, handle_size, takes};
 use prepared::{has_room, put, size_for};
-use runs::outcome_of;
+use runs::{outcome_of, outcome_of_prepared};
 use std::alloc::Global;
 
 /// Version 0.3.1.
@@ -139,6 +139,28 @@ pub fn prepare(image: &[u8], order: u32, memory: &mut [u8]) -> i32
         return TOO_SMALL;
     }
     put(image, order, memory);
+    YES
+}
+
+/// Runs a prepared program that nobody verified, as `run` does, and doesn't judge its image again. 1: it ran, and `outcome` says how
+/// it ended. -5: the context is too long. -6: another version prepared it, or bytes of it aren't there. What isn't answered
+/// stays as it was. It takes no memory.
+pub fn run_prepared(memory: &[u8], context: &[u8], fuel: u64, outcome: &mut BpfOutcome) -> i32
+    requires head { prepared_head ≤ length memory.now }
+    requires program { IsMarked memory.now → IsWhole memory.now → HoldsProgram memory.now }
+    ensures ran { result ≡ YES → RanPrepared memory.now context.now fuel outcome.new }
+    ensures long { (result ≡ BAD_LENGTH) ↔ (max_context < length context.now) }
+    ensures runs { (result ≡ YES) ↔ ((length context.now ≤ max_context) × (IsMarked memory.now × IsWhole memory.now)) }
+    ensures answers { (result ≡ YES) ⊎ (result ≡ BAD_LENGTH) ⊎ (result ≡ BAD_WORDS) }
+    ensures kept { (result ≡ YES) ⊎ (outcome.new ≡ outcome.old) }
+{
+    if context.len() > MAX_CONTEXT {
+        return BAD_LENGTH;
+    }
+    let Some(end) = outcome_of_prepared(memory, context, fuel) else {
+        return BAD_WORDS;
+    };
+    *outcome = of_outcome(end);
     YES
 }
 

@@ -1,14 +1,17 @@
 //! Runs of images that nobody verified. Those of checked programs are in `checked.rt` and `loaded.rt`, the calls in `lib.rt`.
 
-ghost use Rattle.std.specs.Prelude.{◌≤◌, List, length};
+ghost use Rattle.std.specs.Prelude.{◌≤◌, ◌↔◌, IsSome, IfSome, List, length};
 ghost use Rattle.bpf_insn.specs.Limits.{max_context};
 ghost use Rattle.bpf_insn.specs.Laws.{IsImageOfProgram};
 ghost use Rattle.bpf_insn.specs.declared.instruction.Insn.{Insn as Instruction};
 ghost use Rattle.bpf_check.specs.Verdicts.{program_in};
 ghost use Rattle.bpf_machine.specs.Answers.{IsRun};
+ghost use Rattle.bpf_host_runs.specs.Answers.{HoldsProgram, IsRunOfPrepared};
+ghost use Rattle.bpf_host_runs.specs.Prepared.{IsMarked, IsWhole, prepared_head};
 ghost use Rattle.bpf_host_runs.specs.Told.{order_named};
 
 use crate::ordered::Ordered;
+use crate::prepared::found_in;
 use bpf_insn::Order;
 use bpf_machine::{Outcome, run};
 
@@ -32,4 +35,16 @@ pub(crate) fn outcome_of(image: &[u8], order: Order, context: &[u8], fuel: u64) 
         Order::Little => outcome_in::<0>(image, context, fuel),
         Order::Big => outcome_in::<1>(image, context, fuel),
     }
+}
+
+/// How a prepared program ends on a context; None where another version prepared it, or words of it aren't there.
+pub(crate) fn outcome_of_prepared(memory: &[u8], context: &[u8], fuel: u64) -> Option<Outcome>
+    requires head { prepared_head ≤ length memory.now }
+    requires program { IsMarked memory.now → IsWhole memory.now → HoldsProgram memory.now }
+    requires short { length context.now ≤ max_context }
+    ensures run { IfSome result (IsRunOfPrepared memory.now context.now fuel) }
+    ensures known { IsSome result ↔ (IsMarked memory.now × IsWhole memory.now) }
+{
+    let found = found_in(memory)?;
+    Some(outcome_of(found.image, found.order, context, fuel))
 }
