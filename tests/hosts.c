@@ -905,6 +905,7 @@ static int bad(void) {
     bad_checks();
     bad_runs();
     bad_preparing();
+    bad_prepared_runs();
     bad_loading();
     other_versions();
     bad_explanations();
