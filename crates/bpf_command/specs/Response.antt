@@ -1,6 +1,7 @@
 -- What the command answers to its words, whatever they ask for.
-use Rattle.std.specs.Prelude.{◌≡◌, ◌≢◌, ◌⊎◌, ⊤, Bool, true, false, List, [], ◌∷◌, ℕ, Option, Some, None, Result, Ok, Err, MatchResult}
+use Rattle.std.specs.Prelude.{◌≡◌, ◌≢◌, ◌⊎◌, ⊤, Bool, true, false, List, [], ◌∷◌, map, ℕ, String, Option, Some, None, Result, Ok, Err, MatchResult}
 use Rattle.std.specs.Io.KnownBytes.{Keeps}
+use Rattle.std.specs.String.{string_bytes}
 use Rattle.clap.specs.Words.{Text, subcommand_of}
 use Rattle.bpf_request.specs.CommandLine.{IsAsked, bpf, faults_in}
 use Rattle.bpf_request.specs.declared.words.Request.{Request}
@@ -41,8 +42,8 @@ pub record AtNames (S : Type 0) : Type 1 where
   pub old : S
   pub new : S
 
-abbrev pub at_names : {S W : Type 0} → Meeting S → Opening S → (S → List ℕ → Option W → S → Type 0) → (S → W → Bool → S → Type 0) → (W → Option (List ℕ)) → S → S → AtNames S
-at_names meets opens creates ends contents old new =
+abbrev pub names : {S W : Type 0} → Meeting S → Opening S → (S → List ℕ → Option W → S → Type 0) → (S → W → Bool → S → Type 0) → (W → Option (List ℕ)) → S → S → AtNames S
+names meets opens creates ends contents old new =
     record {
       meets = meets;
       opens = opens;
@@ -162,16 +163,20 @@ Replied n before after request result =
 abbrev pub Fails : {S : Type 0} → AtNames S → Option (List ℕ) → Option (List ℕ) → Request → Failure → Type 0
 Fails n before after request failure = Performs n before after request (Err failure) ⊎ Replied n before after request (Err failure)
 
--- A request is done, and what was found is printed, with its status; or it fails, which is told with its status.
-abbrev pub Serves : {S : Type 0} → AtNames S → Option (List ℕ) → Option (List ℕ) → Request → ℕ → Option (List ℕ) → Option (List ℕ) → Type 0
-Serves n before after request status old new =
-    (Replied n before after request (Ok status) × Keeps old new)
-    ⊎ ((failure : Failure) × Fails n before after request failure × IsTold failure status old new)
+-- A request is done, and what was found is printed, with its status; or it fails, which is told with its status. `out` and `err` say what stands on
+-- standard output and on standard error.
+abbrev pub Serves : {S W E : Type 0} → AtNames S → (out : W → Option (List ℕ)) → W → W → Request → ℕ → (err : E → Option (List ℕ)) → E → E → Type 0
+Serves n out before after request status err old new =
+    (Replied n (out before) (out after) request (Ok status) × Keeps (err old) (err new))
+    ⊎ ((failure : Failure) × Fails n (out before) (out after) request failure × IsTold failure status (err old) (err new))
 
 -- Of words with nothing wrong in them, what they ask for is served; words with something wrong have status 2; or there is no memory for the words,
 -- which is told. In the last two nothing is touched.
-abbrev pub Responds : {S : Type 0} → AtNames S → Option (List ℕ) → Option (List ℕ) → List Text → ℕ → Option (List ℕ) → Option (List ℕ) → Type 0
-Responds n before after words status old new =
-    ((request : Request) × (faults_in words ≡ []) × IsAsked (subcommand_of bpf words) request × Serves n before after request status old new)
-    ⊎ ((faults_in words ≢ []) × (status ≡ 2) × Untouched n before after)
-    ⊎ (IsTold NoMemory status old new × Untouched n before after)
+abbrev pub RespondsTo : {S W E : Type 0} → List Text → AtNames S → (out : W → Option (List ℕ)) → W → W → ℕ → (err : E → Option (List ℕ)) → E → E → Type 0
+RespondsTo words n out before after status err old new =
+    ((request : Request) × (faults_in words ≡ []) × IsAsked (subcommand_of bpf words) request × Serves n out before after request status err old new)
+    ⊎ ((faults_in words ≢ []) × (status ≡ 2) × Untouched n (out before) (out after))
+    ⊎ (IsTold NoMemory status (err old) (err new) × Untouched n (out before) (out after))
+
+abbrev pub Responds : {S W E Z : Type 0} → AtNames S → (out : W → Option (List ℕ)) → W → W → List (String Z) → ℕ → (err : E → Option (List ℕ)) → E → E → Type 0
+Responds n out before after words status err old new = RespondsTo (map (λ s. string_bytes s) words) n out before after status err old new
