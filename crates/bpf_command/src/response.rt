@@ -130,7 +130,8 @@ fn serve<P: Places, W: Write, E: Write, H: Aside>(
     };
     match found.print(out) {
         Ok(status) => {
-            tell_remark(alloc, &*aside, remark_of(asked, &found), found.lines());
+            let remark = remark_of(asked, &found);
+            tell_remark(alloc, &*aside, asked, &found, remark);
             status
         }
         Err(failure) => tell_failure(failure, asked, &*places, err, &*aside),
