@@ -1,7 +1,6 @@
 //! The calls that explain.
 
-ghost use Rattle.std.specs.Prelude.{◌≡◌, ◌⊎◌, ◌↔◌, ◌<◌, ◌≤◌, Some, None, length};
-ghost use Rattle.bpf_insn.specs.Limits.{max_context};
+ghost use Rattle.std.specs.Prelude.{◌≡◌, ◌⊎◌, ◌↔◌, ◌<◌, Some, None, length};
 ghost use Rattle.bpf_host_runs.specs.Told.{order_named};
 ghost use Rattle.bpf_host_runs.specs.Answers.{IsRefusedAsTold};
 ghost use Rattle.bpf_host_advice.specs.Explained.{IsNoRange, IsSomeImage, IsRefusedImage, IsCertifiedBySome, IsFound, IsNotFound, GivesWords};

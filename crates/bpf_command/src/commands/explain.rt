@@ -1,14 +1,7 @@
 //! `bpf explain IN`, and the same with a certificate, over the inferrer's work, and of a text.
 
-ghost use Rattle.std.specs.Prelude.{◌≡◌, ◌≤◌, ◌<◌, IfOk, IfErr, IfSome, IfNone, None, false, ◌∷◌, []};
+ghost use Rattle.std.specs.Prelude.{◌≡◌, IfOk, IfErr, IfSome, IfNone, None, false, ◌∷◌, []};
 ghost use Rattle.std.specs.String.{string_bytes};
-ghost use Rattle.bpf_insn.specs.Instruction.{slots};
-ghost use Rattle.bpf_insn.specs.Limits.{max_context};
-ghost use Rattle.bpf_cert.specs.Limits.{IsCertificate};
-ghost use Rattle.bpf_safety.specs.Certified.{IsLeastFlaw};
-ghost use Rattle.bpf_check.specs.CheckedProgram.{IsCertifiedBy};
-ghost use Rattle.bpf_check.specs.RefusalNumbers.{refusal_number, refusal_slot};
-ghost use Rattle.bpf_infer_error.specs.RefusalNumbers.{infer_slot};
 ghost use Rattle.bpf_command.specs.Names.{behind_lines, names_explained, names_opened};
 ghost use Rattle.bpf_answers.specs.Loaded.{CertificateFails, ImageFails, OpensFirst, ReadableFails, ReadsCertificateAt, Tried};
 ghost use Rattle.bpf_command.specs.Explained.{Answers, ExplainFails, ExplainSays, ExplainWithFails, ExplainWithSays, HardenedSays, JudgesOf, LinesAt, LinesFail, SoughtSays, TaskSays, TextSays};
