@@ -416,7 +416,7 @@ static int table(void) {
 
 static int texts(void) {
     char text[128];
-    for (const char *kind = "ABCEFHIKMN"; *kind; kind++)
+    for (const char *kind = "ABCEFHIKMNP"; *kind; kind++)
         for (uint32_t n = 1; bpf_refusal_text((uint32_t)*kind, n, text, sizeof text); n++) printf("%c%u %s\n", *kind, n, text);
     return 0;
 }
@@ -872,7 +872,7 @@ static void bad_answers(void) {
 }
 
 static void bad_texts(void) {
-    static const struct { char kind; uint32_t count; } kinds[] = {{'A', 7}, {'B', 10}, {'C', 13}, {'E', 10}, {'F', 9}, {'H', 15}, {'I', 5}, {'K', 5}, {'M', 7}, {'N', 2}};
+    static const struct { char kind; uint32_t count; } kinds[] = {{'A', 7}, {'B', 10}, {'C', 13}, {'E', 10}, {'F', 9}, {'H', 15}, {'I', 5}, {'K', 5}, {'M', 7}, {'N', 2}, {'P', 5}};
     char text[128] = "as it was";
     for (size_t i = 0; i < sizeof kinds / sizeof *kinds; i++) {
         WANTS(bpf_refusal_text((uint32_t)kinds[i].kind, 0, text, sizeof text), 0);

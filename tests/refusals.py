@@ -9,17 +9,19 @@ import sys
 
 ROOT = pathlib.Path(__file__).resolve().parent.parent
 SPECS = "crates/bpf_refusals/specs/Letters.antt"
+# Its errors are printed as sentences, and stand in the table, too.
+CAPTURES = "crates/bpf_pcap/src/error.rt"
 
 # Which letters a document lists: in rows of a table (`| E4 |`), or anywhere.
 LISTS = {
-    "docs/bpf.1": "ABCEFHIKMN",
+    "docs/bpf.1": "ABCEFHIKMNP",
     "docs/INSTRUCTIONS.md": "E",
     "docs/MACHINE.md": "F",
     "docs/ASSEMBLY.md": "A",
     "docs/CERTIFICATES.md": "K",
     "docs/CHECKER.md": "C",
     "docs/CLASSIC.md": "B",
-    "docs/COMMAND.md": "IN",
+    "docs/COMMAND.md": "INP",
     "docs/HARDENING.md": "HMN",
 }
 
@@ -44,7 +46,7 @@ def table():
 
     codes = dict(re.findall(r"^code_of (\w+) = (\d+)$", text, re.M))
     names = dict(re.findall(r"^texts_of (\w+) = (\w+)$", text, re.M))
-    assert codes.keys() == names.keys() and len(codes) == 10, (codes, names)
+    assert codes.keys() == names.keys() and len(codes) == 11, (codes, names)
     return {chr(int(code)): said(names[letter]) for letter, code in codes.items()}
 
 
@@ -79,10 +81,16 @@ def unnumbered(name, refusals):
                 yield f"{name}:{at}: `{sentence}` is said by {' and '.join(numbers)}"
 
 
+def printed(name):
+    """What the errors of a file say where they are printed, one behind the other."""
+    return re.findall(r'#\[error\("([^"]*)"\)\]', (ROOT / name).read_text())
+
+
 def main():
     refusals = table()
     faults = [fault for name, letters in LISTS.items() for fault in missing(name, letters, refusals)]
     faults += [fault for path in sorted(ROOT.glob("docs/*.md")) for fault in unnumbered(path.relative_to(ROOT), refusals)]
+    faults += [f"{CAPTURES} says `{it}`" for it in printed(CAPTURES) if it not in refusals["P"]]
     empty = [f"{letter}{number}" for letter, said in refusals.items() for number, it in enumerate(said, 1) if not it]
     faults += [f"{it} says nothing" for it in empty]
     count = sum(map(len, refusals.values()))

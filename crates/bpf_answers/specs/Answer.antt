@@ -21,7 +21,7 @@ use Rattle.bpf_refusals.specs.declared.letter.Letter.{Letter}
 use Rattle.bpf_refusals.specs.declared.letter.Letter.TheVariants as letters
 use Rattle.bpf_refusals.specs.declared.told.Told.{Told}
 use Rattle.bpf_refusals.specs.declared.told.At.{At}
-use Rattle.bpf_refusals.specs.declared.told.At.TheVariants.{Nowhere, Slot, Line, Instruction}
+use Rattle.bpf_refusals.specs.declared.told.At.TheVariants.{Nowhere, Slot, Line, Instruction, Packet}
 use Rattle.bpf_refusals.specs.declared.told.TheConstants.{TOO_DEAR, UNCERTIFIED}
 pub use Rattle.bpf_answers.specs.declared.answer.Answer.{Answer}
 use Rattle.bpf_answers.specs.declared.answer.Answer.TheVariants.{Yes, NoImage, NoText, NoCertificate, NotCertified, NotProposed, NotHardened, NotShown, Certified, TooDear, Uncertified, NotConverted, Follows, NoOld, NoNew, NoNotes, NotFollowed, NoContext, NoCapture, Ends, Ran, Occur, Lists, Annotates, Written, WrittenFor}
@@ -86,6 +86,9 @@ at_line = codes " at line "
 abbrev pub at_instruction : List ℕ
 at_instruction = codes " at instruction "
 
+abbrev pub at_packet : List ℕ
+at_packet = codes " at packet "
+
 -- what a refusal names that names nothing, by its letter: it is the number 0 of that
 abbrev pub at_whole : Letter → List ℕ
 at_whole letters.Text = at_line
@@ -98,12 +101,14 @@ at_whole letters.Inference = at_slot
 at_whole letters.Certificate = at_line
 at_whole letters.Mismatch = at_slot
 at_whole letters.Notes = at_line
+at_whole letters.Capture = at_packet
 
 abbrev pub at_words : Letter → At → List ℕ
 at_words letter Nowhere = at_whole letter
 at_words letter (Slot slot) = at_slot
 at_words letter (Line line) = at_line
 at_words letter (Instruction at) = at_instruction
+at_words letter (Packet packet byte) = at_packet
 
 -- `no E4 at slot 0`, `no K4 at line 0`, `no B5 at instruction 7`
 abbrev pub line_at : List ℕ → Told → List ℕ

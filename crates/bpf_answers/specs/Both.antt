@@ -1,7 +1,11 @@
--- What is put at two names.
+-- What is put at a name, or at two.
 use Rattle.std.specs.Prelude.{◌≡◌, ◌⊎◌, ℕ, Bool, List, [], Option, Some, None, IfSome, true, false}
+use Rattle.std.specs.Borrow.{Bor}
 use Rattle.std.specs.Io.KnownBytes.{Appends}
 use Rattle.bpf_insn.specs.Written.{AppendsBeginning}
+use Rattle.bpf_places.specs.Made.{Making, making}
+use Rattle.bpf_answers.specs.declared.failure.Failure.{Failure}
+use Rattle.bpf_answers.specs.declared.failure.Failure.TheVariants.{CannotWrite, NoMemory}
 
 -- which of two contents came to stand at their names
 pub data Put : Type 0 where
@@ -74,3 +78,27 @@ pairing creates ends contents old first bytes second other Both new = Finishes c
 pairing creates ends contents old first bytes second other FirstAlone new = Finishes creates ends contents old first bytes second other false new
 pairing creates ends contents old first bytes second other Neither new =
     creates old first None new ⊎ LacksSecond creates ends old first second new ⊎ LeavesBoth creates ends contents old first bytes second other new
+
+-- What may be put: one content at a name, or two at two names.
+pub record Putting (S : Type 0) : Type 1 where
+  pub makes : Making S
+  pub pairs : Pairing S
+
+abbrev pub putting : {S W : Type 0} → (S → List ℕ → Option W → S → Type 0) → (S → W → Bool → S → Type 0) → (W → Option (List ℕ)) → Putting S
+putting creates ends contents = record { makes = making creates ends contents; pairs = pairing creates ends contents }
+
+-- ---- at one name, and at two
+
+-- content can't be put at a name, and doesn't stand there
+abbrev pub NotPut : {S : Type 0} → Making S → S → Bor (List ℕ) → List ℕ → S → Failure → Type 0
+NotPut makes old name bytes new failure = ((failure ≡ CannotWrite name) ⊎ (failure ≡ NoMemory)) × makes old name.now bytes false new
+
+-- both contents stand at their names, with this status
+abbrev pub PutBoth : {S : Type 0} → Pairing S → S → Bor (List ℕ) → List ℕ → Bor (List ℕ) → List ℕ → S → ℕ → Type 0
+PutBoth pairs old first bytes second other new status = (status ≡ 0) × pairs old first.now bytes second.now other Both new
+
+-- they can't both be put: neither stands; or the second couldn't be finished when the first stood already
+abbrev pub NotPutBoth : {S : Type 0} → Pairing S → S → Bor (List ℕ) → List ℕ → Bor (List ℕ) → List ℕ → S → Failure → Type 0
+NotPutBoth pairs old first bytes second other new failure =
+    (((failure ≡ CannotWrite first) ⊎ ((failure ≡ CannotWrite second) ⊎ (failure ≡ NoMemory))) × pairs old first.now bytes second.now other Neither new)
+    ⊎ ((failure ≡ CannotWrite second) × pairs old first.now bytes second.now other FirstAlone new)

@@ -1,5 +1,6 @@
 -- What stands at names: the image of a program, a text, a certificate, a context.
-use Rattle.std.specs.Prelude.{◌≡◌, ◌⊎◌, ◌<◌, ◌≤◌, length, ℕ, Bool, true, false, List, [], ◌∷◌, Option, Some, None, IfSome, ⊤}
+use Rattle.std.specs.Prelude.{◌≡◌, ◌⊎◌, ◌<◌, ◌≤◌, length, ℕ, Bool, true, false, List, [], ◌∷◌, Option, Some, None, IfSome, Result, MatchResult, ⊤}
+use Rattle.std.specs.Global.{Vec}
 use Rattle.bpf_insn.specs.Instruction.{Instructions}
 use Rattle.bpf_insn.specs.Laws.{IsImageOfProgram}
 use Rattle.bpf_insn.specs.Refusal.{IsRefused}
@@ -48,6 +49,14 @@ pub record LoadsImage {S : Type 0} (opening : Opening S) (order : Order) (old : 
   pub is_image : IsImageOfProgram order bytes p.list
   pub order_is : p.order ≡ order
 
+-- the bytes that were read at the name, or that there is no memory for them
+abbrev pub ReadsImageAt : {S : Type 0} → Opening S → S → List ℕ → S → Result (Vec ℕ) DecodeError → Type 0
+ReadsImageAt opening old name new read = MatchResult read (λ v. ReadsAt opening old name v.items new) (NoSpaceFor opening old name new)
+
+-- the program that was read at the name, or why its image is refused
+abbrev pub ReadsProgramAt : {S : Type 0} → Opening S → Order → S → List ℕ → S → Result Instructions DecodeError → Type 0
+ReadsProgramAt opening order old name new read = MatchResult read (LoadsImage opening order old name new) (ImageRefused opening order old name new)
+
 -- the image can't be read, or standard output fails
 abbrev pub ImageFails : {S : Type 0} → Opening S → S → List ℕ → S → Failure → Type 0
 ImageFails opening old input new (CannotRead name) = (name.now ≡ input) × Unreadable opening old input new
@@ -82,6 +91,10 @@ abbrev pub TextFails : {S : Type 0} → Opening S → S → List ℕ → S → F
 TextFails opening old input new (CannotRead name) = (name.now ≡ input) × (Unreadable opening old input new ⊎ TextAt opening old input new (λ text. (¬ (IsUtf8 text)) ⊎ (max_text < length text)))
 TextFails opening old input new failure = OutputFails failure
 
+-- the same, or this failure where the text isn't UTF-8
+abbrev pub TextFailsOr : {S : Type 0} → Opening S → S → List ℕ → S → (other failure : Failure) → Type 0
+TextFailsOr opening old input new other failure = TextFails opening old input new failure ⊎ ((failure ≡ other) × TextAt opening old input new (λ text. ¬ (IsUtf8 text)))
+
 -- the same where people are told of a text that isn't UTF-8
 abbrev pub ReadableFails : {S : Type 0} → Opening S → S → List ℕ → S → Failure → Type 0
 ReadableFails opening old input new (NotText name) = (name.now ≡ input) × TextAt opening old input new (λ text. ¬ (IsUtf8 text))
@@ -103,6 +116,10 @@ CertificateAt opening old name new c = TextAt opening old name new (λ text. Spe
 
 abbrev pub CertificateRefused : {S : Type 0} → Opening S → S → List ℕ → S → CertError → Type 0
 CertificateRefused opening old name new e = (reader_failed e ≡ false) × TextAt opening old name new (λ text. IsFaultOf text e)
+
+-- the certificate that was read at the name, or why its text is refused
+abbrev pub ReadsCertificateAt : {S : Type 0} → Opening S → S → List ℕ → S → Result CertificateView CertError → Type 0
+ReadsCertificateAt opening old name new read = MatchResult read (CertificateAt opening old name new) (CertificateRefused opening old name new)
 
 -- the name can't be opened, or its reader fails
 abbrev pub CertificateUnread : {S : Type 0} → Opening S → S → List ℕ → S → Type 0

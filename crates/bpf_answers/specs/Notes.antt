@@ -1,5 +1,6 @@
 -- Notes at a name.
-use Rattle.std.specs.Prelude.{◌≡◌, ◌⊎◌, ◌<◌, ℕ, ◌+◌, ◌*◌, List, length, Option}
+use Rattle.std.specs.Prelude.{◌≡◌, ◌⊎◌, ◌<◌, ℕ, ◌+◌, ◌*◌, List, length, Option, Result, MatchResult}
+use Rattle.std.specs.Global.{Vec}
 use Rattle.std.specs.List.{AllByRecursion}
 use Rattle.bpf_follows_law.specs.declared.notes.Place.{Place}
 use Rattle.bpf_follows_notes.specs.NotesText.{max_lines, SaysAll, notes_text}
@@ -21,6 +22,10 @@ LoadsNotes opening old name new notes = TextAt opening old name new (λ text. Al
 
 abbrev pub NotesRefused : {S : Type 0} → Opening S → S → List ℕ → S → NotesError → Type 0
 NotesRefused opening old name new e = TextAt opening old name new (λ text. IsRefused text e)
+
+-- the notes that were read at the name, or why their text is refused
+abbrev pub ReadsNotesAt : {S : Type 0} → Opening S → S → List ℕ → S → Result (Vec (Option Place)) NotesError → Type 0
+ReadsNotesAt opening old name new read = MatchResult read (λ v. LoadsNotes opening old name new v.items) (NotesRefused opening old name new)
 
 -- the name can't be opened, its reader fails, or its text is longer
 abbrev pub NotesUnread : {S : Type 0} → Opening S → S → List ℕ → S → Type 0

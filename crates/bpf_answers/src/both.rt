@@ -1,10 +1,7 @@
 //! Two things that are put at names of their own, both or neither: a file and its certificate.
 
-ghost use Rattle.std.specs.Prelude.{◌≡◌, ◌⊎◌, IfOk, IfErr, OnOk, OnErr};
-ghost use Rattle.std.specs.Io.KnownBytes.{Appends};
-ghost use Rattle.bpf_insn.specs.Written.{AppendsBeginning};
-ghost use Rattle.bpf_answers.specs.Both.{pairing};
-ghost use Rattle.bpf_answers.specs.Both.Put.{Both, Neither, FirstAlone};
+ghost use Rattle.std.specs.Prelude.{◌≡◌, ◌⊎◌, IfOk, IfErr};
+ghost use Rattle.bpf_answers.specs.Both.{NotPutBoth, PutBoth, pairing};
 ghost use Rattle.bpf_answers.specs.declared.failure.Failure.TheVariants.{CannotWrite, NoMemory};
 
 use crate::failure::{DONE, Failure};
@@ -30,14 +27,10 @@ pub fn put_both<'a, P: Places, C: Content, D: Content>(
     second: &'a str,
     beside: &D,
 ) -> Result<u8, Failure<'a>>
-    ensures ok { IfOk result (λ status. (status ≡ 0) × pairing P.creates P.ends P.Writer.contents places.old first.entry.now (C.bytes content.now)
-        second.entry.now (D.bytes beside.now) Both places.new) }
-    ensures err { IfErr result (λ failure.
-        (((failure ≡ CannotWrite first.entry) ⊎ ((failure ≡ CannotWrite second.entry) ⊎ (failure ≡ NoMemory)))
-        × pairing P.creates P.ends P.Writer.contents places.old first.entry.now (C.bytes content.now) second.entry.now (D.bytes beside.now) Neither places.new)
-        ⊎ ((failure ≡ CannotWrite second.entry)
-        × pairing P.creates P.ends P.Writer.contents places.old first.entry.now (C.bytes content.now) second.entry.now (D.bytes beside.now) FirstAlone
-        places.new)) }
+    ensures ok { IfOk result (PutBoth (pairing P.creates P.ends P.Writer.contents) places.old first.entry (C.bytes content.now)
+        second.entry (D.bytes beside.now) places.new) }
+    ensures err { IfErr result (NotPutBoth (pairing P.creates P.ends P.Writer.contents) places.old first.entry (C.bytes content.now)
+        second.entry (D.bytes beside.now) places.new) }
 {
     let mut writer = match places.create(first) {
         Ok(writer) => writer,

@@ -1,7 +1,7 @@
 //! Certificates at a name.
 
-ghost use Rattle.std.specs.Prelude.{IfOk, IfErr, MatchResult};
-ghost use Rattle.bpf_answers.specs.Loaded.{CertificateAt, CertificateRefused, CertificateFails, Tried};
+ghost use Rattle.std.specs.Prelude.{IfOk, IfErr};
+ghost use Rattle.bpf_answers.specs.Loaded.{CertificateFails, ReadsCertificateAt, Tried};
 ghost use Rattle.bpf_answers.specs.Told.{IsQuiet};
 
 use crate::failure::Failure;
@@ -15,8 +15,7 @@ pub fn certificate_at<'a, P: Places>(
     places: &mut P,
     name: &'a str,
 ) -> Result<Result<Certificate, CertError>, Failure<'a>>
-    ensures ok { IfOk result (λ read. MatchResult read (CertificateAt P.opens places.old name.entry.now places.new)
-        (CertificateRefused P.opens places.old name.entry.now places.new)) }
+    ensures ok { IfOk result (ReadsCertificateAt P.opens places.old name.entry.now places.new) }
     ensures err { IfErr result (CertificateFails P.opens places.old name.entry.now places.new) }
     ensures quiet { IfErr result IsQuiet }
     ensures names { Tried P.opens places.old name.entry.now places.new }

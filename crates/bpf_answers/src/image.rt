@@ -1,8 +1,7 @@
 //! Images at a name.
 
-ghost use Rattle.std.specs.Prelude.{IfOk, IfErr, MatchResult};
-ghost use Rattle.bpf_places.specs.Opened.{ReadsAt};
-ghost use Rattle.bpf_answers.specs.Loaded.{NoSpaceFor, ImageRefused, LoadsImage, ImageFails, Tried};
+ghost use Rattle.std.specs.Prelude.{IfOk, IfErr};
+ghost use Rattle.bpf_answers.specs.Loaded.{ImageFails, ReadsImageAt, ReadsProgramAt, Tried};
 ghost use Rattle.bpf_answers.specs.Told.{IsQuiet};
 
 use crate::failure::Failure;
@@ -17,8 +16,7 @@ pub fn image_at<'a, P: Places>(
     places: &mut P,
     name: &'a str,
 ) -> Result<Result<Vec<u8>, DecodeError>, Failure<'a>>
-    ensures ok { IfOk result (λ read. MatchResult read (λ v. ReadsAt P.opens places.old name.entry.now v.items places.new)
-        (NoSpaceFor P.opens places.old name.entry.now places.new)) }
+    ensures ok { IfOk result (ReadsImageAt P.opens places.old name.entry.now places.new) }
     ensures err { IfErr result (ImageFails P.opens places.old name.entry.now places.new) }
     ensures quiet { IfErr result IsQuiet }
     ensures names { Tried P.opens places.old name.entry.now places.new }
@@ -42,8 +40,7 @@ pub fn program_at<'a, P: Places>(
     name: &'a str,
     order: Order,
 ) -> Result<Result<Program, DecodeError>, Failure<'a>>
-    ensures ok { IfOk result (λ read. MatchResult read (LoadsImage P.opens order places.old name.entry.now places.new)
-        (ImageRefused P.opens order places.old name.entry.now places.new)) }
+    ensures ok { IfOk result (ReadsProgramAt P.opens order places.old name.entry.now places.new) }
     ensures err { IfErr result (ImageFails P.opens places.old name.entry.now places.new) }
     ensures quiet { IfErr result IsQuiet }
     ensures names { Tried P.opens places.old name.entry.now places.new }

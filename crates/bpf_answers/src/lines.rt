@@ -1,7 +1,6 @@
 //! The lines of answers that are more than a letter, a number and a place.
 
-ghost use Rattle.std.specs.Prelude.{◌≡◌, ◌++◌, OnOk, OnErr, Some, [], ◌∷◌, codes, decimal};
-ghost use Rattle.std.specs.List.{concat};
+ghost use Rattle.std.specs.Prelude.{◌≡◌, ◌++◌, OnOk, OnErr, Some};
 ghost use Rattle.std.specs.Io.KnownBytes.{Appends};
 ghost use Rattle.bpf_insn.specs.Written.{AppendsBeginning};
 ghost use Rattle.bpf_answers.specs.Answer.{capture_line, certified_line, follows_end, follows_line, groups_line, infer_refusal_line, no_context_line, padded_word, proved_end, run_line, text_of, text_refusal_line, work_line, yes_line};

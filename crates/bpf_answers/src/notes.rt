@@ -1,8 +1,8 @@
 //! Notes at a name.
 
-ghost use Rattle.std.specs.Prelude.{IfOk, IfErr, MatchResult};
+ghost use Rattle.std.specs.Prelude.{IfOk, IfErr};
 ghost use Rattle.bpf_answers.specs.Loaded.{Tried};
-ghost use Rattle.bpf_answers.specs.Notes.{LoadsNotes, NotesFail, NotesRefused};
+ghost use Rattle.bpf_answers.specs.Notes.{NotesFail, ReadsNotesAt};
 ghost use Rattle.bpf_answers.specs.Told.{IsQuiet};
 
 use crate::bytes::{BytesError, bytes_at};
@@ -23,8 +23,7 @@ pub fn notes_at<'a, P: Places>(
     places: &mut P,
     name: &'a str,
 ) -> Result<Result<Vec<Option<Place>>, NotesError>, Failure<'a>>
-    ensures ok { IfOk result (λ read. MatchResult read (λ v. LoadsNotes P.opens places.old name.entry.now places.new v.items)
-        (NotesRefused P.opens places.old name.entry.now places.new)) }
+    ensures ok { IfOk result (ReadsNotesAt P.opens places.old name.entry.now places.new) }
     ensures err { IfErr result (NotesFail P.opens places.old name.entry.now places.new) }
     ensures quiet { IfErr result IsQuiet }
     ensures names { Tried P.opens places.old name.entry.now places.new }

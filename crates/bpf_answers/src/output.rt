@@ -1,10 +1,10 @@
 //! What is put at a name: the image of a program, the text of a certificate, other text, bytes.
 
-ghost use Rattle.std.specs.Prelude.{◌≡◌, ◌⊎◌, ℕ, List, IfOk, IfErr, OnOk, OnErr, true, false};
+ghost use Rattle.std.specs.Prelude.{◌≡◌, ℕ, List, IfOk, IfErr, OnOk, OnErr, true};
 ghost use Rattle.std.specs.Io.KnownBytes.{Appends};
 ghost use Rattle.bpf_insn.specs.Written.{AppendsBeginning};
 ghost use Rattle.bpf_places.specs.Made.{making};
-ghost use Rattle.bpf_answers.specs.declared.failure.Failure.TheVariants.{CannotWrite, NoMemory};
+ghost use Rattle.bpf_answers.specs.Both.{NotPut};
 
 use crate::failure::{DONE, Failure};
 use bpf_cert::{Certificate, write};
@@ -70,8 +70,7 @@ pub fn put<'a, P: Places, C: Content>(
 ) -> Result<u8, Failure<'a>>
     ensures ok { IfOk result (λ status. (status ≡ 0) × making P.creates P.ends P.Writer.contents places.old name.entry.now (C.bytes content.now) true
         places.new) }
-    ensures err { IfErr result (λ failure. ((failure ≡ CannotWrite name.entry) ⊎ (failure ≡ NoMemory)) × making P.creates P.ends P.Writer.contents
-        places.old name.entry.now (C.bytes content.now) false places.new) }
+    ensures err { IfErr result (NotPut (making P.creates P.ends P.Writer.contents) places.old name.entry (C.bytes content.now) places.new) }
 {
     let mut writer = match places.create(name) {
         Ok(writer) => writer,

@@ -19,6 +19,7 @@ fn at_whole(letter: Letter) -> &'static str
         Letter::Classic => " at instruction ",
         Letter::Check | Letter::Image | Letter::Fault => " at slot ",
         Letter::Hardening | Letter::Inference | Letter::Mismatch => " at slot ",
+        Letter::Capture => " at packet ",
     }
 }
 
@@ -31,6 +32,7 @@ fn at_words(letter: Letter, at: At) -> &'static str
         At::Slot(_) => " at slot ",
         At::Line(_) => " at line ",
         At::Instruction(_) => " at instruction ",
+        At::Packet { .. } => " at packet ",
     }
 }
 

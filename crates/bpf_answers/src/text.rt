@@ -1,9 +1,8 @@
 //! Texts at a name.
 
 ghost use Rattle.std.specs.Prelude.{◌≡◌, ◌⊎◌, IfOk, IfErr};
-ghost use Rattle.std.specs.Str.{IsUtf8};
 ghost use Rattle.std.specs.String.{string_bytes};
-ghost use Rattle.bpf_answers.specs.Loaded.{ReadableFails, ShortTextAt, TextAt, TextFails, Tried};
+ghost use Rattle.bpf_answers.specs.Loaded.{ReadableFails, ShortTextAt, TextFails, TextFailsOr, Tried};
 ghost use Rattle.bpf_answers.specs.Told.{IsQuiet};
 
 use crate::bytes::{BytesError, bytes_at};
@@ -22,8 +21,7 @@ fn text_or<'a, P: Places>(
     other: Failure<'a>,
 ) -> Result<String, Failure<'a>>
     ensures ok { IfOk result (λ text. ShortTextAt P.opens places.old name.entry.now places.new (λ bytes. string_bytes text ≡ bytes)) }
-    ensures err { IfErr result (λ f. TextFails P.opens places.old name.entry.now places.new f
-        ⊎ ((f ≡ other.entry) × TextAt P.opens places.old name.entry.now places.new (λ text. ¬ (IsUtf8 text)))) }
+    ensures err { IfErr result (TextFailsOr P.opens places.old name.entry.now places.new other.entry) }
     ensures quiet { IfErr result (λ f. IsQuiet f ⊎ (f ≡ other.entry)) }
     ensures names { Tried P.opens places.old name.entry.now places.new }
 {

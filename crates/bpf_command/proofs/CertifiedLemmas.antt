@@ -14,14 +14,14 @@ use Rattle.bpf_request.specs.declared.certifying.Certifying.{Certifying}
 use Rattle.bpf_request.specs.declared.hardening.Hardening.{Hardening}
 use Rattle.bpf_places.specs.Opened.{Opening}
 use Rattle.bpf_places.specs.Made.{Making}
-use Rattle.bpf_answers.specs.Both.{Pairing}
+use Rattle.bpf_answers.specs.Both.{Pairing, Putting}
 use Rattle.bpf_answers.specs.Both.Put.{Both}
 use Rattle.bpf_answers.specs.Loaded.{ImageFails, LoadsImage}
 use Rattle.bpf_answers.specs.Told.{IsQuiet}
 use Rattle.bpf_answers.specs.declared.certified.Certification.{Certification}
 use Rattle.bpf_answers.specs.declared.failure.Failure.{Failure}
 use Rattle.bpf_answers.specs.declared.failure.Failure.TheVariants.{CannotRead, CannotWrite, NoMemory}
-use Rattle.bpf_command.specs.Certified.{AllPut, Certifies, CertifyFails, CertifyWithFails, IsMadeOf, NoPair, NotAllPut, NotAllStand, NotCertified, NotCertifiedWith, made_of, most_of, notes_of, program_of, rewriting_of, told_of, wish_of}
+use Rattle.bpf_command.specs.Certified.{Certifies, CertifyFails, CertifyWithFails, IsAllPut, IsMadeOf, NoPair, NotAllPut, NotAllStand, NotCertified, NotCertifiedWith, made_of, most_of, notes_of, program_of, rewriting_of, told_of, wish_of}
 use Rattle.bpf_command.specs.Explained.{LinesAt}
 use Rattle.bpf_command.specs.Hardened.{BothStand, NotBothPut, NotBothStand}
 
@@ -58,34 +58,34 @@ certifies_as opening old c new made other certificate notes told also same_made 
 
 -- ---- what is put at the names
 
-pub all_put : {S E : Type 0} (result : Result ℕ E) (m : Making S) (b : Pairing S) (old : S) (c : Certifying) (made : Instructions) (certificate : CertificateView) (text : List ℕ) (between new : S)
-    → b old c.output.now (image made.order made.list) c.certificate.now (certificate_text certificate) Both between
-    → IfOk result (λ status. (status ≡ 0) × BothStand m between (hardening_of c) text new) → IfOk result (λ status. (status ≡ 0) × AllPut m b old c made certificate text new)
-all_put (Ok s) m b old c made certificate text between new pair stand = (stand.0, (between, pair, stand.1))
-all_put (Err e) m b old c made certificate text between new pair stand = tt
+pub all_put : {S E : Type 0} (result : Result ℕ E) (w : Putting S) (old : S) (c : Certifying) (made : Instructions) (certificate : CertificateView) (text : List ℕ) (between new : S)
+    → w.pairs old c.output.now (image made.order made.list) c.certificate.now (certificate_text certificate) Both between
+    → IfOk result (λ status. (status ≡ 0) × BothStand w.makes between (hardening_of c) text new) → IfOk result (IsAllPut w old c made certificate text new)
+all_put (Ok s) w old c made certificate text between new pair stand = (stand.0, (between, pair, stand.1))
+all_put (Err e) w old c made certificate text between new pair stand = tt
 
-pub texts_unput : {S A : Type 0} (result : Result A Failure) (m : Making S) (b : Pairing S) (old : S) (c : Certifying) (made : Instructions) (certificate : CertificateView) (between new : S)
-    → b old c.output.now (image made.order made.list) c.certificate.now (certificate_text certificate) Both between
-    → IfErr result (NotBothPut m between (hardening_of c) new) → IfErr result (NotAllPut m b old c made certificate new)
-texts_unput (Ok s) m b old c made certificate between new pair fails = tt
-texts_unput (Err f) m b old c made certificate between new pair fails = inr (between, pair, fails)
+pub texts_unput : {S A : Type 0} (result : Result A Failure) (w : Putting S) (old : S) (c : Certifying) (made : Instructions) (certificate : CertificateView) (between new : S)
+    → w.pairs old c.output.now (image made.order made.list) c.certificate.now (certificate_text certificate) Both between
+    → IfErr result (NotBothPut w.makes between (hardening_of c) new) → IfErr result (NotAllPut w old c made certificate new)
+texts_unput (Ok s) w old c made certificate between new pair fails = tt
+texts_unput (Err f) w old c made certificate between new pair fails = inr (between, pair, fails)
 
-pub texts_left : {S A : Type 0} (result : Result A Failure) (m : Making S) (b : Pairing S) (old : S) (c : Certifying) (made : Instructions) (certificate : CertificateView) (between new : S)
-    → b old c.output.now (image made.order made.list) c.certificate.now (certificate_text certificate) Both between
-    → IfErr result (λ _. NotBothStand m between (hardening_of c) new) → IfErr result (λ _. NotAllStand m b old c made certificate new)
-texts_left (Ok s) m b old c made certificate between new pair left = tt
-texts_left (Err f) m b old c made certificate between new pair left = inr (inr (between, pair, left))
+pub texts_left : {S A : Type 0} (result : Result A Failure) (w : Putting S) (old : S) (c : Certifying) (made : Instructions) (certificate : CertificateView) (between new : S)
+    → w.pairs old c.output.now (image made.order made.list) c.certificate.now (certificate_text certificate) Both between
+    → IfErr result (λ _. NotBothStand w.makes between (hardening_of c) new) → IfErr result (λ _. NotAllStand w old c made certificate new)
+texts_left (Ok s) w old c made certificate between new pair left = tt
+texts_left (Err f) w old c made certificate between new pair left = inr (inr (between, pair, left))
 
-pub pair_unput : {S A : Type 0} (result : Result A Failure) (m : Making S) (b : Pairing S) (old : S) (c : Certifying) (made : Instructions) (certificate : CertificateView) (new : S)
-    → IfErr result (NoPair b old c made certificate new) → IfErr result (NotAllPut m b old c made certificate new)
-pair_unput (Ok s) m b old c made certificate new fails = tt
-pair_unput (Err f) m b old c made certificate new fails = inl fails
+pub pair_unput : {S A : Type 0} (result : Result A Failure) (w : Putting S) (old : S) (c : Certifying) (made : Instructions) (certificate : CertificateView) (new : S)
+    → IfErr result (NoPair w.pairs old c made certificate new) → IfErr result (NotAllPut w old c made certificate new)
+pair_unput (Ok s) w old c made certificate new fails = tt
+pair_unput (Err f) w old c made certificate new fails = inl fails
 
-pub pair_left : {S A : Type 0} (result : Result A Failure) (m : Making S) (b : Pairing S) (old : S) (c : Certifying) (made : Instructions) (certificate : CertificateView) (new : S)
-    → IfErr result (NoPair b old c made certificate new) → IfErr result (λ _. NotAllStand m b old c made certificate new)
-pair_left (Ok s) m b old c made certificate new fails = tt
-pair_left (Err f) m b old c made certificate new (inl neither) = inl neither.1
-pair_left (Err f) m b old c made certificate new (inr first) = inr (inl first.1)
+pub pair_left : {S A : Type 0} (result : Result A Failure) (w : Putting S) (old : S) (c : Certifying) (made : Instructions) (certificate : CertificateView) (new : S)
+    → IfErr result (NoPair w.pairs old c made certificate new) → IfErr result (λ _. NotAllStand w old c made certificate new)
+pair_left (Ok s) w old c made certificate new fails = tt
+pair_left (Err f) w old c made certificate new (inl neither) = inl neither.1
+pair_left (Err f) w old c made certificate new (inr first) = inr (inl first.1)
 
 -- ---- why they can't be put there
 
@@ -108,43 +108,43 @@ no_texts m old h new (CannotRead name) (inr never) = absurd never.3
 no_texts m old h new failure (inl never) = absurd never
 no_texts m old h new failure (inr never) = absurd never.3
 
-of_writing : {S : Type 0} (m : Making S) (b : Pairing S) (old : S) (c : Certifying) (made : Instructions) (certificate : CertificateView) (new : S) (f : Failure) → NotAllPut m b old c made certificate new f → IsOfWriting f
-of_writing m b old c made certificate new f (inl fails) = no_pair b old c made certificate new f fails
-of_writing m b old c made certificate new f (inr fails) = no_texts m fails.0 (hardening_of c) new f fails.2
+of_writing : {S : Type 0} (w : Putting S) (old : S) (c : Certifying) (made : Instructions) (certificate : CertificateView) (new : S) (f : Failure) → NotAllPut w old c made certificate new f → IsOfWriting f
+of_writing w old c made certificate new f (inl fails) = no_pair w.pairs old c made certificate new f fails
+of_writing w old c made certificate new f (inr fails) = no_texts w.makes fails.0 (hardening_of c) new f fails.2
 
-fails_of : {S : Type 0} (o : Opening S) (m : Making S) (b : Pairing S) (old : S) (c : Certifying) (between new : S) (made : Instructions) (certificate : CertificateView) (notes : List (Option Place)) (told : Certification) (f : Failure)
-    → Certifies o old c between made certificate notes told → IsOfWriting f → NotAllPut m b between c made certificate new f → CertifyFails o m b old c new f
-fails_of o m b old c between new made certificate notes told (CannotWrite name) certifies writing fails = (between, made, certificate, notes, told, certifies, fails)
-fails_of o m b old c between new made certificate notes told NoMemory certifies writing fails = tt
-fails_of o m b old c between new made certificate notes told (CannotRead name) certifies writing fails = absurd writing
-fails_of o m b old c between new made certificate notes told failure certifies writing fails = absurd writing
+fails_of : {S : Type 0} (o : Opening S) (w : Putting S) (old : S) (c : Certifying) (between new : S) (made : Instructions) (certificate : CertificateView) (notes : List (Option Place)) (told : Certification) (f : Failure)
+    → Certifies o old c between made certificate notes told → IsOfWriting f → NotAllPut w between c made certificate new f → CertifyFails o w old c new f
+fails_of o w old c between new made certificate notes told (CannotWrite name) certifies writing fails = (between, made, certificate, notes, told, certifies, fails)
+fails_of o w old c between new made certificate notes told NoMemory certifies writing fails = tt
+fails_of o w old c between new made certificate notes told (CannotRead name) certifies writing fails = absurd writing
+fails_of o w old c between new made certificate notes told failure certifies writing fails = absurd writing
 
-pub puts_fail : {S A : Type 0} (result : Result A Failure) (o : Opening S) (m : Making S) (b : Pairing S) (old : S) (c : Certifying) (between new : S) (made : Instructions) (certificate : CertificateView) (notes : List (Option Place)) (told : Certification)
-    → Certifies o old c between made certificate notes told → IfErr result (NotAllPut m b between c made certificate new) → IfErr result (CertifyFails o m b old c new)
-puts_fail (Ok s) o m b old c between new made certificate notes told certifies fails = tt
-puts_fail (Err f) o m b old c between new made certificate notes told certifies fails =
-    fails_of o m b old c between new made certificate notes told f certifies (of_writing m b between c made certificate new f fails) fails
+pub puts_fail : {S A : Type 0} (result : Result A Failure) (o : Opening S) (w : Putting S) (old : S) (c : Certifying) (between new : S) (made : Instructions) (certificate : CertificateView) (notes : List (Option Place)) (told : Certification)
+    → Certifies o old c between made certificate notes told → IfErr result (NotAllPut w between c made certificate new) → IfErr result (CertifyFails o w old c new)
+puts_fail (Ok s) o w old c between new made certificate notes told certifies fails = tt
+puts_fail (Err f) o w old c between new made certificate notes told certifies fails =
+    fails_of o w old c between new made certificate notes told f certifies (of_writing w between c made certificate new f fails) fails
 
-pub puts_left : {S A : Type 0} (result : Result A Failure) (o : Opening S) (m : Making S) (b : Pairing S) (old : S) (c : Certifying) (between new : S) (made : Instructions) (certificate : CertificateView) (notes : List (Option Place)) (told : Certification)
-    → Certifies o old c between made certificate notes told → IfErr result (λ _. NotAllStand m b between c made certificate new) → IfErr result (λ _. NotCertified o m b old c new)
-puts_left (Ok s) o m b old c between new made certificate notes told certifies left = tt
-puts_left (Err f) o m b old c between new made certificate notes told certifies left = inr (between, made, certificate, notes, told, certifies, left)
+pub puts_left : {S A : Type 0} (result : Result A Failure) (o : Opening S) (w : Putting S) (old : S) (c : Certifying) (between new : S) (made : Instructions) (certificate : CertificateView) (notes : List (Option Place)) (told : Certification)
+    → Certifies o old c between made certificate notes told → IfErr result (λ _. NotAllStand w between c made certificate new) → IfErr result (λ _. NotCertified o w old c new)
+puts_left (Ok s) o w old c between new made certificate notes told certifies left = tt
+puts_left (Err f) o w old c between new made certificate notes told certifies left = inr (between, made, certificate, notes, told, certifies, left)
 
 -- the image can't be read
-pub unread : {S : Type 0} (o : Opening S) (m : Making S) (b : Pairing S) (old : S) (c : Certifying) (new : S) (f : Failure) → ImageFails o old c.input.now new f → IsQuiet f → CertifyFails o m b old c new f
-unread o m b old c new (CannotRead name) fails quiet = fails
-unread o m b old c new (CannotWrite name) fails quiet = absurd quiet
-unread o m b old c new NoMemory fails quiet = tt
-unread o m b old c new f fails quiet = absurd fails
+pub unread : {S : Type 0} (o : Opening S) (w : Putting S) (old : S) (c : Certifying) (new : S) (f : Failure) → ImageFails o old c.input.now new f → IsQuiet f → CertifyFails o w old c new f
+unread o w old c new (CannotRead name) fails quiet = fails
+unread o w old c new (CannotWrite name) fails quiet = absurd quiet
+unread o w old c new NoMemory fails quiet = tt
+unread o w old c new f fails quiet = absurd fails
 
 -- ---- behind the lines of the source
 
-pub with_fails : {S A : Type 0} (result : Result A Failure) (o : Opening S) (m : Making S) (b : Pairing S) (old : S) (c : Certifying) (between new : S) → LinesAt o old c.lines between
-    → IfErr result (CertifyFails o m b between c new) → IfErr result (CertifyWithFails o m b old c new)
-with_fails (Ok s) o m b old c between new lines fails = tt
-with_fails (Err f) o m b old c between new lines fails = inr (between, lines, fails)
+pub with_fails : {S A : Type 0} (result : Result A Failure) (o : Opening S) (w : Putting S) (old : S) (c : Certifying) (between new : S) (table : List ℕ) → LinesAt o old c.lines between table
+    → IfErr result (CertifyFails o w between c new) → IfErr result (CertifyWithFails o w old c new)
+with_fails (Ok s) o w old c between new table lines fails = tt
+with_fails (Err f) o w old c between new table lines fails = inr (between, table, lines, fails)
 
-pub with_left : {S A : Type 0} (result : Result A Failure) (o : Opening S) (m : Making S) (b : Pairing S) (old : S) (c : Certifying) (between new : S) → LinesAt o old c.lines between
-    → IfErr result (λ _. NotCertified o m b between c new) → IfErr result (λ _. NotCertifiedWith o m b old c new)
-with_left (Ok s) o m b old c between new lines left = tt
-with_left (Err f) o m b old c between new lines left = inr (between, lines, left)
+pub with_left : {S A : Type 0} (result : Result A Failure) (o : Opening S) (w : Putting S) (old : S) (c : Certifying) (between new : S) (table : List ℕ) → LinesAt o old c.lines between table
+    → IfErr result (λ _. NotCertified o w between c new) → IfErr result (λ _. NotCertifiedWith o w old c new)
+with_left (Ok s) o w old c between new table lines left = tt
+with_left (Err f) o w old c between new table lines left = inr (between, table, lines, left)

@@ -16,17 +16,16 @@ use Rattle.bpf_explain_harden.specs.declared.hardened.Made.{Made}
 use Rattle.bpf_explain_harden.specs.declared.refusal.Unhardened.{Unhardened}
 use Rattle.bpf_explain_harden.specs.declared.refusal.Unhardened.TheVariants.{Refused, Unshown}
 use Rattle.bpf_places.specs.Opened.{Opening, Unreadable}
-use Rattle.bpf_answers.specs.Loaded.{LoadsImage, CertificateAt, TextAt, TextFails, Tried}
+use Rattle.bpf_answers.specs.Loaded.{LoadsImage, CertificateAt, ShortTextAt, TextAt, TextFails, Tried}
 use Rattle.bpf_answers.specs.Answer.{Says, status_of}
 use Rattle.bpf_answers.specs.declared.answer.Answer.{Answer}
 use Rattle.bpf_answers.specs.declared.answer.Answer.TheVariants.{Yes, NoImage, NotCertified, NotHardened, NotShown, Written}
 use Rattle.bpf_command_core.specs.Printed.{ImageSays, JudgedSays, LoadedSays, YesSays}
 use Rattle.bpf_command.specs.Inferred.{IsProposal}
 use Rattle.std.specs.Borrow.{Bor}
-use Rattle.bpf_request.specs.declared.asking.Explaining.{Explaining}
 use Rattle.bpf_answers.specs.declared.failure.Failure.{Failure}
 use Rattle.bpf_answers.specs.declared.failure.Failure.TheVariants.{CannotRead}
-use Rattle.bpf_command.specs.Explained.{Answers, ExplainFails, ExplainSays, ExplainWithFails, ExplainWithSays, HardenedSays, IsHardened, JudgesOf, LinesAt, LinesFail, SoughtSays, TaskSays}
+use Rattle.bpf_command.specs.Explained.{Answers, HardenedSays, IsHardened, JudgesOf, LinesAt, LinesFail, SoughtSays, TaskSays}
 use Rattle.bpf_command.specs.declared.commands.explain.Task.{Task}
 use Rattle.bpf_command.specs.declared.commands.explain.Task.TheVariants.{Search, Harden}
 use Rattle.bpf_command_core.proofs.JudgedLemmas.{loaded_says}
@@ -102,16 +101,6 @@ made_so (Err e) opening order old input new task p image h = tt
 
 -- ---- with the lines of the source
 
-pub with_lines_so : {S E : Type 0} (result : Result ℕ E) (o : Opening S) (old : S) (e : Explaining) (between new : S) → LinesAt o old e.lines between
-    → IfOk result (ExplainSays o e.order between e.input.now e.subject new) → IfOk result (ExplainWithSays o old e new)
-with_lines_so (Ok s) o old e between new read h = (between, read, h)
-with_lines_so (Err f) o old e between new read h = tt
-
-pub with_lines_fails : {S : Type 0} (result : Result ℕ Failure) (o : Opening S) (old : S) (e : Explaining) (between new : S) → LinesAt o old e.lines between
-    → IfErr result (ExplainFails o e.order between e.input.now e.subject new) → IfErr result (ExplainWithFails o old e new)
-with_lines_fails (Ok s) o old e between new read h = tt
-with_lines_fails (Err f) o old e between new read h = inr (between, read, h)
-
 tried : {S : Type 0} {P : List ℕ → Type 0} (o : Opening S) (old : S) (name : List ℕ) (new : S) → Unreadable o old name new ⊎ TextAt o old name new P → Tried o old name new
 tried o old name new (inl (inl h)) = (None, h)
 tried o old name new (inl (inr h)) = (Some h.0, h.1)
@@ -133,6 +122,6 @@ pub no_table : {S : Type 0} {P : List ℕ → Type 0} (o : Opening S) (old : S) 
 no_table o old lines name new is h = subst (λ l. LinesFail o old l new (CannotRead name)) (sym is) (refl, (Some h.0, h.1))
 
 -- it is one
-pub lines_read : {S : Type 0} {P : List ℕ → Type 0} (o : Opening S) (old : S) (lines : Option (Bor (List ℕ))) (name : Bor (List ℕ)) (new : S) → lines ≡ Some name
-    → TextAt o old name.now new P → LinesAt o old lines new
-lines_read o old lines name new is h = subst (λ l. LinesAt o old l new) (sym is) (Some h.0, h.1)
+pub lines_read : {S : Type 0} (o : Opening S) (old : S) (lines : Option (Bor (List ℕ))) (name : Bor (List ℕ)) (new : S) (table : List ℕ) → lines ≡ Some name
+    → ShortTextAt o old name.now new (λ text. table ≡ text) → LinesAt o old lines new table
+lines_read o old lines name new table is h = subst (λ l. LinesAt o old l new table) (sym is) h

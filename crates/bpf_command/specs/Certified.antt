@@ -1,5 +1,6 @@
 -- What is certified, and what is put at the names of the answers.
 use Rattle.std.specs.Prelude.{◌≡◌, ◌⊎◌, ◌≤◌, ℕ, List, [], false, Option, Some, None, IsTrue, IfSome, is_some, unwrap_or, ⊤}
+use Rattle.std.specs.String.{string_bytes}
 use Rattle.bpf_insn.specs.Instruction.{Instructions}
 use Rattle.bpf_insn.specs.Image.{image}
 use Rattle.bpf_insn.specs.Limits.{max_context}
@@ -19,13 +20,12 @@ use Rattle.bpf_certify.specs.declared.wish.Wish.{Wish}
 use Rattle.bpf_request.specs.CommandLine.{hardening_of}
 use Rattle.bpf_request.specs.declared.certifying.Certifying.{Certifying}
 use Rattle.bpf_places.specs.Opened.{Opening}
-use Rattle.bpf_places.specs.Made.{Making}
 use Rattle.bpf_answers.specs.declared.answer.Answer.{Answer}
 use Rattle.bpf_answers.specs.declared.answer.Answer.TheVariants.{NoImage as ImageAnswer, NotHardened, NotShown, TooDear, Uncertified, Certified as IsCertified}
 use Rattle.bpf_command.specs.declared.commands.certify.Assessed.{Assessed}
 use Rattle.bpf_command.specs.declared.commands.certify.Assessment.{Assessment}
 use Rattle.bpf_command.specs.declared.commands.certify.Assessment.TheVariants.{NoImage, Refused, Passed}
-use Rattle.bpf_answers.specs.Both.{Pairing}
+use Rattle.bpf_answers.specs.Both.{NotPutBoth, Pairing, Putting}
 use Rattle.bpf_answers.specs.Both.Put.{Both, Neither, FirstAlone}
 use Rattle.bpf_answers.specs.Loaded.{ImageFails, ImageRefused, LoadsImage, OpensFirst, Tried}
 use Rattle.bpf_answers.specs.declared.certified.Certification.{Certification}
@@ -104,33 +104,34 @@ told_of c length d = record { length = length; bound = d.bound; rewriting = rewr
 -- ---- what stands at OUT, CERT and the names of the texts
 
 -- OUT holds the image and CERT the certificate's text, and then the texts stand at their names
-abbrev pub AllPut : {S : Type 0} → Making S → Pairing S → S → Certifying → Instructions → CertificateView → List ℕ → S → Type 0
-AllPut {S} m b old c made certificate notes new =
-    (between : S) × b old c.output.now (image made.order made.list) c.certificate.now (certificate_text certificate) Both between
-    × BothStand m between (hardening_of c) notes new
+abbrev pub AllPut : {S : Type 0} → Putting S → S → Certifying → Instructions → CertificateView → List ℕ → S → Type 0
+AllPut {S} w old c made certificate notes new =
+    (between : S) × w.pairs old c.output.now (image made.order made.list) c.certificate.now (certificate_text certificate) Both between
+    × BothStand w.makes between (hardening_of c) notes new
+
+-- so with this status
+abbrev pub IsAllPut : {S : Type 0} → Putting S → S → Certifying → Instructions → CertificateView → List ℕ → S → ℕ → Type 0
+IsAllPut w old c made certificate notes new status = (status ≡ 0) × AllPut w old c made certificate notes new
 
 -- OUT and CERT aren't both put: neither stands; or CERT couldn't be finished when OUT stood already
 abbrev pub NoPair : {S : Type 0} → Pairing S → S → Certifying → Instructions → CertificateView → S → Failure → Type 0
-NoPair b old c made certificate new failure =
-    (((failure ≡ CannotWrite c.output) ⊎ ((failure ≡ CannotWrite c.certificate) ⊎ (failure ≡ NoMemory)))
-    × b old c.output.now (image made.order made.list) c.certificate.now (certificate_text certificate) Neither new)
-    ⊎ ((failure ≡ CannotWrite c.certificate) × b old c.output.now (image made.order made.list) c.certificate.now (certificate_text certificate) FirstAlone new)
+NoPair b old c made certificate new = NotPutBoth b old c.output (image made.order made.list) c.certificate (certificate_text certificate) new
 
 -- behind OUT and CERT this holds
 abbrev pub BehindPair : {S : Type 0} → Pairing S → S → Certifying → Instructions → CertificateView → (S → Type 0) → Type 0
 BehindPair {S} b old c made certificate holds =
     (between : S) × b old c.output.now (image made.order made.list) c.certificate.now (certificate_text certificate) Both between × holds between
 
-abbrev pub NotAllPut : {S : Type 0} → Making S → Pairing S → S → Certifying → Instructions → CertificateView → S → Failure → Type 0
-NotAllPut m b old c made certificate new failure =
-    NoPair b old c made certificate new failure ⊎ BehindPair b old c made certificate (λ put. NotBothPut m put (hardening_of c) new failure)
+abbrev pub NotAllPut : {S : Type 0} → Putting S → S → Certifying → Instructions → CertificateView → S → Failure → Type 0
+NotAllPut w old c made certificate new failure =
+    NoPair w.pairs old c made certificate new failure ⊎ BehindPair w.pairs old c made certificate (λ put. NotBothPut w.makes put (hardening_of c) new failure)
 
 -- what then stands: neither OUT nor CERT, or OUT alone, or both and not both texts
-abbrev pub NotAllStand : {S : Type 0} → Making S → Pairing S → S → Certifying → Instructions → CertificateView → S → Type 0
-NotAllStand m b old c made certificate new =
-    b old c.output.now (image made.order made.list) c.certificate.now (certificate_text certificate) Neither new
-    ⊎ b old c.output.now (image made.order made.list) c.certificate.now (certificate_text certificate) FirstAlone new
-    ⊎ BehindPair b old c made certificate (λ put. NotBothStand m put (hardening_of c) new)
+abbrev pub NotAllStand : {S : Type 0} → Putting S → S → Certifying → Instructions → CertificateView → S → Type 0
+NotAllStand w old c made certificate new =
+    w.pairs old c.output.now (image made.order made.list) c.certificate.now (certificate_text certificate) Neither new
+    ⊎ w.pairs old c.output.now (image made.order made.list) c.certificate.now (certificate_text certificate) FirstAlone new
+    ⊎ BehindPair w.pairs old c made certificate (λ put. NotBothStand w.makes put (hardening_of c) new)
 
 -- ---- the answers
 
@@ -154,16 +155,16 @@ IsRefusedBy opening old c new error =
     × (c.length ≤ max_context → length ≡ c.length) × IsRefused p length (wish_of c) error
 
 -- what was certified is put at its names
-abbrev pub Stands : {S : Type 0} → Opening S → Making S → Pairing S → S → Certifying → S → Certification → Type 0
-Stands {S} o m b old c new told =
+abbrev pub Stands : {S : Type 0} → Opening S → Putting S → S → Certifying → S → Certification → Type 0
+Stands {S} o w old c new told =
     (between : S) × (made : Instructions) × (certificate : CertificateView) × (notes : List (Option Place)) × (text : List ℕ)
-    × Certifies o old c between made certificate notes told × IfSome c.notes (λ _. text ≡ notes_text notes) × AllPut m b between c made certificate text new
+    × Certifies o old c between made certificate notes told × IfSome c.notes (λ _. text ≡ notes_text notes) × AllPut w between c made certificate text new
 
 -- OUT, CERT and the texts stand at their names; or none of them is opened
-abbrev pub CertifySays : {S : Type 0} → Opening S → Making S → Pairing S → S → Certifying → S → Assessment → Type 0
-CertifySays o m b old c new (NoImage e) = ImageRefused o c.order old c.input.now new e
-CertifySays o m b old c new (Refused e) = IsRefusedBy o old c new e
-CertifySays o m b old c new (Passed told) = Stands o m b old c new told
+abbrev pub CertifySays : {S : Type 0} → Opening S → Putting S → S → Certifying → S → Assessment → Type 0
+CertifySays o w old c new (NoImage e) = ImageRefused o c.order old c.input.now new e
+CertifySays o w old c new (Refused e) = IsRefusedBy o old c new e
+CertifySays o w old c new (Passed told) = Stands o w old c new told
 
 -- something was certified, of which this holds
 abbrev pub Behind : {S : Type 0} → Opening S → S → Certifying → (S → Instructions → CertificateView → Type 0) → Type 0
@@ -171,25 +172,25 @@ Behind {S} o old c holds =
     (between : S) × (made : Instructions) × (certificate : CertificateView) × (notes : List (Option Place)) × (told : Certification)
     × Certifies o old c between made certificate notes told × holds between made certificate
 
-abbrev pub CertifyFails : {S : Type 0} → Opening S → Making S → Pairing S → S → Certifying → S → Failure → Type 0
-CertifyFails o m b old c new (CannotRead name) = ImageFails o old c.input.now new (CannotRead name)
-CertifyFails o m b old c new (CannotWrite name) = Behind o old c (λ between made certificate. NotAllPut m b between c made certificate new (CannotWrite name))
-CertifyFails o m b old c new NoMemory = ⊤
-CertifyFails o m b old c new failure = ⊥
+abbrev pub CertifyFails : {S : Type 0} → Opening S → Putting S → S → Certifying → S → Failure → Type 0
+CertifyFails o w old c new (CannotRead name) = ImageFails o old c.input.now new (CannotRead name)
+CertifyFails o w old c new (CannotWrite name) = Behind o old c (λ between made certificate. NotAllPut w between c made certificate new (CannotWrite name))
+CertifyFails o w old c new NoMemory = ⊤
+CertifyFails o w old c new failure = ⊥
 
 -- Where that fails, the input was opened, or couldn't be; or not all came to stand at their names.
-abbrev pub NotCertified : {S : Type 0} → Opening S → Making S → Pairing S → S → Certifying → S → Type 0
-NotCertified o m b old c new = Tried o old c.input.now new ⊎ Behind o old c (λ between made certificate. NotAllStand m b between c made certificate new)
+abbrev pub NotCertified : {S : Type 0} → Opening S → Putting S → S → Certifying → S → Type 0
+NotCertified o w old c new = Tried o old c.input.now new ⊎ Behind o old c (λ between made certificate. NotAllStand w between c made certificate new)
 
 -- ---- with the lines of the source at a name, which is opened first
 
-abbrev pub CertifyWithSays : {S : Type 0} → Opening S → Making S → Pairing S → S → Certifying → S → Assessed → Type 0
-CertifyWithSays {S} o m b old c new a = (between : S) × LinesAt o old c.lines between × CertifySays o m b between c new a.assessment
+abbrev pub CertifyWithSays : {S : Type 0} → Opening S → Putting S → S → Certifying → S → Assessed → Type 0
+CertifyWithSays {S} o w old c new a = (between : S) × LinesAt o old c.lines between (string_bytes a.lines) × CertifySays o w between c new a.assessment
 
-abbrev pub CertifyWithFails : {S : Type 0} → Opening S → Making S → Pairing S → S → Certifying → S → Failure → Type 0
-CertifyWithFails {S} o m b old c new failure =
-    LinesFail o old c.lines new failure ⊎ ((between : S) × LinesAt o old c.lines between × CertifyFails o m b between c new failure)
+abbrev pub CertifyWithFails : {S : Type 0} → Opening S → Putting S → S → Certifying → S → Failure → Type 0
+CertifyWithFails {S} o w old c new failure =
+    LinesFail o old c.lines new failure ⊎ ((between : S) × (table : List ℕ) × LinesAt o old c.lines between table × CertifyFails o w between c new failure)
 
-abbrev pub NotCertifiedWith : {S : Type 0} → Opening S → Making S → Pairing S → S → Certifying → S → Type 0
-NotCertifiedWith {S} o m b old c new =
-    OpensFirst o (behind_lines c.lines []) old new ⊎ ((between : S) × LinesAt o old c.lines between × NotCertified o m b between c new)
+abbrev pub NotCertifiedWith : {S : Type 0} → Opening S → Putting S → S → Certifying → S → Type 0
+NotCertifiedWith {S} o w old c new =
+    OpensFirst o (behind_lines c.lines []) old new ⊎ ((between : S) × (table : List ℕ) × LinesAt o old c.lines between table × NotCertified o w between c new)

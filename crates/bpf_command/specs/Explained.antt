@@ -1,6 +1,6 @@
 -- Which status `explain` answers, by what the names hold: that of an answer of the command that judges the same. What it
 -- prints are words.
-use Rattle.std.specs.Prelude.{◌≡◌, ◌⊎◌, ◌<◌, ℕ, Bool, List, Option, Some, None, false, min}
+use Rattle.std.specs.Prelude.{◌≡◌, ◌⊎◌, ◌<◌, ℕ, Bool, List, [], Option, Some, None, false, min}
 use Rattle.std.specs.Borrow.{Bor}
 use Rattle.bpf_insn.specs.Instruction.{Instructions, slots}
 use Rattle.bpf_insn.specs.declared.order.Order.{Order}
@@ -108,17 +108,20 @@ ExplainFails o order old input (Misfit clash) new = λ failure. (failure ≡ Not
 
 -- ---- with the lines of the source at a name, which is opened first
 
-abbrev pub LinesAt : {S : Type 0} → Opening S → S → Option (Bor (List ℕ)) → S → Type 0
-LinesAt opening old None new = new ≡ old
-LinesAt opening old (Some lines) new = Tried opening old lines.now new
+-- the table of the lines: the text at the name; an empty one where no name is given
+abbrev pub LinesAt : {S : Type 0} → Opening S → S → Option (Bor (List ℕ)) → S → List ℕ → Type 0
+LinesAt opening old None new table = (new ≡ old) × (table ≡ [])
+LinesAt opening old (Some lines) new table = ShortTextAt opening old lines.now new (λ text. table ≡ text)
 
 abbrev pub LinesFail : {S : Type 0} → Opening S → S → Option (Bor (List ℕ)) → S → Failure → Type 0
 LinesFail opening old (Some lines) new (CannotRead name) = (name.now ≡ lines.now) × Tried opening old lines.now new
 LinesFail opening old lines new failure = OutputFails failure
 
 abbrev pub ExplainWithSays : {S : Type 0} → Opening S → S → Explaining → S → ℕ → Type 0
-ExplainWithSays {S} o old e new status = (between : S) × LinesAt o old e.lines between × ExplainSays o e.order between e.input.now e.subject new status
+ExplainWithSays {S} o old e new status =
+    (between : S) × (table : List ℕ) × LinesAt o old e.lines between table × ExplainSays o e.order between e.input.now e.subject new status
 
 abbrev pub ExplainWithFails : {S : Type 0} → Opening S → S → Explaining → S → Failure → Type 0
 ExplainWithFails {S} o old e new failure =
-    LinesFail o old e.lines new failure ⊎ ((between : S) × LinesAt o old e.lines between × ExplainFails o e.order between e.input.now e.subject new failure)
+    LinesFail o old e.lines new failure
+    ⊎ ((between : S) × (table : List ℕ) × LinesAt o old e.lines between table × ExplainFails o e.order between e.input.now e.subject new failure)

@@ -1,6 +1,7 @@
 -- What a command found, and how it is printed.
-use Rattle.std.specs.Prelude.{◌≡◌, List, ℕ, Option, Result, Ok, Err, false}
+use Rattle.std.specs.Prelude.{◌≡◌, List, [], ℕ, Option, Result, Ok, Err, false}
 use Rattle.std.specs.Io.KnownBytes.{Keeps}
+use Rattle.std.specs.String.{string_bytes}
 use Rattle.bpf_insn.specs.Written.{AppendsBeginning}
 use Rattle.bpf_answers.specs.Answer.{Says, is_written, text_of}
 use Rattle.bpf_answers.specs.Told.{OutputFails}
@@ -26,6 +27,11 @@ reply_of (Inferred found) = One (inference_answer found)
 reply_of (Hardened found) = One (attempt_answer found)
 reply_of (Certified found) = One (assessment_answer found.assessment)
 reply_of (Converted found) = One (conversion_answer found)
+
+-- the table of the lines of the program's source, where it was read
+abbrev pub lines_of : Finding → List ℕ
+lines_of (Certified found) = string_bytes found.lines
+lines_of found = []
 
 -- The answer was printed with its status, or printing it failed; of what was printed before, the status is given.
 abbrev pub Prints : Reply → Option (List ℕ) → Option (List ℕ) → Result ℕ Failure → Type 0

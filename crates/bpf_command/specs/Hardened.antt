@@ -106,6 +106,10 @@ pub record IsKept (program made : Instructions) (h : Hardening) (notes : List (O
   pub shown : Show program made notes kept.bounds kept.mismatch
   pub proved : h.unproved ≡ false → kept.mismatch ≡ None
 
+-- There are notes of which that is so, and a text is theirs, where a name for it is given.
+abbrev pub IsNoted : Instructions → Instructions → Hardening → Kept → List ℕ → Type 0
+IsNoted program made h kept text = (notes : List (Option Place)) × IsKept program made h notes kept × IfSome h.notes (λ _. text ≡ notes_text notes)
+
 -- The image is a program's, and what was made of it is a program, of which what is told is so. Where its notes match it keeps the meaning.
 pub record Hardens {S : Type 0} (opening : Opening S) (old : S) (h : Hardening) (new : S) (made : Instructions) (notes : List (Option Place)) (kept : Kept) : Type 0 where
   pub program : Instructions

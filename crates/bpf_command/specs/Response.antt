@@ -1,13 +1,14 @@
 -- What the command answers to its words, whatever they ask for.
-use Rattle.std.specs.Prelude.{◌≡◌, ◌≢◌, ◌⊎◌, ⊤, Bool, true, false, List, [], ◌∷◌, ℕ, Option, Some, None, Result, Ok, Err, MatchResult}
+use Rattle.std.specs.Prelude.{◌≡◌, ◌≢◌, ◌⊎◌, ⊤, Bool, true, false, List, [], ◌∷◌, map, ℕ, String, Option, Some, None, Result, Ok, Err, MatchResult}
 use Rattle.std.specs.Io.KnownBytes.{Keeps}
+use Rattle.std.specs.String.{string_bytes}
 use Rattle.clap.specs.Words.{Text, subcommand_of}
 use Rattle.bpf_request.specs.CommandLine.{IsAsked, bpf, faults_in}
 use Rattle.bpf_request.specs.declared.words.Request.{Request}
 use Rattle.bpf_request.specs.declared.words.Request.TheVariants.{Groups, Asm, List as ListOf, Run, Check, RunChecked, Replay, Infer, Harden, Certify, Convert, ToC, Follows, Migrate, Explain}
 use Rattle.bpf_places.specs.Opened.{Opening}
 use Rattle.bpf_places.specs.Made.{Making, making}
-use Rattle.bpf_answers.specs.Both.{Pairing, pairing}
+use Rattle.bpf_answers.specs.Both.{Putting, putting}
 use Rattle.bpf_answers.specs.Loaded.{ImageFails, OpensFirst}
 use Rattle.bpf_answers.specs.Told.{IsTold}
 use Rattle.bpf_answers.specs.declared.failure.Failure.{Failure}
@@ -36,18 +37,18 @@ pub record AtNames (S : Type 0) : Type 1 where
   pub meets : Meeting S
   pub opens : Opening S
   pub makes : Making S
-  pub pairs : Pairing S
+  pub puts : Putting S
   pub places : Placing S
   pub old : S
   pub new : S
 
-abbrev pub at_names : {S W : Type 0} → Meeting S → Opening S → (S → List ℕ → Option W → S → Type 0) → (S → W → Bool → S → Type 0) → (W → Option (List ℕ)) → S → S → AtNames S
-at_names meets opens creates ends contents old new =
+abbrev pub names : {S W : Type 0} → Meeting S → Opening S → (S → List ℕ → Option W → S → Type 0) → (S → W → Bool → S → Type 0) → (W → Option (List ℕ)) → S → S → AtNames S
+names meets opens creates ends contents old new =
     record {
       meets = meets;
       opens = opens;
       makes = making creates ends contents;
-      pairs = pairing creates ends contents;
+      puts = putting creates ends contents;
       places = placing creates ends contents;
       old = old;
       new = new;
@@ -63,7 +64,7 @@ Untouched n before after = (n.new ≡ n.old) × Keeps before after
 -- read, and `explain` prints words; nothing else is printed.
 abbrev pub Does : {S : Type 0} → AtNames S → Option (List ℕ) → Option (List ℕ) → Request → Finding → Type 0
 Does n before after (Groups g) found = Gives (Replies (ImageSays n.opens g.order n.old g.input.now n.new GroupsSay) before after) found
-Does n before after (Asm a) found = Gives (Replies (AsmSays n.opens n.makes a.order n.old a.input.now a.output.now n.new) before after) found
+Does n before after (Asm a) found = Gives (Replies (AsmSays n.opens n.makes n.old a n.new) before after) found
 Does n before after (ListOf l) found = Gives (Replies (ImageSays n.opens l.order n.old l.input.now n.new (ListSays (notes_of l.slots l.bytes))) before after) found
 Does n before after (Run r) found = Gives (RunSays n.opens n.old r r.contexts n.new before after) found
 Does n before after (Check c) found = Gives (Replies (CheckSays n.opens c.order n.old c.input.now c.certificate.now n.new c.work) before after) found
@@ -71,7 +72,7 @@ Does n before after (RunChecked r) found = Gives (CheckedSays n.opens n.old r r.
 Does n before after (Replay r) found = Gives (ReplayedSays n.opens n.old r n.new before after) found
 Does n before after (Infer i) found = Infers (InferSays n.opens n.makes n.old i n.new) found × Keeps before after
 Does n before after (Harden h) found = HardensTo (HardenSays n.opens n.makes n.old h n.new) found × Keeps before after
-Does n before after (Certify c) found = Assesses (CertifyWithSays n.opens n.makes n.pairs n.old c n.new) found × Keeps before after
+Does n before after (Certify c) found = Assesses (CertifyWithSays n.opens n.puts n.old c n.new) found × Keeps before after
 Does n before after (Convert c) found = Converts (ConvertSays n.opens n.places n.old c n.new) found × Keeps before after
 Does n before after (ToC e) found = Gives (Replies (EmitSays n.opens n.makes n.old e n.new) before after) found
 Does n before after (Follows f) found = Gives (Replies (FollowsSays n.opens n.old f n.new) before after) found
@@ -81,7 +82,7 @@ Does n before after (Migrate t) found = Gives (Replies (MigrateSays n.opens n.ma
 -- What failed of a request without a conflict.
 abbrev pub Misses : {S : Type 0} → AtNames S → Option (List ℕ) → Option (List ℕ) → Request → Failure → Type 0
 Misses n before after (Groups g) = ImageFails n.opens n.old g.input.now n.new
-Misses n before after (Asm a) = AsmFails n.opens n.makes a.order n.old a.input.now a.output.now n.new
+Misses n before after (Asm a) = AsmFails n.opens n.makes n.old a n.new
 Misses n before after (ListOf l) = ImageFails n.opens n.old l.input.now n.new
 Misses n before after (Run r) = RunFails n.opens n.old r r.contexts n.new before after
 Misses n before after (Check c) = LoadedFails n.opens c.order n.old c.input.now c.certificate.now n.new
@@ -89,7 +90,7 @@ Misses n before after (RunChecked r) = CheckedFails n.opens n.old r r.contexts n
 Misses n before after (Replay r) = ReplayedFails n.opens n.old r n.new before after
 Misses n before after (Infer i) = InferFails n.opens n.makes n.old i n.new
 Misses n before after (Harden h) = HardenFails n.opens n.makes n.old h n.new
-Misses n before after (Certify c) = CertifyWithFails n.opens n.makes n.pairs n.old c n.new
+Misses n before after (Certify c) = CertifyWithFails n.opens n.puts n.old c n.new
 Misses n before after (Convert c) = ConvertFails n.opens n.places n.old c n.new
 Misses n before after (ToC e) = EmitFails n.opens n.makes n.old e n.new
 Misses n before after (Follows f) = FollowsFails n.opens n.old f n.new
@@ -118,7 +119,7 @@ Leaves n before after (Migrate t) = Keeps before after
 -- What was done at the names then: those that it reads were opened in their order, up to one; what it makes isn't there.
 abbrev pub NotMade : {S : Type 0} → AtNames S → Request → Type 0
 NotMade n (Groups g) = OpensFirst n.opens (g.input.now ∷ []) n.old n.new
-NotMade n (Asm a) = NotAssembled n.opens n.makes a.order n.old a.input.now a.output.now n.new
+NotMade n (Asm a) = NotAssembled n.opens n.makes n.old a n.new
 NotMade n (ListOf l) = OpensFirst n.opens (l.input.now ∷ []) n.old n.new
 NotMade n (Run r) = OpensFirst n.opens (names_run r.input.now r.contexts) n.old n.new
 NotMade n (Check c) = OpensFirst n.opens (c.input.now ∷ c.certificate.now ∷ []) n.old n.new
@@ -126,7 +127,7 @@ NotMade n (RunChecked r) = OpensFirst n.opens (names_checked r.input.now r.certi
 NotMade n (Replay r) = OpensFirst n.opens (names_replayed r) n.old n.new
 NotMade n (Infer i) = NotInferred n.opens n.makes n.old i n.new
 NotMade n (Harden h) = NotAllMade n.opens n.makes n.old h n.new
-NotMade n (Certify c) = NotCertifiedWith n.opens n.makes n.pairs n.old c n.new
+NotMade n (Certify c) = NotCertifiedWith n.opens n.puts n.old c n.new
 NotMade n (Convert c) = NotConverted n.opens n.places n.old c n.new
 NotMade n (ToC e) = NotEmitted n.opens n.makes n.old e n.new
 NotMade n (Follows f) = OpensFirst n.opens (f.original.now ∷ f.rewritten.now ∷ f.notes.now ∷ []) n.old n.new
@@ -162,16 +163,20 @@ Replied n before after request result =
 abbrev pub Fails : {S : Type 0} → AtNames S → Option (List ℕ) → Option (List ℕ) → Request → Failure → Type 0
 Fails n before after request failure = Performs n before after request (Err failure) ⊎ Replied n before after request (Err failure)
 
--- A request is done, and what was found is printed, with its status; or it fails, which is told with its status.
-abbrev pub Serves : {S : Type 0} → AtNames S → Option (List ℕ) → Option (List ℕ) → Request → ℕ → Option (List ℕ) → Option (List ℕ) → Type 0
-Serves n before after request status old new =
-    (Replied n before after request (Ok status) × Keeps old new)
-    ⊎ ((failure : Failure) × Fails n before after request failure × IsTold failure status old new)
+-- A request is done, and what was found is printed, with its status; or it fails, which is told with its status. `out` and `err` say what stands on
+-- standard output and on standard error.
+abbrev pub Serves : {S W E : Type 0} → AtNames S → (out : W → Option (List ℕ)) → W → W → Request → ℕ → (err : E → Option (List ℕ)) → E → E → Type 0
+Serves n out before after request status err old new =
+    (Replied n (out before) (out after) request (Ok status) × Keeps (err old) (err new))
+    ⊎ ((failure : Failure) × Fails n (out before) (out after) request failure × IsTold failure status (err old) (err new))
 
 -- Of words with nothing wrong in them, what they ask for is served; words with something wrong have status 2; or there is no memory for the words,
 -- which is told. In the last two nothing is touched.
-abbrev pub Responds : {S : Type 0} → AtNames S → Option (List ℕ) → Option (List ℕ) → List Text → ℕ → Option (List ℕ) → Option (List ℕ) → Type 0
-Responds n before after words status old new =
-    ((request : Request) × (faults_in words ≡ []) × IsAsked (subcommand_of bpf words) request × Serves n before after request status old new)
-    ⊎ ((faults_in words ≢ []) × (status ≡ 2) × Untouched n before after)
-    ⊎ (IsTold NoMemory status old new × Untouched n before after)
+abbrev pub RespondsTo : {S W E : Type 0} → List Text → AtNames S → (out : W → Option (List ℕ)) → W → W → ℕ → (err : E → Option (List ℕ)) → E → E → Type 0
+RespondsTo words n out before after status err old new =
+    ((request : Request) × (faults_in words ≡ []) × IsAsked (subcommand_of bpf words) request × Serves n out before after request status err old new)
+    ⊎ ((faults_in words ≢ []) × (status ≡ 2) × Untouched n (out before) (out after))
+    ⊎ (IsTold NoMemory status (err old) (err new) × Untouched n (out before) (out after))
+
+abbrev pub Responds : {S W E Z : Type 0} → AtNames S → (out : W → Option (List ℕ)) → W → W → List (String Z) → ℕ → (err : E → Option (List ℕ)) → E → E → Type 0
+Responds n out before after words status err old new = RespondsTo (map (λ s. string_bytes s) words) n out before after status err old new

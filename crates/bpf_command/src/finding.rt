@@ -1,6 +1,7 @@
 //! What a command found.
 
-ghost use Rattle.bpf_command.specs.Found.{Prints, reply_of};
+ghost use Rattle.std.specs.Prelude.{◌≡◌};
+ghost use Rattle.bpf_command.specs.Found.{Prints, lines_of, reply_of};
 
 use crate::commands::{Assessed, Attempt, Inference};
 use bpf_answers::{Failure, Reply, print};
@@ -38,7 +39,9 @@ impl Finding {
     }
 
     /// The lines of the program's source, where they are known; else empty.
-    pub fn lines(&self) -> &[u8] {
+    pub fn lines(&self) -> &[u8]
+        ensures { result.now ≡ lines_of self.now }
+    {
         match self {
             Finding::Certified(found) => found.lines.as_str().as_bytes(),
             Finding::Given(_) | Finding::Inferred(_) | Finding::Hardened(_) => &[],

@@ -1,9 +1,7 @@
 //! From words to a status.
 
-ghost use Rattle.std.specs.Prelude.{map};
-ghost use Rattle.std.specs.String.{string_bytes};
 ghost use Rattle.bpf_answers.specs.Told.{IsTold, Tells};
-ghost use Rattle.bpf_command.specs.Response.{Carries, Performs, Responds, Serves, at_names};
+ghost use Rattle.bpf_command.specs.Response.{Carries, Performs, Responds, Serves, names};
 
 use crate::advice::after_failure;
 use crate::aside::Aside;
@@ -35,7 +33,7 @@ fn carry_out<'a, P: Places, W: Write, H: Aside>(
     out: &mut W,
     aside: &mut H,
 ) -> Result<Finding, Failure<'a>>
-    ensures { Carries (at_names P.meets P.opens P.creates P.ends P.Writer.contents places.old places.new) (W.contents out.old) (W.contents out.new)
+    ensures { Carries (names P.meets P.opens P.creates P.ends P.Writer.contents places.old places.new) (W.contents out.old) (W.contents out.new)
         request.entry result }
 {
     match request {
@@ -71,7 +69,7 @@ fn perform<'a, P: Places, W: Write, H: Aside>(
     out: &mut W,
     aside: &mut H,
 ) -> Result<Finding, Failure<'a>>
-    ensures { Performs (at_names P.meets P.opens P.creates P.ends P.Writer.contents places.old places.new) (W.contents out.old) (W.contents out.new)
+    ensures { Performs (names P.meets P.opens P.creates P.ends P.Writer.contents places.old places.new) (W.contents out.old) (W.contents out.new)
         request.entry result }
 {
     match conflict_in(request) {
@@ -117,25 +115,26 @@ fn tell_failure<P: Places, E: Write, H: Aside>(
 /// Finds what the request asks for, prints it, and then tells what helps. The status is that of the answer, or of the failure that is told.
 fn serve<P: Places, W: Write, E: Write, H: Aside>(
     alloc: Global,
-    request: Request<'_>,
+    asked: Request<'_>,
     places: &mut P,
     out: &mut W,
     err: &mut E,
     aside: &mut H,
 ) -> u8
-    ensures { Serves (at_names P.meets P.opens P.creates P.ends P.Writer.contents places.old places.new) (W.contents out.old) (W.contents out.new)
-        request.entry result (E.contents err.old) (E.contents err.new) }
+    ensures { Serves (names P.meets P.opens P.creates P.ends P.Writer.contents places.old places.new) W.contents out.old out.new
+        asked.entry result E.contents err.old err.new }
 {
-    let found = match perform(alloc, request, places, out, aside) {
+    let found = match perform(alloc, asked, places, out, aside) {
         Ok(found) => found,
-        Err(failure) => return tell_failure(failure, request, &*places, err, &*aside),
+        Err(failure) => return tell_failure(failure, asked, &*places, err, &*aside),
     };
     match found.print(out) {
         Ok(status) => {
-            tell_remark(alloc, &*aside, remark_of(request, &found), found.lines());
+            let remark = remark_of(asked, &found);
+            tell_remark(alloc, &*aside, asked, &found, remark);
             status
         }
-        Err(failure) => tell_failure(failure, request, &*places, err, &*aside),
+        Err(failure) => tell_failure(failure, asked, &*places, err, &*aside),
     }
 }
 
@@ -150,8 +149,8 @@ pub fn respond<P: Places, W: Write, E: Write, H: Aside>(
     err: &mut E,
     aside: &mut H,
 ) -> u8
-    ensures { Responds (at_names P.meets P.opens P.creates P.ends P.Writer.contents places.old places.new) (W.contents out.old) (W.contents out.new)
-        (map (λ s. string_bytes s) words.now) result (E.contents err.old) (E.contents err.new) }
+    ensures { Responds (names P.meets P.opens P.creates P.ends P.Writer.contents places.old places.new) W.contents out.old out.new
+        words.now result E.contents err.old err.new }
 {
     match request_of(alloc, words) {
         Ok(request) => serve(alloc, request, places, out, err, aside),

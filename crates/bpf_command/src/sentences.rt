@@ -1,17 +1,21 @@
 //! What is told beside an answer: sentences on standard error, whether or not people read there, and what helps, on a terminal.
 
+ghost use Rattle.std.specs.Prelude.{◌≡◌};
+ghost use Rattle.bpf_command.specs.Remarks.{remark_of};
+
 use crate::advice::{
     after_hardening, after_image, after_mismatch, after_proof, after_refusal, after_search,
     after_unshown,
 };
 use crate::aside::Aside;
+use crate::finding::Finding;
 use crate::remark::Remark;
 use crate::shown::Line;
 use bpf_certify::{CertifyError, MOST_BOUND};
 use bpf_check::Refusal;
 use bpf_explain_harden::Unshown;
 use bpf_explain_program::source_at;
-use bpf_request::Certifying;
+use bpf_request::{Certifying, Request};
 use std::alloc::Global;
 use std::fmt::{self, Display};
 use std::io::Write;
@@ -97,8 +101,18 @@ fn tell_refusal<H: Aside>(aside: &H, source: Source<'_, '_>, error: CertifyError
     }
 }
 
-/// Tells it; where the source is known, with the line of a slot. Whether it can be written makes no difference.
-pub fn tell_remark<H: Aside>(alloc: Global, aside: &H, remark: Remark<'_>, lines: &[u8]) {
+/// Tells what is to be told beside what was found for a request; where the source is known, with the line of a slot. Whether it can be written
+/// makes no difference.
+pub fn tell_remark<H: Aside>(
+    alloc: Global,
+    aside: &H,
+    _request: Request<'_>,
+    found: &Finding,
+    remark: Remark<'_>,
+)
+    requires { remark ≡ remark_of _request found.now }
+{
+    let lines = found.lines();
     match remark {
         Remark::Nothing => {}
         Remark::Why(request) => after_refusal(aside, request),

@@ -12,14 +12,9 @@ use Rattle.bpf_answers.specs.Both.{Put}
 use Rattle.bpf_answers.specs.Both.Put.{Neither, FirstAlone}
 use Rattle.bpf_answers.specs.declared.failure.Failure.{Failure}
 use Rattle.bpf_answers.specs.declared.failure.Failure.TheVariants.{CannotWrite}
-use Rattle.bpf_command_convert.specs.Converted.{BesideFails, IsOfListing, NotAll, PairFails, Stand}
+use Rattle.bpf_command_convert.specs.Converted.{BesideFails, IsOfListing, NotAll, PairFails, Stand, pair_of}
 use Rattle.bpf_command_convert.specs.Standing.{Standing, Beside, alone, beside, paired, placed, placing}
 use Rattle.bpf_command_convert.specs.Standing.Standing.{Nothing, ImageAlone, Unlisted}
-
--- the image and the certificate of what was made
-abbrev pub pair_of : {S W : Type 0} → (S → List ℕ → Option W → S → Type 0) → (S → W → Bool → S → Type 0) → (W → Option (List ℕ)) → Converting → Made → Put → S → S → Type 0
-pair_of creates ends contents c made put old new =
-    paired creates ends contents c (image made.converted.program.order made.converted.program.list) (certificate_text made.certificate) put old new
 
 -- ---- without a listing
 

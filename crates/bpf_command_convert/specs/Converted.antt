@@ -1,5 +1,5 @@
 -- What comes of a filter, and what is put at the names of the answers.
-use Rattle.std.specs.Prelude.{◌≡◌, ◌⊎◌, ◌<◌, ◌≤◌, ℕ, List, length, Option, Some, None, ⊤}
+use Rattle.std.specs.Prelude.{◌≡◌, ◌⊎◌, ◌<◌, ◌≤◌, ℕ, Bool, List, length, Option, Some, None, ⊤}
 use Rattle.std.specs.Borrow.{Bor}
 use Rattle.bpf_insn.specs.Image.{image}
 use Rattle.bpf_insn.specs.Limits.{max_context}
@@ -21,6 +21,7 @@ use Rattle.bpf_command_convert.specs.declared.conversion.Conversion.{Conversion}
 use Rattle.bpf_command_convert.specs.declared.conversion.Conversion.TheVariants.{Made as IsDone, Refused}
 pub use Rattle.bpf_command_convert.specs.Spelled.{IsMadeOf, IsUnconvertible, form_of, spelled, told_unconvertible}
 pub use Rattle.bpf_command_convert.specs.Standing.{Placing, Standing, placing}
+use Rattle.bpf_command_convert.specs.Standing.{beside, paired}
 use Rattle.bpf_command_convert.specs.Standing.Standing.{Whole, Nothing, ImageAlone, Unlisted}
 
 -- the most bytes of a filter that are read
@@ -49,6 +50,15 @@ pub record Converts {S : Type 0} (opening : Opening S) (old : S) (c : Converting
 
 -- ---- what stands at the names
 
+-- the image and the certificate of what was made, at the names of a conversion
+abbrev pub pair_of : {S W : Type 0} → (S → List ℕ → Option W → S → Type 0) → (S → W → Bool → S → Type 0) → (W → Option (List ℕ)) → Converting → Made → Put → S → S → Type 0
+pair_of creates ends contents c made put old new =
+    paired creates ends contents c (image made.converted.program.order made.converted.program.list) (certificate_text made.certificate) put old new
+
+-- the same with these lines at a name
+abbrev pub listed_pair : {S W : Type 0} → (S → List ℕ → Option W → S → Type 0) → (S → W → Bool → S → Type 0) → (W → Option (List ℕ)) → Converting → Made → Bor (List ℕ) → List ℕ → S → Standing → S → Type 0
+listed_pair creates ends contents c made name lines old which new = beside creates ends contents (pair_of creates ends contents c made) name.now lines old which new
+
 -- the image, the certificate's text, and the listing of the program with the filter's instructions
 abbrev pub Stand : {S : Type 0} → Placing S → S → Converting → List Raw → Made → Standing → S → Type 0
 Stand p old c raws made which new =
@@ -74,6 +84,10 @@ abbrev pub BesideFails : Converting → Bor (List ℕ) → (Standing → Type 0)
 BesideFails c name stands failure =
     (((failure ≡ CannotWrite c.output) ⊎ ((failure ≡ CannotWrite c.certificate) ⊎ ((failure ≡ NoMemory) ⊎ (failure ≡ CannotWrite name)))) × stands Nothing)
     ⊎ (((failure ≡ CannotWrite c.certificate) × stands ImageAlone) ⊎ ((failure ≡ CannotWrite name) × stands Unlisted))
+
+-- so of what was made, with these lines at a name
+abbrev pub ListedPairFails : {S W : Type 0} → (S → List ℕ → Option W → S → Type 0) → (S → W → Bool → S → Type 0) → (W → Option (List ℕ)) → Converting → Made → Bor (List ℕ) → List ℕ → S → S → Failure → Type 0
+ListedPairFails creates ends contents c made name lines old new = BesideFails c name (λ which. listed_pair creates ends contents c made name lines old which new)
 
 -- Nothing stands; or the image alone, and its certificate couldn't be finished; or both, and their listing couldn't.
 abbrev pub NotAll : {S : Type 0} → Placing S → S → Converting → List Raw → Made → S → Failure → Type 0

@@ -1,12 +1,10 @@
 //! What is put at the names of a conversion: the image, its certificate, and a listing where one is asked for.
 
 ghost use Rattle.std.specs.Prelude.{◌≡◌, ◌⊎◌, IfOk, IfErr};
-ghost use Rattle.bpf_insn.specs.Image.{image};
-ghost use Rattle.bpf_cert.specs.Spelling.{certificate_text};
 ghost use Rattle.bpf_answers.specs.Both.Put.{Both};
 ghost use Rattle.bpf_answers.specs.declared.failure.Failure.TheVariants.{CannotWrite, NoMemory};
-ghost use Rattle.bpf_command_convert.specs.Converted.{BesideFails, NotAll, PairFails, Stand};
-ghost use Rattle.bpf_command_convert.specs.Standing.{beside, paired, placing};
+ghost use Rattle.bpf_command_convert.specs.Converted.{ListedPairFails, NotAll, PairFails, Stand, listed_pair, pair_of};
+ghost use Rattle.bpf_command_convert.specs.Standing.{placing};
 ghost use Rattle.bpf_command_convert.specs.Standing.Standing.{Whole};
 
 use bpf_answers::{Content, Failure, put_both};
@@ -23,10 +21,9 @@ fn put_pair<'a, P: Places>(
     asked: Converting<'a>,
     made: &Made,
 ) -> Result<(), Failure<'a>>
-    ensures ok { IfOk result (λ _. paired P.creates P.ends P.Writer.contents asked.entry (image made.now.converted.program.order made.now.converted.program.list)
-        (certificate_text made.now.certificate) Both places.old places.new) }
-    ensures err { IfErr result (PairFails asked.entry (λ put. paired P.creates P.ends P.Writer.contents asked.entry
-        (image made.now.converted.program.order made.now.converted.program.list) (certificate_text made.now.certificate) put places.old places.new)) }
+    ensures ok { IfOk result (λ _. pair_of P.creates P.ends P.Writer.contents asked.entry made.now Both places.old places.new) }
+    ensures err { IfErr result (PairFails asked.entry
+        (λ put. pair_of P.creates P.ends P.Writer.contents asked.entry made.now put places.old places.new)) }
 {
     let program = made.converted.program();
     match put_both(
@@ -59,10 +56,10 @@ fn put_beside<'a, P: Places>(
     name: &'a str,
     lines: &Vec<u8>,
 ) -> Result<(), Failure<'a>>
-    ensures ok { IfOk result (λ _. beside P.creates P.ends P.Writer.contents (paired P.creates P.ends P.Writer.contents asked.entry
-        (image made.now.converted.program.order made.now.converted.program.list) (certificate_text made.now.certificate)) name.entry.now lines.now.items places.old Whole places.new) }
-    ensures err { IfErr result (BesideFails asked.entry name.entry (λ which. beside P.creates P.ends P.Writer.contents (paired P.creates P.ends P.Writer.contents asked.entry
-        (image made.now.converted.program.order made.now.converted.program.list) (certificate_text made.now.certificate)) name.entry.now lines.now.items places.old which places.new)) }
+    ensures ok { IfOk result (λ _. listed_pair P.creates P.ends P.Writer.contents asked.entry made.now name.entry lines.now.items
+        places.old Whole places.new) }
+    ensures err { IfErr result (ListedPairFails P.creates P.ends P.Writer.contents asked.entry made.now name.entry lines.now.items
+        places.old places.new) }
 {
     let mut writer = match places.create(name) {
         Ok(writer) => writer,

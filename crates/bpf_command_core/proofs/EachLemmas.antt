@@ -1,8 +1,10 @@
 -- What is said of contexts at a name, from what is said of them behind an image and a certificate.
 use Rattle.std.proofs.Common.{◌≡◌, ℕ, List, Option, subst, inr}
+use Rattle.std.specs.Borrow.{Bor}
 use Rattle.bpf_insn.specs.Instruction.{Instructions}
 use Rattle.bpf_cert.specs.View.{CertificateView}
 use Rattle.bpf_check.specs.CheckedProgram.{CheckedProgram, IsCertifiedBy, checked}
+use Rattle.bpf_request.specs.declared.asking.CheckedRunning.{CheckedRunning}
 use Rattle.bpf_places.specs.Opened.{Opening}
 use Rattle.bpf_answers.specs.Loaded.{CertificateAt}
 use Rattle.bpf_answers.specs.Each.{AnswersAt, FailsAt, LeftAt}
@@ -11,20 +13,20 @@ use Rattle.bpf_answers.specs.declared.failure.Failure.{Failure}
 use Rattle.bpf_command_core.specs.Given.{JudgedEachSays, JudgedEachFails, JudgedEachLeaves}
 use Rattle.bpf_command_core.specs.Printed.{ResultSays}
 
-pub judged_each_says : {S : Type 0} (opening : Opening S) (old : S) (certificate contexts : List ℕ) (between new : S) (p : Instructions) (c : CertificateView) (k : CheckedProgram) (before after : Option (List ℕ)) (status : ℕ)
-    → CertificateAt opening old certificate between c → IsCertifiedBy p c → k ≡ checked p c
-    → AnswersAt opening between contexts new (λ context. ResultSays context k) before after status → JudgedEachSays opening old certificate contexts new p before after (Each status)
-judged_each_says opening old certificate contexts between new p c k before after status read by same h =
-    inr (between, c, read, by, subst (λ q. AnswersAt opening between contexts new (λ context. ResultSays context q) before after status) same h)
+pub judged_each_says : {S : Type 0} (opening : Opening S) (old : S) (r : CheckedRunning) (name : Bor (List ℕ)) (between new : S) (p : Instructions) (c : CertificateView) (k : CheckedProgram) (before after : Option (List ℕ)) (status : ℕ)
+    → CertificateAt opening old r.certificate.now between c → IsCertifiedBy p c → k ≡ checked p c
+    → AnswersAt opening between name.now new (λ context. ResultSays context k) before after status → JudgedEachSays opening old r name new p before after (Each status)
+judged_each_says opening old r name between new p c k before after status read by same h =
+    inr (between, c, read, by, subst (λ q. AnswersAt opening between name.now new (λ context. ResultSays context q) before after status) same h)
 
-pub judged_each_fails : {S : Type 0} (opening : Opening S) (old : S) (certificate contexts : List ℕ) (between new : S) (p : Instructions) (c : CertificateView) (k : CheckedProgram) (before after : Option (List ℕ)) (failure : Failure)
-    → CertificateAt opening old certificate between c → IsCertifiedBy p c → k ≡ checked p c
-    → FailsAt opening between contexts new (λ context. ResultSays context k) before after failure → JudgedEachFails opening old certificate contexts new p before after failure
-judged_each_fails opening old certificate contexts between new p c k before after failure read by same h =
-    inr (between, c, read, by, subst (λ q. FailsAt opening between contexts new (λ context. ResultSays context q) before after failure) same h)
+pub judged_each_fails : {S : Type 0} (opening : Opening S) (old : S) (r : CheckedRunning) (name : Bor (List ℕ)) (between new : S) (p : Instructions) (c : CertificateView) (k : CheckedProgram) (before after : Option (List ℕ)) (failure : Failure)
+    → CertificateAt opening old r.certificate.now between c → IsCertifiedBy p c → k ≡ checked p c
+    → FailsAt opening between name.now new (λ context. ResultSays context k) before after failure → JudgedEachFails opening old r name new p before after failure
+judged_each_fails opening old r name between new p c k before after failure read by same h =
+    inr (between, c, read, by, subst (λ q. FailsAt opening between name.now new (λ context. ResultSays context q) before after failure) same h)
 
-pub judged_each_leaves : {S : Type 0} (opening : Opening S) (old : S) (certificate contexts : List ℕ) (between new : S) (p : Instructions) (c : CertificateView) (k : CheckedProgram) (before after : Option (List ℕ))
-    → CertificateAt opening old certificate between c → IsCertifiedBy p c → k ≡ checked p c
-    → LeftAt opening between contexts new (λ context. ResultSays context k) before after → JudgedEachLeaves opening old certificate contexts new p before after
-judged_each_leaves opening old certificate contexts between new p c k before after read by same h =
-    inr (between, c, read, by, subst (λ q. LeftAt opening between contexts new (λ context. ResultSays context q) before after) same h)
+pub judged_each_leaves : {S : Type 0} (opening : Opening S) (old : S) (r : CheckedRunning) (name : Bor (List ℕ)) (between new : S) (p : Instructions) (c : CertificateView) (k : CheckedProgram) (before after : Option (List ℕ))
+    → CertificateAt opening old r.certificate.now between c → IsCertifiedBy p c → k ≡ checked p c
+    → LeftAt opening between name.now new (λ context. ResultSays context k) before after → JudgedEachLeaves opening old r name new p before after
+judged_each_leaves opening old r name between new p c k before after read by same h =
+    inr (between, c, read, by, subst (λ q. LeftAt opening between name.now new (λ context. ResultSays context q) before after) same h)

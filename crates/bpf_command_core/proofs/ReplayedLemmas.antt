@@ -6,8 +6,7 @@ use Rattle.bpf_cert.specs.View.{CertificateView}
 use Rattle.bpf_check.specs.CheckedProgram.{CheckedProgram, IsCertifiedBy, checked}
 use Rattle.bpf_places.specs.Opened.{Opening}
 use Rattle.bpf_answers.specs.Loaded.{CertificateAt}
-use Rattle.bpf_replay.specs.Lines.{IsTold}
-use Rattle.bpf_replay.specs.Stops.{Replayed}
+use Rattle.bpf_replay.specs.Stops.{Replays}
 use Rattle.bpf_replay.specs.declared.turn.Stop.{Stop}
 use Rattle.bpf_replay.specs.declared.turn.Stop.TheVariants.{Failed}
 use Rattle.bpf_answers.proofs.MadeLemmas.{whole}
@@ -19,8 +18,7 @@ use Rattle.bpf_command_core.specs.declared.packets.Packets.{Packets}
 
 -- what `replay` gives where it stops
 abbrev pub Stopped : Packets → CheckedProgram → Option (List ℕ) → Option (List ℕ) → Option (List ℕ) → Stop → Type 0
-Stopped packets k known before after stop =
-    (values : List ℕ) × (text : List ℕ) × Replayed (Gives k) (blocks_of packets.order k) known stop values × IsTold packets.counts values text × Appends before after text
+Stopped packets k known before after stop = Replays (Gives k) (blocks_of packets.order k) known packets.counts (Appends before after) stop
 
 pub replay_says : {E : Type 0} (packets : Packets) (k : CheckedProgram) (known before after : Option (List ℕ)) (stop : Stop) (result : Result Reply E) → Stopped packets k known before after stop
     → IfOk result (EndsBy stop) → IfOk result (ReplaySays packets k known before after)

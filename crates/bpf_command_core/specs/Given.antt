@@ -1,5 +1,6 @@
 -- What a command answers by the contexts that are given: one by a word, one at a name, or those of the lines at a name.
 use Rattle.std.specs.Prelude.{◌≡◌, ◌⊎◌, ℕ, List, Option, Ok}
+use Rattle.std.specs.Borrow.{Bor}
 use Rattle.bpf_insn.specs.Instruction.{Instructions}
 use Rattle.bpf_request.specs.declared.asking.Running.{Running}
 use Rattle.bpf_request.specs.declared.asking.CheckedRunning.{CheckedRunning}
@@ -48,6 +49,10 @@ RepliesEach says before after (Each status) = says before after status
 
 -- ---- runs
 
+-- what is answered on one context
+abbrev pub OneRunSays : {S : Type 0} → Opening S → S → Running → S → List ℕ → Answer → Type 0
+OneRunSays opening old r new context = ImageSays opening r.order old r.input.now new (OutcomeSays context r.steps)
+
 -- the image is refused, or its program answers each context
 abbrev pub RunEachSays : {S : Type 0} → Opening S → S → Running → List ℕ → S → Option (List ℕ) → Option (List ℕ) → Reply → Type 0
 RunEachSays {S} opening old r contexts new before after reply =
@@ -69,9 +74,8 @@ RunEachLeaves {S} opening old r contexts new before after =
     × LeftAt opening between contexts new (λ context. OutcomeSays context r.steps p) before after)
 
 abbrev pub RunSays : {S : Type 0} → Opening S → S → Running → Contexts → S → Option (List ℕ) → Option (List ℕ) → Reply → Type 0
-RunSays opening old r (Word hex) new = Replies (OnWord hex.now (λ context. ImageSays opening r.order old r.input.now new (OutcomeSays context r.steps)))
-RunSays opening old r (Bytes name) new =
-    Replies (OnNamed opening old name.now (λ between context. ImageSays opening r.order between r.input.now new (OutcomeSays context r.steps)))
+RunSays opening old r (Word hex) new = Replies (OnWord hex.now (OneRunSays opening old r new))
+RunSays opening old r (Bytes name) new = Replies (OnNamed opening old name.now (λ between. OneRunSays opening between r new))
 RunSays opening old r (Lines name) new = RunEachSays opening old r name.now new
 RunSays opening old r Nothing new = λ before after reply. ⊥
 RunSays opening old r Several new = λ before after reply. ⊥
@@ -92,62 +96,68 @@ RunLeaves opening old r Several new = Keeps
 
 -- ---- checked runs
 
--- the certificate is refused, or the checked program answers each context
-abbrev pub JudgedEachSays : {S : Type 0} → Opening S → S → List ℕ → List ℕ → S → Instructions → Option (List ℕ) → Option (List ℕ) → Reply → Type 0
-JudgedEachSays {S} opening old certificate contexts new p before after reply =
-    Replies (JudgedSays opening old certificate new p (λ k x. ⊥)) before after reply
-    ⊎ ((between : S) × (c : CertificateView) × CertificateAt opening old certificate between c × IsCertifiedBy p c
-    × RepliesEach (AnswersAt opening between contexts new (λ context. ResultSays context (checked p c))) before after reply)
+-- what is answered on one context
+abbrev pub OneCheckedSays : {S : Type 0} → Opening S → S → CheckedRunning → S → List ℕ → Answer → Type 0
+OneCheckedSays opening old r new = RunCheckedSays opening r.order old r.input.now r.certificate.now new
 
-abbrev pub JudgedEachFails : {S : Type 0} → Opening S → S → List ℕ → List ℕ → S → Instructions → Option (List ℕ) → Option (List ℕ) → Failure → Type 0
-JudgedEachFails {S} opening old certificate contexts new p before after failure =
-    CertificateFails opening old certificate new failure
-    ⊎ ((between : S) × (c : CertificateView) × CertificateAt opening old certificate between c × IsCertifiedBy p c
-    × FailsAt opening between contexts new (λ context. ResultSays context (checked p c)) before after failure)
+abbrev pub OneCheckedFails : {S : Type 0} → Opening S → S → CheckedRunning → S → Failure → Type 0
+OneCheckedFails opening old r new = LoadedFails opening r.order old r.input.now r.certificate.now new
 
-abbrev pub JudgedEachLeaves : {S : Type 0} → Opening S → S → List ℕ → List ℕ → S → Instructions → Option (List ℕ) → Option (List ℕ) → Type 0
-JudgedEachLeaves {S} opening old certificate contexts new p before after =
+-- the certificate is refused, or the checked program answers each context of the lines at a name
+abbrev pub JudgedEachSays : {S : Type 0} → Opening S → S → CheckedRunning → Bor (List ℕ) → S → Instructions → Option (List ℕ) → Option (List ℕ) → Reply → Type 0
+JudgedEachSays {S} opening old r name new p before after reply =
+    Replies (JudgedSays opening old r.certificate.now new p (λ k x. ⊥)) before after reply
+    ⊎ ((between : S) × (c : CertificateView) × CertificateAt opening old r.certificate.now between c × IsCertifiedBy p c
+    × RepliesEach (AnswersAt opening between name.now new (λ context. ResultSays context (checked p c))) before after reply)
+
+abbrev pub JudgedEachFails : {S : Type 0} → Opening S → S → CheckedRunning → Bor (List ℕ) → S → Instructions → Option (List ℕ) → Option (List ℕ) → Failure → Type 0
+JudgedEachFails {S} opening old r name new p before after failure =
+    CertificateFails opening old r.certificate.now new failure
+    ⊎ ((between : S) × (c : CertificateView) × CertificateAt opening old r.certificate.now between c × IsCertifiedBy p c
+    × FailsAt opening between name.now new (λ context. ResultSays context (checked p c)) before after failure)
+
+abbrev pub JudgedEachLeaves : {S : Type 0} → Opening S → S → CheckedRunning → Bor (List ℕ) → S → Instructions → Option (List ℕ) → Option (List ℕ) → Type 0
+JudgedEachLeaves {S} opening old r name new p before after =
     Keeps before after
-    ⊎ ((between : S) × (c : CertificateView) × CertificateAt opening old certificate between c × IsCertifiedBy p c
-    × LeftAt opening between contexts new (λ context. ResultSays context (checked p c)) before after)
+    ⊎ ((between : S) × (c : CertificateView) × CertificateAt opening old r.certificate.now between c × IsCertifiedBy p c
+    × LeftAt opening between name.now new (λ context. ResultSays context (checked p c)) before after)
 
 -- the image is refused, or what is said of its program and the certificate
-abbrev pub CheckedEachSays : {S : Type 0} → Opening S → S → CheckedRunning → List ℕ → S → Option (List ℕ) → Option (List ℕ) → Reply → Type 0
-CheckedEachSays {S} opening old r contexts new before after reply =
+abbrev pub CheckedEachSays : {S : Type 0} → Opening S → S → CheckedRunning → Bor (List ℕ) → S → Option (List ℕ) → Option (List ℕ) → Reply → Type 0
+CheckedEachSays {S} opening old r name new before after reply =
     Replies (ImageSays opening r.order old r.input.now new (λ p x. ⊥)) before after reply
     ⊎ ((between : S) × (p : Instructions) × LoadsImage opening r.order old r.input.now between p
-    × JudgedEachSays opening between r.certificate.now contexts new p before after reply)
+    × JudgedEachSays opening between r name new p before after reply)
 
-abbrev pub CheckedEachFails : {S : Type 0} → Opening S → S → CheckedRunning → List ℕ → S → Option (List ℕ) → Option (List ℕ) → Failure → Type 0
-CheckedEachFails {S} opening old r contexts new before after failure =
+abbrev pub CheckedEachFails : {S : Type 0} → Opening S → S → CheckedRunning → Bor (List ℕ) → S → Option (List ℕ) → Option (List ℕ) → Failure → Type 0
+CheckedEachFails {S} opening old r name new before after failure =
     ImageFails opening old r.input.now new failure
     ⊎ ((between : S) × (p : Instructions) × LoadsImage opening r.order old r.input.now between p
-    × JudgedEachFails opening between r.certificate.now contexts new p before after failure)
+    × JudgedEachFails opening between r name new p before after failure)
 
-abbrev pub CheckedEachLeaves : {S : Type 0} → Opening S → S → CheckedRunning → List ℕ → S → Option (List ℕ) → Option (List ℕ) → Type 0
-CheckedEachLeaves {S} opening old r contexts new before after =
+abbrev pub CheckedEachLeaves : {S : Type 0} → Opening S → S → CheckedRunning → Bor (List ℕ) → S → Option (List ℕ) → Option (List ℕ) → Type 0
+CheckedEachLeaves {S} opening old r name new before after =
     Keeps before after
     ⊎ ((between : S) × (p : Instructions) × LoadsImage opening r.order old r.input.now between p
-    × JudgedEachLeaves opening between r.certificate.now contexts new p before after)
+    × JudgedEachLeaves opening between r name new p before after)
 
 abbrev pub CheckedSays : {S : Type 0} → Opening S → S → CheckedRunning → Contexts → S → Option (List ℕ) → Option (List ℕ) → Reply → Type 0
-CheckedSays opening old r (Word hex) new = Replies (OnWord hex.now (RunCheckedSays opening r.order old r.input.now r.certificate.now new))
-CheckedSays opening old r (Bytes name) new = Replies (OnNamed opening old name.now (λ between. RunCheckedSays opening r.order between r.input.now r.certificate.now new))
-CheckedSays opening old r (Lines name) new = CheckedEachSays opening old r name.now new
+CheckedSays opening old r (Word hex) new = Replies (OnWord hex.now (OneCheckedSays opening old r new))
+CheckedSays opening old r (Bytes name) new = Replies (OnNamed opening old name.now (λ between. OneCheckedSays opening between r new))
+CheckedSays opening old r (Lines name) new = CheckedEachSays opening old r name new
 CheckedSays opening old r Nothing new = λ before after reply. ⊥
 CheckedSays opening old r Several new = λ before after reply. ⊥
 
 abbrev pub CheckedFails : {S : Type 0} → Opening S → S → CheckedRunning → Contexts → S → Option (List ℕ) → Option (List ℕ) → Failure → Type 0
-CheckedFails opening old r (Word hex) new before after failure = FailsWith old new hex.now (LoadedFails opening r.order old r.input.now r.certificate.now new) failure
-CheckedFails opening old r (Bytes name) new before after failure =
-    FailsBehind opening old name.now new (λ between. LoadedFails opening r.order between r.input.now r.certificate.now new) failure
-CheckedFails opening old r (Lines name) new before after failure = CheckedEachFails opening old r name.now new before after failure
+CheckedFails opening old r (Word hex) new before after failure = FailsWith old new hex.now (OneCheckedFails opening old r new) failure
+CheckedFails opening old r (Bytes name) new before after failure = FailsBehind opening old name.now new (λ between. OneCheckedFails opening between r new) failure
+CheckedFails opening old r (Lines name) new before after failure = CheckedEachFails opening old r name new before after failure
 CheckedFails opening old r Nothing new before after failure = (failure ≡ NoContext) × (new ≡ old)
 CheckedFails opening old r Several new before after failure = (failure ≡ ContextTwice) × (new ≡ old)
 
 abbrev pub CheckedLeaves : {S : Type 0} → Opening S → S → CheckedRunning → Contexts → S → Option (List ℕ) → Option (List ℕ) → Type 0
 CheckedLeaves opening old r (Word hex) new = Keeps
 CheckedLeaves opening old r (Bytes name) new = Keeps
-CheckedLeaves opening old r (Lines name) new = CheckedEachLeaves opening old r name.now new
+CheckedLeaves opening old r (Lines name) new = CheckedEachLeaves opening old r name new
 CheckedLeaves opening old r Nothing new = Keeps
 CheckedLeaves opening old r Several new = Keeps

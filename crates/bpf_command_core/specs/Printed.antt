@@ -20,6 +20,7 @@ use Rattle.bpf_check.specs.Verdicts.{Verified}
 use Rattle.bpf_answers.specs.Context.{context_in}
 use Rattle.bpf_answers.specs.declared.context.ContextError.{ContextError}
 use Rattle.bpf_answers.specs.declared.context.ContextError.TheVariants.{Memory as NoSpace}
+use Rattle.bpf_request.specs.declared.asking.Assembling.{Assembling}
 use Rattle.bpf_places.specs.Opened.{Opening}
 use Rattle.bpf_answers.specs.Loaded.{ImageRefused, LoadsImage, ImageFails, ShortTextAt, TextFails, CertificateAt, CertificateRefused, CertificateUnread, CertificateFails, Tried}
 use Rattle.bpf_places.specs.Made.{Making}
@@ -135,23 +136,26 @@ pub record LoadsText {S : Type 0} (opening : Opening S) (order : Order) (old : S
   pub order_is : p.order ≡ order
 
 -- OUT holds the program's image, or isn't opened
-abbrev pub AsmSays : {S : Type 0} → Opening S → Making S → Order → S → List ℕ → List ℕ → S → Answer → Type 0
-AsmSays opening making order old input output new (NoText e) = ShortTextAt opening old input new (λ text. (e ≡ NoRoom) ⊎ IsRefused text e)
-AsmSays {S} opening making order old input output new Written =
-    (between : S) × (p : Instructions) × LoadsText opening order old input between p × making between output (image p.order p.list) true new
-AsmSays opening making order old input output new answer = ⊥
+abbrev pub AsmSays : {S : Type 0} → Opening S → Making S → S → Assembling → S → Answer → Type 0
+AsmSays opening making old a new (NoText e) = ShortTextAt opening old a.input.now new (λ text. (e ≡ NoRoom) ⊎ IsRefused text e)
+AsmSays {S} opening making old a new Written =
+    (between : S) × (p : Instructions) × LoadsText opening a.order old a.input.now between p × making between a.output.now (image p.order p.list) true new
+AsmSays opening making old a new answer = ⊥
 
-abbrev pub AsmFails : {S : Type 0} → Opening S → Making S → Order → S → List ℕ → List ℕ → S → Failure → Type 0
-AsmFails opening making order old input output new (CannotRead name) = TextFails opening old input new (CannotRead name)
-AsmFails {S} opening making order old input output new (CannotWrite name) =
-    (name.now ≡ output) × ((between : S) × (p : Instructions) × LoadsText opening order old input between p × making between output (image p.order p.list) false new)
-AsmFails opening making order old input output new NoMemory = ⊤
-AsmFails opening making order old input output new failure = ⊥
+-- nothing came to stand at OUT
+abbrev pub AsmUnput : {S : Type 0} → Opening S → Making S → S → Assembling → S → Type 0
+AsmUnput {S} opening making old a new =
+    (between : S) × (p : Instructions) × LoadsText opening a.order old a.input.now between p × making between a.output.now (image p.order p.list) false new
+
+abbrev pub AsmFails : {S : Type 0} → Opening S → Making S → S → Assembling → S → Failure → Type 0
+AsmFails opening making old a new (CannotRead name) = TextFails opening old a.input.now new (CannotRead name)
+AsmFails opening making old a new (CannotWrite name) = (name.now ≡ a.output.now) × AsmUnput opening making old a new
+AsmFails opening making old a new NoMemory = ⊤
+AsmFails opening making old a new failure = ⊥
 
 -- where that fails, the input was opened, or couldn't be, and nothing came to stand at OUT
-abbrev pub NotAssembled : {S : Type 0} → Opening S → Making S → Order → S → List ℕ → List ℕ → S → Type 0
-NotAssembled {S} opening making order old input output new =
-    Tried opening old input new ⊎ ((between : S) × (p : Instructions) × LoadsText opening order old input between p × making between output (image p.order p.list) false new)
+abbrev pub NotAssembled : {S : Type 0} → Opening S → Making S → S → Assembling → S → Type 0
+NotAssembled opening making old a new = Tried opening old a.input.now new ⊎ AsmUnput opening making old a new
 
 -- the same certificate as version 2
 abbrev pub migrated : CertificateView → CertificateView

@@ -9,7 +9,7 @@ use Rattle.bpf_check.specs.CheckedProgram.{CheckedProgram, IsCertifiedBy, checke
 use Rattle.bpf_flat.specs.Runs.{RunsTo}
 use Rattle.bpf_packets.specs.Blocks.{head_bytes}
 use Rattle.bpf_replay.specs.Lines.{IsTold}
-use Rattle.bpf_replay.specs.Stops.{Replayed}
+use Rattle.bpf_replay.specs.Stops.{Replayed, Replays}
 use Rattle.bpf_replay.specs.declared.answerer.Blocks.{Blocks}
 use Rattle.bpf_replay.specs.declared.turn.Stop.{Stop}
 use Rattle.bpf_replay.specs.declared.turn.Stop.TheVariants.{End, Refused, Failed}
@@ -59,13 +59,12 @@ pub record ReplaySays (packets : Packets) (k : CheckedProgram) (known before aft
 -- The reader failed, and the packets before were answered; or the output did.
 abbrev pub ReplayFails : Packets → CheckedProgram → Option (List ℕ) → Option (List ℕ) → Option (List ℕ) → Failure → Type 0
 ReplayFails packets k known before after (CannotRead name) =
-    (name.now ≡ packets.name.now) × ((values text : List ℕ) × Replayed (Gives k) (blocks_of packets.order k) known Failed values × IsTold packets.counts values text × Appends before after text)
+    (name.now ≡ packets.name.now) × Replays (Gives k) (blocks_of packets.order k) known packets.counts (Appends before after) Failed
 ReplayFails packets k known before after failure = OutputFails failure
 
 -- where that fails, a beginning was printed of the answers to the first packets
 abbrev pub ReplayLeft : Packets → CheckedProgram → Option (List ℕ) → Option (List ℕ) → Option (List ℕ) → Type 0
-ReplayLeft packets k known before after =
-    (values text : List ℕ) × Replayed (Gives k) (blocks_of packets.order k) known Failed values × IsTold packets.counts values text × AppendsBeginning before after text
+ReplayLeft packets k known before after = Replays (Gives k) (blocks_of packets.order k) known packets.counts (AppendsBeginning before after) Failed
 
 -- ---- at a name
 

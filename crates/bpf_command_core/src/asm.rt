@@ -16,12 +16,9 @@ pub fn assembled<'a, P: Places>(
     places: &mut P,
     asked: Assembling<'a>,
 ) -> Result<Answer, Failure<'a>>
-    ensures ok { IfOk result (AsmSays P.opens (making P.creates P.ends P.Writer.contents) asked.entry.order places.old asked.entry.input.now
-        asked.entry.output.now places.new) }
-    ensures err { IfErr result (AsmFails P.opens (making P.creates P.ends P.Writer.contents) asked.entry.order places.old asked.entry.input.now
-        asked.entry.output.now places.new) }
-    ensures names { IfErr result (λ _. NotAssembled P.opens (making P.creates P.ends P.Writer.contents) asked.entry.order places.old
-        asked.entry.input.now asked.entry.output.now places.new) }
+    ensures ok { IfOk result (AsmSays P.opens (making P.creates P.ends P.Writer.contents) places.old asked.entry places.new) }
+    ensures err { IfErr result (AsmFails P.opens (making P.creates P.ends P.Writer.contents) places.old asked.entry places.new) }
+    ensures names { IfErr result (λ _. NotAssembled P.opens (making P.creates P.ends P.Writer.contents) places.old asked.entry places.new) }
 {
     let text = text_at(alloc, places, asked.input)?;
     let program = match assemble(alloc, text.as_str(), asked.order) {

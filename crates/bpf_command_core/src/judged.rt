@@ -10,6 +10,7 @@ use bpf_answers::{Answer, Counted, Failure, Reply, Runner, answered, certificate
 use bpf_check::{Checked, check};
 use bpf_insn::Code;
 use bpf_places::Places;
+use bpf_request::CheckedRunning;
 use std::alloc::Global;
 use std::io::Write;
 
@@ -78,25 +79,25 @@ impl<'a, 'p, C: Code> Runner for Certified<'a, 'p, C> {
     }
 }
 
-/// Reads the certificate at a name, judges whether it certifies the program, and answers the contexts of the lines at
+/// Reads the certificate that is asked for, judges whether it certifies the program, and answers the contexts of the lines at
 /// another name, which is opened last.
 pub fn judged_each<'a, P: Places, C: Code, W: Write>(
     alloc: Global,
     places: &mut P,
     out: &mut W,
     program: &C,
-    certificate: &'a str,
+    asked: CheckedRunning<'a>,
     contexts: &'a str,
 ) -> Result<Reply, Failure<'a>>
-    ensures ok { IfOk result (JudgedEachSays P.opens places.old certificate.entry.now contexts.entry.now places.new (C.program program.now)
+    ensures ok { IfOk result (JudgedEachSays P.opens places.old asked.entry contexts.entry places.new (C.program program.now)
         (W.contents out.old) (W.contents out.new)) }
-    ensures err { IfErr result (JudgedEachFails P.opens places.old certificate.entry.now contexts.entry.now places.new (C.program program.now)
+    ensures err { IfErr result (JudgedEachFails P.opens places.old asked.entry contexts.entry places.new (C.program program.now)
         (W.contents out.old) (W.contents out.new)) }
-    ensures begun { IfErr result (λ _. JudgedEachLeaves P.opens places.old certificate.entry.now contexts.entry.now places.new
-        (C.program program.now) (W.contents out.old) (W.contents out.new)) }
-    ensures opened { OpensFirst P.opens (certificate.entry.now ∷ contexts.entry.now ∷ []) places.old places.new }
+    ensures begun { IfErr result (λ _. JudgedEachLeaves P.opens places.old asked.entry contexts.entry places.new (C.program program.now)
+        (W.contents out.old) (W.contents out.new)) }
+    ensures opened { OpensFirst P.opens (asked.entry.certificate.now ∷ contexts.entry.now ∷ []) places.old places.new }
 {
-    let certificate = match certificate_at(alloc, places, certificate)? {
+    let certificate = match certificate_at(alloc, places, asked.certificate)? {
         Ok(certificate) => certificate,
         Err(error) => return Ok(Reply::One(Answer::NoCertificate(error))),
     };

@@ -5,8 +5,8 @@ ghost use Rattle.std.specs.Prelude.{◌≤◌, IfOk, IfErr, length, ◌∷◌, [
 ghost use Rattle.bpf_machine.specs.Answers.{IsRun};
 ghost use Rattle.bpf_answers.specs.Loaded.{ImageFails, OpensFirst};
 ghost use Rattle.bpf_command_core.specs.Names.{names_run};
-ghost use Rattle.bpf_command_core.specs.Printed.{FailsWith, ImageSays, OutcomeSays};
-ghost use Rattle.bpf_command_core.specs.Given.{FailsBehind, OnNamed, OnWord, RunEachFails, RunEachLeaves, RunEachSays, RunFails, RunLeaves, RunSays};
+ghost use Rattle.bpf_command_core.specs.Printed.{FailsWith};
+ghost use Rattle.bpf_command_core.specs.Given.{FailsBehind, OnNamed, OnWord, OneRunSays, RunEachFails, RunEachLeaves, RunEachSays, RunFails, RunLeaves, RunSays};
 
 use crate::tracer::Tracer;
 use bpf_answers::{Answer, Failure, Reply, Runner, answered, context_at, context_of, program_at};
@@ -36,7 +36,7 @@ fn run_image<'a, P: Places, T: Tracer>(
     context: &[u8],
 ) -> Result<Answer, Failure<'a>>
     requires { length context.now ≤ max_context }
-    ensures ok { IfOk result (ImageSays P.opens asked.entry.order places.old asked.entry.input.now places.new (OutcomeSays context.now asked.entry.steps)) }
+    ensures ok { IfOk result (OneRunSays P.opens places.old asked.entry places.new context.now) }
     ensures err { IfErr result (ImageFails P.opens places.old asked.entry.input.now places.new) }
     ensures opened { OpensFirst P.opens (asked.entry.input.now ∷ []) places.old places.new }
 {
@@ -54,8 +54,7 @@ fn ran<'a, P: Places, T: Tracer>(
     asked: Running<'a>,
     hex: &'a str,
 ) -> Result<Answer, Failure<'a>>
-    ensures ok { IfOk result (OnWord hex.entry.now
-        (λ context. ImageSays P.opens asked.entry.order places.old asked.entry.input.now places.new (OutcomeSays context asked.entry.steps))) }
+    ensures ok { IfOk result (OnWord hex.entry.now (OneRunSays P.opens places.old asked.entry places.new)) }
     ensures err { IfErr result (FailsWith places.old places.new hex.entry.now (ImageFails P.opens places.old asked.entry.input.now places.new)) }
     ensures opened { OpensFirst P.opens (asked.entry.input.now ∷ []) places.old places.new }
 {
@@ -74,8 +73,7 @@ fn ran_at<'a, P: Places, T: Tracer>(
     asked: Running<'a>,
     context: &'a str,
 ) -> Result<Answer, Failure<'a>>
-    ensures ok { IfOk result (OnNamed P.opens places.old context.entry.now
-        (λ between context. ImageSays P.opens asked.entry.order between asked.entry.input.now places.new (OutcomeSays context asked.entry.steps))) }
+    ensures ok { IfOk result (OnNamed P.opens places.old context.entry.now (λ between. OneRunSays P.opens between asked.entry places.new)) }
     ensures err { IfErr result (FailsBehind P.opens places.old context.entry.now places.new
         (λ between. ImageFails P.opens between asked.entry.input.now places.new)) }
     ensures opened { OpensFirst P.opens (context.entry.now ∷ asked.entry.input.now ∷ []) places.old places.new }

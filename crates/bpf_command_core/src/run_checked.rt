@@ -3,8 +3,8 @@
 ghost use Rattle.std.specs.Prelude.{IfOk, IfErr, ◌∷◌, []};
 ghost use Rattle.bpf_answers.specs.Loaded.{OpensFirst};
 ghost use Rattle.bpf_command_core.specs.Names.{names_checked};
-ghost use Rattle.bpf_command_core.specs.Given.{CheckedEachFails, CheckedEachLeaves, CheckedEachSays, CheckedFails, CheckedLeaves, CheckedSays, FailsBehind, OnNamed, OnWord};
-ghost use Rattle.bpf_command_core.specs.Printed.{RunCheckedSays, LoadedFails, FailsWith};
+ghost use Rattle.bpf_command_core.specs.Given.{CheckedEachFails, CheckedEachLeaves, CheckedEachSays, CheckedFails, CheckedLeaves, CheckedSays, FailsBehind, OnNamed, OnWord, OneCheckedFails, OneCheckedSays};
+ghost use Rattle.bpf_command_core.specs.Printed.{FailsWith};
 
 use crate::judged::{Wish, judged, judged_each};
 use bpf_answers::{Answer, Failure, Reply, context_at, context_of, program_at};
@@ -20,8 +20,8 @@ fn run_certified<'a, P: Places>(
     asked: CheckedRunning<'a>,
     context: &[u8],
 ) -> Result<Answer, Failure<'a>>
-    ensures ok { IfOk result (RunCheckedSays P.opens asked.entry.order places.old asked.entry.input.now asked.entry.certificate.now places.new context.now) }
-    ensures err { IfErr result (LoadedFails P.opens asked.entry.order places.old asked.entry.input.now asked.entry.certificate.now places.new) }
+    ensures ok { IfOk result (OneCheckedSays P.opens places.old asked.entry places.new context.now) }
+    ensures err { IfErr result (OneCheckedFails P.opens places.old asked.entry places.new) }
     ensures opened { OpensFirst P.opens (asked.entry.input.now ∷ asked.entry.certificate.now ∷ []) places.old places.new }
 {
     match program_at(alloc, places, asked.input, asked.order)? {
@@ -41,10 +41,8 @@ fn ran_checked<'a, P: Places>(
     asked: CheckedRunning<'a>,
     hex: &'a str,
 ) -> Result<Answer, Failure<'a>>
-    ensures ok { IfOk result (OnWord hex.entry.now
-        (RunCheckedSays P.opens asked.entry.order places.old asked.entry.input.now asked.entry.certificate.now places.new)) }
-    ensures err { IfErr result (FailsWith places.old places.new hex.entry.now
-        (LoadedFails P.opens asked.entry.order places.old asked.entry.input.now asked.entry.certificate.now places.new)) }
+    ensures ok { IfOk result (OnWord hex.entry.now (OneCheckedSays P.opens places.old asked.entry places.new)) }
+    ensures err { IfErr result (FailsWith places.old places.new hex.entry.now (OneCheckedFails P.opens places.old asked.entry places.new)) }
     ensures opened { OpensFirst P.opens (asked.entry.input.now ∷ asked.entry.certificate.now ∷ []) places.old places.new }
 {
     let context = match context_of(alloc, hex) {
@@ -61,10 +59,9 @@ fn ran_checked_at<'a, P: Places>(
     asked: CheckedRunning<'a>,
     context: &'a str,
 ) -> Result<Answer, Failure<'a>>
-    ensures ok { IfOk result (OnNamed P.opens places.old context.entry.now
-        (λ between. RunCheckedSays P.opens asked.entry.order between asked.entry.input.now asked.entry.certificate.now places.new)) }
+    ensures ok { IfOk result (OnNamed P.opens places.old context.entry.now (λ between. OneCheckedSays P.opens between asked.entry places.new)) }
     ensures err { IfErr result (FailsBehind P.opens places.old context.entry.now places.new
-        (λ between. LoadedFails P.opens asked.entry.order between asked.entry.input.now asked.entry.certificate.now places.new)) }
+        (λ between. OneCheckedFails P.opens between asked.entry places.new)) }
     ensures opened { OpensFirst P.opens (context.entry.now ∷ asked.entry.input.now ∷ asked.entry.certificate.now ∷ []) places.old places.new }
 {
     let context = context_at(alloc, places, context)?;
@@ -80,14 +77,14 @@ fn ran_checked_each<'a, P: Places, W: Write>(
     asked: CheckedRunning<'a>,
     contexts: &'a str,
 ) -> Result<Reply, Failure<'a>>
-    ensures ok { IfOk result (CheckedEachSays P.opens places.old asked.entry contexts.entry.now places.new (W.contents out.old) (W.contents out.new)) }
-    ensures err { IfErr result (CheckedEachFails P.opens places.old asked.entry contexts.entry.now places.new (W.contents out.old) (W.contents out.new)) }
-    ensures begun { IfErr result (λ _. CheckedEachLeaves P.opens places.old asked.entry contexts.entry.now places.new
+    ensures ok { IfOk result (CheckedEachSays P.opens places.old asked.entry contexts.entry places.new (W.contents out.old) (W.contents out.new)) }
+    ensures err { IfErr result (CheckedEachFails P.opens places.old asked.entry contexts.entry places.new (W.contents out.old) (W.contents out.new)) }
+    ensures begun { IfErr result (λ _. CheckedEachLeaves P.opens places.old asked.entry contexts.entry places.new
         (W.contents out.old) (W.contents out.new)) }
     ensures opened { OpensFirst P.opens (asked.entry.input.now ∷ asked.entry.certificate.now ∷ contexts.entry.now ∷ []) places.old places.new }
 {
     match program_at(alloc, places, asked.input, asked.order)? {
-        Ok(program) => judged_each(alloc, places, out, &program, asked.certificate, contexts),
+        Ok(program) => judged_each(alloc, places, out, &program, asked, contexts),
         Err(error) => Ok(Reply::One(Answer::NoImage(error))),
     }
 }

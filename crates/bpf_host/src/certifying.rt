@@ -6,7 +6,7 @@ ghost use Rattle.bpf_host_runs.specs.Told.{order_named};
 ghost use Rattle.bpf_host_advice.specs.Certified.{GivesCertified, IsNotCertified, WantsCertifiedRoom};
 ghost use Rattle.bpf_host_runs.specs.declared.answers.TheConstants.{YES, NO, NO_MEMORY, BAD_CALL, TOO_SMALL};
 
-use bpf_host_advice::{BpfCertified, BpfWish};
+use bpf_host_advice::{BpfCertified, BpfWish, CertifyAsked};
 use bpf_host_runs::BpfRefusal;
 use std::alloc::Global;
 
@@ -33,7 +33,10 @@ pub extern "C" fn bpf_host_certify(
     ensures certified_kept { (result ≡ YES) ⊎ (result ≡ TOO_SMALL) ⊎ (certified.new ≡ certified.old) }
     ensures refusal_kept { (result ≡ NO) ⊎ (refusal.new ≡ refusal.old) }
 {
-    bpf_host_advice::certify(
-        alloc, image, order, size, wish, made, text, certified, refusal,
-    )
+    let asked = CertifyAsked {
+        order,
+        size,
+        wish: *wish,
+    };
+    bpf_host_advice::certify(alloc, image, asked, made, text, certified, refusal)
 }

@@ -7,7 +7,7 @@ ghost use Rattle.bpf_host_convert.specs.Converted.{GivesConverted, IsNotConverte
 ghost use Rattle.bpf_host_convert.specs.Sizes.{convert_size};
 ghost use Rattle.bpf_host_runs.specs.declared.answers.TheConstants.{YES, NO, NO_MEMORY, BAD_CALL, TOO_SMALL};
 
-use bpf_host_convert::BpfConverted;
+use bpf_host_convert::{BpfConverted, ConvertAsked};
 use bpf_host_runs::BpfRefusal;
 use std::alloc::Global;
 
@@ -43,16 +43,11 @@ pub extern "C" fn bpf_host_convert(
     ensures converted_kept { (result ≡ YES) ⊎ (result ≡ TOO_SMALL) ⊎ (converted.new ≡ converted.old) }
     ensures refusal_kept { (result ≡ NO) ⊎ (refusal.new ≡ refusal.old) }
 {
-    bpf_host_convert::convert(
-        alloc,
-        filter,
+    let asked = ConvertAsked {
         filter_order,
         form,
         size,
         order,
-        made,
-        text,
-        converted,
-        refusal,
-    )
+    };
+    bpf_host_convert::convert(alloc, filter, asked, made, text, converted, refusal)
 }

@@ -7,6 +7,7 @@ ghost use Rattle.bpf_host_runs.specs.Answers.{IsRefusedAsTold};
 ghost use Rattle.bpf_host_advice.specs.Explained.{IsSomeImage, IsRefusedImage, IsCertifiedBySome, IsFound, IsNotFound, GivesWords};
 ghost use Rattle.bpf_host_runs.specs.declared.answers.TheConstants.{YES, NO, NO_MEMORY, BAD_CALL, TOO_SMALL};
 
+use bpf_host_advice::{ExplainAsked, RangeAsked};
 use bpf_host_runs::BpfRefusal;
 use std::alloc::Global;
 
@@ -35,18 +36,13 @@ pub extern "C" fn bpf_host_explain(
     ensures wanted_kept { (result ≡ YES) ⊎ (result ≡ NO) ⊎ (result ≡ TOO_SMALL) ⊎ (wanted.new ≡ wanted.old) }
     ensures refusal_kept { (result ≡ NO) ⊎ (refusal.new ≡ refusal.old) }
 {
-    bpf_host_advice::explain(
-        alloc,
-        image,
+    let asked = ExplainAsked {
         order,
-        certificate,
         shown,
         slot,
         lines,
-        text,
-        wanted,
-        refusal,
-    )
+    };
+    bpf_host_advice::explain(alloc, image, certificate, asked, text, wanted, refusal)
 }
 
 /// `explain_search` of `bpf_host_advice`, for C.
@@ -76,9 +72,14 @@ pub extern "C" fn bpf_host_explain_search(
     ensures wanted_kept { (result ≡ YES) ⊎ (result ≡ NO) ⊎ (result ≡ TOO_SMALL) ⊎ (wanted.new ≡ wanted.old) }
     ensures refusal_kept { (result ≡ NO) ⊎ (refusal.new ≡ refusal.old) }
 {
-    bpf_host_advice::explain_search(
-        alloc, image, order, least, most, deep, shown, slot, lines, text, wanted, refusal,
-    )
+    let range = RangeAsked { least, most, deep };
+    let asked = ExplainAsked {
+        order,
+        shown,
+        slot,
+        lines,
+    };
+    bpf_host_advice::explain_search(alloc, image, range, asked, text, wanted, refusal)
 }
 
 /// `explain_image` of `bpf_host_advice`, for C.

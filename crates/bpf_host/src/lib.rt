@@ -8,9 +8,9 @@ ghost use Rattle.bpf_insn.specs.Laws.{IsImageOfProgram};
 ghost use Rattle.bpf_insn.specs.declared.instruction.Insn.{Insn as Instruction};
 ghost use Rattle.bpf_cert.specs.View.{CertificateView};
 ghost use Rattle.bpf_check.specs.Verdicts.{Verified, Promises, Certifies};
-ghost use Rattle.bpf_host_runs.specs.Told.{order_named, IsVerdictOf};
+ghost use Rattle.bpf_host_runs.specs.Told.{AnswersVerdict, order_named};
 ghost use Rattle.bpf_host_runs.specs.Prepared.{IsPrepared, IsMarked, IsWhole, prepared_head, version};
-ghost use Rattle.bpf_host_runs.specs.Loaded.{handle_head, IsLoaded, IsMarkedHandle, IsWholeHandle, HoldsLoaded, EndsAsLoaded, loaded_least, loaded_most};
+ghost use Rattle.bpf_host_runs.specs.Loaded.{handle_head, IsLoaded, LoadsEach, IsMarkedHandle, IsWholeHandle, HoldsLoaded, EndsAsLoaded, loaded_least, loaded_most};
 ghost use Rattle.bpf_host_runs.specs.Answers.{IsRefusedAsTold, IsNoImage, RanImage, RanPrepared, IsUnrun, HoldsProgram, MayRun, EndsAsPrepared};
 ghost use Rattle.bpf_host_advice.specs.Explained.{IsSomeImage};
 ghost use Rattle.bpf_host_advice.specs.Sizes.{infer_size, explain_size};
@@ -24,7 +24,8 @@ mod certifying;
 mod converting;
 mod explaining;
 
-use bpf_host_runs::{BpfOutcome, BpfRefusal, BpfVerdict};
+use bpf_host_advice::{HardenAsked, RangeAsked, RunsAsked};
+use bpf_host_runs::{BpfOutcome, BpfRefusal, BpfVerdict, LoadAsked};
 pub use certifying::bpf_host_certify;
 pub use converting::{bpf_host_convert, bpf_host_convert_size};
 pub use explaining::{bpf_host_explain, bpf_host_explain_image, bpf_host_explain_search};
@@ -51,7 +52,7 @@ pub extern "C" fn bpf_host_verify(
     ensures yes { result ≡ YES → Verified (order_named order) image.now verdict.new.least verdict.new.most verdict.new.bound }
     ensures promised { result ≡ YES → Promises (order_named order) image.now certificate.now verdict.new.least verdict.new.most verdict.new.bound }
     ensures no { result ≡ NO → IsRefusedAsTold (order_named order) image.now certificate.now refusal.new }
-    ensures accepts { (c : CertificateView) → order ≤ 1 → Certifies (order_named order) image.now certificate.now c → ((result ≡ YES) × IsVerdictOf c verdict.new) ⊎ (result ≡ NO_MEMORY) }
+    ensures accepts { (c : CertificateView) → order ≤ 1 → Certifies (order_named order) image.now certificate.now c → AnswersVerdict YES c result verdict.new }
     ensures memory { result ≡ NO_MEMORY → (is : List Instruction) × IsImageOfProgram (order_named order) image.now is }
     ensures call { (result ≡ BAD_CALL) ↔ (1 < order) }
     ensures answers { (result ≡ YES) ⊎ (result ≡ NO) ⊎ (result ≡ NO_MEMORY) ⊎ (result ≡ BAD_CALL) }
@@ -163,8 +164,8 @@ pub extern "C" fn bpf_host_load(
     ensures paid { result ≡ YES → verdict.new.bound ≤ limit }
     ensures long { result ≡ TOO_LONG → limit < verdict.new.bound }
     ensures no { result ≡ NO → IsRefusedAsTold (order_named order) image.now certificate.now refusal.new }
-    ensures accepts { (c : CertificateView) → order ≤ 1 → length memory.old ≡ handle_head + length image.now → Certifies (order_named order) image.now certificate.now c → c.steps ≤ limit → ((result ≡ YES) × IsVerdictOf c verdict.new) ⊎ (result ≡ NO_MEMORY) }
-    ensures unpaid { (c : CertificateView) → order ≤ 1 → length memory.old ≡ handle_head + length image.now → Certifies (order_named order) image.now certificate.now c → limit < c.steps → ((result ≡ TOO_LONG) × IsVerdictOf c verdict.new) ⊎ (result ≡ NO_MEMORY) }
+    ensures accepts { LoadsEach order image.now certificate.now memory.old (λ c. c.steps ≤ limit) (λ c. AnswersVerdict YES c result verdict.new) }
+    ensures unpaid { LoadsEach order image.now certificate.now memory.old (λ c. limit < c.steps) (λ c. AnswersVerdict TOO_LONG c result verdict.new) }
     ensures memory { result ≡ NO_MEMORY → (is : List Instruction) × IsImageOfProgram (order_named order) image.now is }
     ensures call { (result ≡ BAD_CALL) ↔ (1 < order) }
     ensures small { result ≡ TOO_SMALL → length memory.old ≢ handle_head + length image.now }
@@ -175,16 +176,8 @@ pub extern "C" fn bpf_host_load(
     ensures verdict_kept { (result ≡ YES) ⊎ (result ≡ TOO_LONG) ⊎ (verdict.new ≡ verdict.old) }
     ensures refusal_kept { (result ≡ NO) ⊎ (refusal.new ≡ refusal.old) }
 {
-    bpf_host_runs::load(
-        alloc,
-        image,
-        order,
-        certificate,
-        limit,
-        memory,
-        verdict,
-        refusal,
-    )
+    let asked = LoadAsked { order, limit };
+    bpf_host_runs::load(alloc, image, asked, certificate, memory, verdict, refusal)
 }
 
 /// `run_loaded` of `bpf_host_runs`, for C.
@@ -244,9 +237,8 @@ pub extern "C" fn bpf_host_infer(
     ensures wanted_kept { (result ≡ YES) ⊎ (result ≡ TOO_SMALL) ⊎ (wanted.new ≡ wanted.old) }
     ensures refusal_kept { (result ≡ NO) ⊎ (refusal.new ≡ refusal.old) }
 {
-    bpf_host_advice::infer(
-        alloc, image, order, least, most, deep, text, wanted, refusal,
-    )
+    let range = RangeAsked { least, most, deep };
+    bpf_host_advice::infer(alloc, image, order, range, text, wanted, refusal)
 }
 
 /// `harden` of `bpf_host_advice`, for C.
@@ -274,10 +266,15 @@ pub extern "C" fn bpf_host_harden(
     ensures wanted_kept { (result ≡ YES) ⊎ (result ≡ TOO_SMALL) ⊎ (wanted.new ≡ wanted.old) }
     ensures refusal_kept { (result ≡ NO) ⊎ (refusal.new ≡ refusal.old) }
 {
-    bpf_host_advice::harden(
-        alloc, image, order, size, turns, otherwise, padded, unproved, untouched, text, wanted,
-        refusal,
-    )
+    let asked = HardenAsked {
+        size,
+        turns,
+        otherwise,
+        padded,
+        unproved,
+        untouched,
+    };
+    bpf_host_advice::harden(alloc, image, order, asked, text, wanted, refusal)
 }
 
 /// `follows` of `bpf_host_advice`, for C.
@@ -300,9 +297,13 @@ pub extern "C" fn bpf_host_follows(
     ensures answers { (result ≡ YES) ⊎ (result ≡ NO) ⊎ (result ≡ NO_MEMORY) ⊎ (result ≡ BAD_CALL) }
     ensures refusal_kept { (result ≡ NO) ⊎ (refusal.new ≡ refusal.old) }
 {
-    bpf_host_advice::follows(
-        alloc, old, new, order, notes, size, turns, padded, untouched, refusal,
-    )
+    let runs = RunsAsked {
+        size,
+        turns,
+        padded,
+        untouched,
+    };
+    bpf_host_advice::follows(alloc, old, new, order, notes, runs, refusal)
 }
 
 /// `refusal_text` of `bpf_host_advice`, for C.

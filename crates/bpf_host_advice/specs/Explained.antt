@@ -2,6 +2,7 @@
 use Rattle.std.specs.Prelude.{◌≡◌, ◌<◌, ◌⊎◌, ◌++◌, ℕ, List, length, drop}
 use Rattle.bpf_insn.specs.Instruction.{Instructions}
 use Rattle.bpf_insn.specs.Laws.{IsImageOfProgram}
+use Rattle.bpf_insn.specs.Limits.{max_context}
 use Rattle.bpf_insn.specs.Refusal.{IsRefused}
 use Rattle.bpf_insn.specs.declared.order.Order.{Order}
 use Rattle.bpf_insn.specs.declared.instruction.Insn.{Insn}
@@ -17,10 +18,15 @@ use Rattle.bpf_host_advice.specs.Proposals.{IsNotProposed}
 use Rattle.bpf_explain_program.specs.declared.shown.Shown.{Shown}
 use Rattle.bpf_explain_program.specs.declared.shown.Shown.TheVariants.{Listing, Slot, Graph}
 use Rattle.bpf_host_runs.specs.declared.answers.BpfRefusal.{BpfRefusal}
+use Rattle.bpf_host_advice.specs.declared.asked.RangeAsked.{RangeAsked}
 use Rattle.bpf_host_advice.specs.declared.explanation.Judged.{Judged}
 use Rattle.bpf_host_advice.specs.declared.explanation.Judged.TheVariants.{Accepted, Refused}
 
 -- ---- what is asked for
+
+-- contexts or a search that there are not; or something else that no call takes
+abbrev pub IsNoRange : RangeAsked → Type 0 → Type 0
+IsNoRange range other = (range.most < range.least) ⊎ ((max_context < range.most) ⊎ ((1 < range.deep) ⊎ other))
 
 -- by the number of the aspect: the listing, the instruction at a slot, or the graph, with lines of the source
 abbrev pub Asks : (aspect slot : ℕ) → List ℕ → Shown → Type 0

@@ -18,11 +18,16 @@ use Rattle.bpf_harden_notes.specs.declared.error.HardenError.TheVariants.{Memory
 use Rattle.bpf_host_runs.specs.Told.{TellsImage}
 use Rattle.bpf_host_runs.specs.declared.answers.BpfRefusal.{BpfRefusal}
 use Rattle.bpf_host_advice.specs.Told.{TellsHardening, TellsUnshown}
+use Rattle.bpf_host_advice.specs.declared.asked.HardenAsked.{HardenAsked}
 
 -- for contexts of `size` bytes, blocks where `padded` is 1, and runs that come to no instruction more than `turns` times and leave so many of
 -- the lowest bytes of each frame to r10
 abbrev pub bounds_of : (size padded turns untouched : ℕ) → Bounds
 bounds_of size padded turns untouched = record { length = size; padded = padded == 1; turns = turns; untouched = untouched }
+
+-- the same by what is asked of a hardening
+abbrev pub bounds_asked : HardenAsked → Bounds
+bounds_asked a = bounds_of a.size a.padded a.turns a.untouched
 
 -- a program keeps the meaning of another one on these, and runs in the same byte order
 pub record Keeps (old made : Instructions) (bounds : Bounds) : Type 0 where

@@ -6,7 +6,8 @@ ghost use Rattle.bpf_host_runs.specs.Told.{order_named};
 ghost use Rattle.bpf_host_advice.specs.Certified.{GivesCertified, IsNotCertified, WantsCertifiedRoom};
 ghost use Rattle.bpf_host_runs.specs.declared.answers.TheConstants.{YES, NO, NO_MEMORY, BAD_CALL, TOO_SMALL};
 
-use crate::certification::{BpfCertified, BpfWish, certification, give_both};
+use crate::asked::CertifyAsked;
+use crate::certification::{BpfCertified, certification, give_both};
 use crate::explanation::Given;
 use crate::refusals::Unmade;
 use bpf_host_runs::{BAD_CALL, BpfRefusal, NO, NO_MEMORY, order_of};
@@ -24,31 +25,29 @@ use std::alloc::Global;
 pub fn certify(
     alloc: Global,
     image: &[u8],
-    order: u32,
-    size: u32,
-    wish: &BpfWish,
+    asked: CertifyAsked,
     made: &mut [u8],
     text: &mut [u8],
     certified: &mut BpfCertified,
     refusal: &mut BpfRefusal,
 ) -> i32
-    ensures given { result ≡ YES → GivesCertified (order_named order) image.now size wish.now certified.new made.old made.new text.old text.new }
-    ensures small { result ≡ TOO_SMALL → WantsCertifiedRoom (order_named order) image.now size wish.now certified.new made.old text.old }
-    ensures refused { result ≡ NO → IsNotCertified (order_named order) image.now size wish.now refusal.new }
-    ensures call { (result ≡ BAD_CALL) ↔ ((1 < order) ⊎ ((max_context < size) ⊎ ((1 < wish.now.padded) ⊎ (1 < wish.now.unproved)))) }
+    ensures given { result ≡ YES → GivesCertified (order_named asked.order) image.now asked.size asked.wish certified.new made.old made.new text.old text.new }
+    ensures small { result ≡ TOO_SMALL → WantsCertifiedRoom (order_named asked.order) image.now asked.size asked.wish certified.new made.old text.old }
+    ensures refused { result ≡ NO → IsNotCertified (order_named asked.order) image.now asked.size asked.wish refusal.new }
+    ensures call { (result ≡ BAD_CALL) ↔ ((1 < asked.order) ⊎ ((max_context < asked.size) ⊎ ((1 < asked.wish.padded) ⊎ (1 < asked.wish.unproved)))) }
     ensures answers { (result ≡ YES) ⊎ (result ≡ NO) ⊎ (result ≡ NO_MEMORY) ⊎ (result ≡ BAD_CALL) ⊎ (result ≡ TOO_SMALL) }
     ensures made_kept { (result ≡ YES) ⊎ (made.new ≡ made.old) }
     ensures text_kept { (result ≡ YES) ⊎ (text.new ≡ text.old) }
     ensures certified_kept { (result ≡ YES) ⊎ (result ≡ TOO_SMALL) ⊎ (certified.new ≡ certified.old) }
     ensures refusal_kept { (result ≡ NO) ⊎ (refusal.new ≡ refusal.old) }
 {
-    let Some(order) = order_of(u64::from(order)) else {
+    let Some(order) = order_of(u64::from(asked.order)) else {
         return BAD_CALL;
     };
-    if size > MAX_CONTEXT as u32 || wish.padded > 1 || wish.unproved > 1 {
+    if asked.size > MAX_CONTEXT as u32 || asked.wish.padded > 1 || asked.wish.unproved > 1 {
         return BAD_CALL;
     }
-    match certification(alloc, Given { image, order }, size, *wish) {
+    match certification(alloc, Given { image, order }, asked.size, asked.wish) {
         Ok(found) => {
             *certified = found.told;
             give_both(&found, made, text)

@@ -1,13 +1,13 @@
 //! The calls that explain.
 
-ghost use Rattle.std.specs.Prelude.{◌≡◌, ◌⊎◌, ◌↔◌, ◌<◌, ◌≤◌, Some, None, length};
-ghost use Rattle.bpf_insn.specs.Limits.{max_context};
+ghost use Rattle.std.specs.Prelude.{◌≡◌, ◌⊎◌, ◌↔◌, ◌<◌, Some, None, length};
 ghost use Rattle.bpf_host_runs.specs.Told.{order_named};
 ghost use Rattle.bpf_host_runs.specs.Answers.{IsRefusedAsTold};
-ghost use Rattle.bpf_host_advice.specs.Explained.{IsSomeImage, IsRefusedImage, IsCertifiedBySome, IsFound, IsNotFound, GivesWords};
+ghost use Rattle.bpf_host_advice.specs.Explained.{IsNoRange, IsSomeImage, IsRefusedImage, IsCertifiedBySome, IsFound, IsNotFound, GivesWords};
 ghost use Rattle.bpf_host_advice.specs.declared.explanation.Judged.TheVariants.{Accepted, Refused};
 ghost use Rattle.bpf_host_runs.specs.declared.answers.TheConstants.{YES, NO, NO_MEMORY, BAD_CALL, TOO_SMALL};
 
+use crate::asked::{ExplainAsked, RangeAsked};
 use crate::explanation::{Given, Judged, checked, read_alone, searched, shown_of};
 use crate::proposal::give;
 use bpf_explain::Search;
@@ -58,30 +58,27 @@ fn answer(
 pub fn explain(
     alloc: Global,
     image: &[u8],
-    order: u32,
     certificate: &[u8],
-    shown: u32,
-    slot: u32,
-    lines: &[u8],
+    asked: ExplainAsked<'_>,
     text: &mut [u8],
     wanted: &mut usize,
     refusal: &mut BpfRefusal,
 ) -> i32
-    ensures yes { result ≡ YES → IsCertifiedBySome (order_named order) image.now certificate.now }
-    ensures no { result ≡ NO → IsRefusedAsTold (order_named order) image.now certificate.now refusal.new }
+    ensures yes { result ≡ YES → IsCertifiedBySome (order_named asked.entry.order) image.now certificate.now }
+    ensures no { result ≡ NO → IsRefusedAsTold (order_named asked.entry.order) image.now certificate.now refusal.new }
     ensures given { (result ≡ YES) ⊎ (result ≡ NO) → GivesWords wanted.new text.old text.new }
     ensures small { result ≡ TOO_SMALL → length text.old < wanted.new }
-    ensures bad { (1 < order) ⊎ (2 < shown) → result ≡ BAD_CALL }
-    ensures call { result ≡ BAD_CALL → (1 < order) ⊎ ((2 < shown) ⊎ (0 < length lines.now)) }
+    ensures bad { (1 < asked.entry.order) ⊎ (2 < asked.entry.shown) → result ≡ BAD_CALL }
+    ensures call { result ≡ BAD_CALL → (1 < asked.entry.order) ⊎ ((2 < asked.entry.shown) ⊎ (0 < length asked.entry.lines.now)) }
     ensures answers { (result ≡ YES) ⊎ (result ≡ NO) ⊎ (result ≡ NO_MEMORY) ⊎ (result ≡ BAD_CALL) ⊎ (result ≡ TOO_SMALL) }
     ensures text_kept { (result ≡ YES) ⊎ (result ≡ NO) ⊎ (text.new ≡ text.old) }
     ensures wanted_kept { (result ≡ YES) ⊎ (result ≡ NO) ⊎ (result ≡ TOO_SMALL) ⊎ (wanted.new ≡ wanted.old) }
     ensures refusal_kept { (result ≡ NO) ⊎ (refusal.new ≡ refusal.old) }
 {
-    let Some(order) = order_of(u64::from(order)) else {
+    let Some(order) = order_of(u64::from(asked.order)) else {
         return BAD_CALL;
     };
-    let Some(shown) = shown_of(shown, slot, lines) else {
+    let Some(shown) = shown_of(asked.shown, asked.slot, asked.lines) else {
         return BAD_CALL;
     };
     let mut words = Vec::new(alloc);
@@ -102,47 +99,42 @@ pub fn explain(
 pub fn explain_search(
     alloc: Global,
     image: &[u8],
-    order: u32,
-    least: u32,
-    most: u32,
-    deep: u32,
-    shown: u32,
-    slot: u32,
-    lines: &[u8],
+    range: RangeAsked,
+    asked: ExplainAsked<'_>,
     text: &mut [u8],
     wanted: &mut usize,
     refusal: &mut BpfRefusal,
 ) -> i32
-    ensures yes { result ≡ YES → IsFound (order_named order) image.now least most }
-    ensures no { result ≡ NO → IsNotFound (order_named order) image.now least most refusal.new }
+    ensures yes { result ≡ YES → IsFound (order_named asked.entry.order) image.now range.least range.most }
+    ensures no { result ≡ NO → IsNotFound (order_named asked.entry.order) image.now range.least range.most refusal.new }
     ensures given { (result ≡ YES) ⊎ (result ≡ NO) → GivesWords wanted.new text.old text.new }
     ensures small { result ≡ TOO_SMALL → length text.old < wanted.new }
-    ensures bad { (1 < order) ⊎ ((most < least) ⊎ ((max_context < most) ⊎ ((1 < deep) ⊎ (2 < shown)))) → result ≡ BAD_CALL }
-    ensures call { result ≡ BAD_CALL → (1 < order) ⊎ ((most < least) ⊎ ((max_context < most) ⊎ ((1 < deep) ⊎ ((2 < shown) ⊎ (0 < length lines.now))))) }
+    ensures bad { (1 < asked.entry.order) ⊎ IsNoRange range (2 < asked.entry.shown) → result ≡ BAD_CALL }
+    ensures call { result ≡ BAD_CALL → (1 < asked.entry.order) ⊎ IsNoRange range ((2 < asked.entry.shown) ⊎ (0 < length asked.entry.lines.now)) }
     ensures answers { (result ≡ YES) ⊎ (result ≡ NO) ⊎ (result ≡ NO_MEMORY) ⊎ (result ≡ BAD_CALL) ⊎ (result ≡ TOO_SMALL) }
     ensures text_kept { (result ≡ YES) ⊎ (result ≡ NO) ⊎ (text.new ≡ text.old) }
     ensures wanted_kept { (result ≡ YES) ⊎ (result ≡ NO) ⊎ (result ≡ TOO_SMALL) ⊎ (wanted.new ≡ wanted.old) }
     ensures refusal_kept { (result ≡ NO) ⊎ (refusal.new ≡ refusal.old) }
 {
-    let Some(order) = order_of(u64::from(order)) else {
+    let Some(order) = order_of(u64::from(asked.order)) else {
         return BAD_CALL;
     };
-    if least > most || most > MAX_CONTEXT as u32 || deep > 1 {
+    if range.least > range.most || range.most > MAX_CONTEXT as u32 || range.deep > 1 {
         return BAD_CALL;
     }
-    let Some(shown) = shown_of(shown, slot, lines) else {
+    let Some(shown) = shown_of(asked.shown, asked.slot, asked.lines) else {
         return BAD_CALL;
     };
-    let asked = Search {
+    let search = Search {
         wanted: Wanted {
-            least,
-            most,
-            deep: deep == 1,
+            least: range.least,
+            most: range.most,
+            deep: range.deep == 1,
         },
         shown,
     };
     let mut words = Vec::new(alloc);
-    let judged = searched(alloc, &mut words, Given { image, order }, asked);
+    let judged = searched(alloc, &mut words, Given { image, order }, search);
     answer(judged, &words, text, wanted, refusal)
 }
 

@@ -8,6 +8,7 @@ ghost use Rattle.bpf_host_advice.specs.Followed.{IsFollowed, IsNotFollowed};
 ghost use Rattle.bpf_host_advice.specs.Told.{IsTold, TellsNewImage, TellsNotes};
 ghost use Rattle.bpf_host_runs.specs.declared.answers.TheConstants.{YES, NO, NO_MEMORY, BAD_CALL};
 
+use crate::asked::RunsAsked;
 use crate::refusals::Unmade;
 use bpf_follows::follows as shows;
 use bpf_follows_law::Bounds;
@@ -78,29 +79,26 @@ pub fn follows(
     new: &[u8],
     order: u32,
     notes: &[u8],
-    size: u32,
-    turns: u32,
-    padded: u32,
-    untouched: u32,
+    runs: RunsAsked,
     refusal: &mut BpfRefusal,
 ) -> i32
-    ensures yes { result ≡ YES → IsFollowed (order_named order) old.now new.now (bounds_of size padded turns untouched) }
-    ensures no { result ≡ NO → IsNotFollowed (order_named order) old.now new.now notes.now (bounds_of size padded turns untouched) refusal.new }
-    ensures call { (result ≡ BAD_CALL) ↔ ((1 < order) ⊎ ((max_context < size) ⊎ ((1 < padded) ⊎ (frame_bytes < untouched)))) }
+    ensures yes { result ≡ YES → IsFollowed (order_named order) old.now new.now (bounds_of runs.size runs.padded runs.turns runs.untouched) }
+    ensures no { result ≡ NO → IsNotFollowed (order_named order) old.now new.now notes.now (bounds_of runs.size runs.padded runs.turns runs.untouched) refusal.new }
+    ensures call { (result ≡ BAD_CALL) ↔ ((1 < order) ⊎ ((max_context < runs.size) ⊎ ((1 < runs.padded) ⊎ (frame_bytes < runs.untouched)))) }
     ensures answers { (result ≡ YES) ⊎ (result ≡ NO) ⊎ (result ≡ NO_MEMORY) ⊎ (result ≡ BAD_CALL) }
     ensures refusal_kept { (result ≡ NO) ⊎ (refusal.new ≡ refusal.old) }
 {
     let Some(order) = order_of(u64::from(order)) else {
         return BAD_CALL;
     };
-    if size > MAX_CONTEXT as u32 || padded > 1 || untouched > FRAME_BYTES as u32 {
+    if runs.size > MAX_CONTEXT as u32 || runs.padded > 1 || runs.untouched > FRAME_BYTES as u32 {
         return BAD_CALL;
     }
     let bounds = Bounds {
-        length: size,
-        padded: padded == 1,
-        turns,
-        untouched,
+        length: runs.size,
+        padded: runs.padded == 1,
+        turns: runs.turns,
+        untouched: runs.untouched,
     };
     match followed(alloc, Pair { old, new, order }, notes, bounds) {
         Ok(()) => YES,

@@ -8,9 +8,10 @@ ghost use Rattle.bpf_host_runs.specs.Told.{order_named};
 ghost use Rattle.bpf_host_advice.specs.Explained.{IsSomeImage};
 ghost use Rattle.bpf_host_advice.specs.Texts.{refusal_text, answer_text, IsNumbered};
 ghost use Rattle.bpf_host_advice.specs.Proposals.{GivesProposal, WantsRoom, IsNotProposed};
-ghost use Rattle.bpf_host_advice.specs.Hardened.{bounds_of, GivesHardened, WantsHardenedRoom, IsNotHardened};
+ghost use Rattle.bpf_host_advice.specs.Hardened.{bounds_asked, GivesHardened, WantsHardenedRoom, IsNotHardened};
 ghost use Rattle.bpf_host_runs.specs.declared.answers.TheConstants.{YES, NO, NO_MEMORY, BAD_CALL, TOO_SMALL};
 
+mod asked;
 mod certification;
 mod certifying;
 mod explaining;
@@ -22,6 +23,7 @@ mod refusals;
 mod sizes;
 mod texts;
 
+pub use asked::{CertifyAsked, ExplainAsked, HardenAsked, RangeAsked, RunsAsked};
 use bpf_follows_law::Bounds;
 use bpf_host_runs::{BAD_CALL, BpfRefusal, NO, NO_MEMORY, order_of};
 use bpf_infer::Wanted;
@@ -46,18 +48,16 @@ pub fn infer(
     alloc: Global,
     image: &[u8],
     order: u32,
-    least: u32,
-    most: u32,
-    deep: u32,
+    range: RangeAsked,
     text: &mut [u8],
     wanted: &mut usize,
     refusal: &mut BpfRefusal,
 ) -> i32
-    ensures given { result ≡ YES → GivesProposal least most wanted.new text.old text.new }
-    ensures small { result ≡ TOO_SMALL → WantsRoom least most wanted.new text.old }
+    ensures given { result ≡ YES → GivesProposal range.least range.most wanted.new text.old text.new }
+    ensures small { result ≡ TOO_SMALL → WantsRoom range.least range.most wanted.new text.old }
     ensures image { (result ≡ YES) ⊎ (result ≡ TOO_SMALL) → IsSomeImage (order_named order) image.now }
     ensures refused { result ≡ NO → IsNotProposed (order_named order) image.now refusal.new }
-    ensures call { (result ≡ BAD_CALL) ↔ ((1 < order) ⊎ ((most < least) ⊎ ((max_context < most) ⊎ (1 < deep)))) }
+    ensures call { (result ≡ BAD_CALL) ↔ ((1 < order) ⊎ ((range.most < range.least) ⊎ ((max_context < range.most) ⊎ (1 < range.deep)))) }
     ensures answers { (result ≡ YES) ⊎ (result ≡ NO) ⊎ (result ≡ NO_MEMORY) ⊎ (result ≡ BAD_CALL) ⊎ (result ≡ TOO_SMALL) }
     ensures text_kept { (result ≡ YES) ⊎ (text.new ≡ text.old) }
     ensures wanted_kept { (result ≡ YES) ⊎ (result ≡ TOO_SMALL) ⊎ (wanted.new ≡ wanted.old) }
@@ -66,13 +66,13 @@ pub fn infer(
     let Some(order) = order_of(u64::from(order)) else {
         return BAD_CALL;
     };
-    if least > most || most > MAX_CONTEXT as u32 || deep > 1 {
+    if range.least > range.most || range.most > MAX_CONTEXT as u32 || range.deep > 1 {
         return BAD_CALL;
     }
     let wanted_of = Wanted {
-        least,
-        most,
-        deep: deep == 1,
+        least: range.least,
+        most: range.most,
+        deep: range.deep == 1,
     };
     match proposal(alloc, image, order, wanted_of) {
         Ok(words) => give(&words, text, wanted),
@@ -96,20 +96,15 @@ pub fn harden(
     alloc: Global,
     image: &[u8],
     order: u32,
-    size: u32,
-    turns: u32,
-    otherwise: u64,
-    padded: u32,
-    unproved: u32,
-    untouched: u32,
+    asked: HardenAsked,
     text: &mut [u8],
     wanted: &mut usize,
     refusal: &mut BpfRefusal,
 ) -> i32
-    ensures given { result ≡ YES → GivesHardened (order_named order) image.now (bounds_of size padded turns untouched) (unproved == 1) wanted.new text.old text.new }
-    ensures small { result ≡ TOO_SMALL → WantsHardenedRoom (order_named order) image.now (bounds_of size padded turns untouched) (unproved == 1) wanted.new text.old }
-    ensures refused { result ≡ NO → IsNotHardened (order_named order) image.now (bounds_of size padded turns untouched) (unproved == 1) refusal.new }
-    ensures call { (result ≡ BAD_CALL) ↔ ((1 < order) ⊎ ((max_context < size) ⊎ ((1 < padded) ⊎ ((1 < unproved) ⊎ (frame_bytes < untouched))))) }
+    ensures given { result ≡ YES → GivesHardened (order_named order) image.now (bounds_asked asked) (asked.unproved == 1) wanted.new text.old text.new }
+    ensures small { result ≡ TOO_SMALL → WantsHardenedRoom (order_named order) image.now (bounds_asked asked) (asked.unproved == 1) wanted.new text.old }
+    ensures refused { result ≡ NO → IsNotHardened (order_named order) image.now (bounds_asked asked) (asked.unproved == 1) refusal.new }
+    ensures call { (result ≡ BAD_CALL) ↔ ((1 < order) ⊎ ((max_context < asked.size) ⊎ ((1 < asked.padded) ⊎ ((1 < asked.unproved) ⊎ (frame_bytes < asked.untouched))))) }
     ensures answers { (result ≡ YES) ⊎ (result ≡ NO) ⊎ (result ≡ NO_MEMORY) ⊎ (result ≡ BAD_CALL) ⊎ (result ≡ TOO_SMALL) }
     ensures text_kept { (result ≡ YES) ⊎ (text.new ≡ text.old) }
     ensures wanted_kept { (result ≡ YES) ⊎ (result ≡ TOO_SMALL) ⊎ (wanted.new ≡ wanted.old) }
@@ -118,21 +113,24 @@ pub fn harden(
     let Some(order) = order_of(u64::from(order)) else {
         return BAD_CALL;
     };
-    if size > MAX_CONTEXT as u32 || padded > 1 || unproved > 1 || untouched > FRAME_BYTES as u32 {
+    if asked.size > MAX_CONTEXT as u32 || asked.padded > 1 || asked.unproved > 1 {
+        return BAD_CALL;
+    }
+    if asked.untouched > FRAME_BYTES as u32 {
         return BAD_CALL;
     }
     let bounds = Bounds {
-        length: size,
-        padded: padded == 1,
-        turns,
-        untouched,
+        length: asked.size,
+        padded: asked.padded == 1,
+        turns: asked.turns,
+        untouched: asked.untouched,
     };
-    let asked = Asked {
+    let wanted_of = Asked {
         bounds,
-        otherwise,
-        unproved: unproved == 1,
+        otherwise: asked.otherwise,
+        unproved: asked.unproved == 1,
     };
-    match hardened(alloc, Given { image, order }, asked) {
+    match hardened(alloc, Given { image, order }, wanted_of) {
         Ok(bytes) => give(&bytes, text, wanted),
         Err(Unmade::Memory) => NO_MEMORY,
         Err(Unmade::Refused(told)) => {
@@ -142,8 +140,8 @@ pub fn harden(
     }
 }
 
-/// What a refusal or a fault says in English, without an end of line: the kind is the letter, A, B, C, E, F, H, I, K, M or N. The answer is
-/// how many bytes that is, 0 where there is no such refusal; as many as have room stand in `text`.
+/// What a refusal or a fault says in English, without an end of line: the kind is the letter, A, B, C, E, F, H, I, K, M, N or P. The answer
+/// is how many bytes that is, 0 where there is no such refusal; as many as have room stand in `text`.
 pub fn refusal_text(kind: u32, number: u32, text: &mut [u8]) -> usize
     ensures numbered { (0 < result) ↔ IsNumbered kind number }
     ensures length { result ≡ length (refusal_text kind number) }

@@ -6,6 +6,8 @@ use Rattle.bpf_convert.specs.Template.{usual_turns}
 use Rattle.bpf_convert.specs.declared.layout.Form.{Form}
 use Rattle.bpf_convert.specs.declared.layout.Form.TheVariants.{Blocks, Plain, Seccomp, Extended}
 use Rattle.bpf_convert.specs.declared.layout.Wanted.{Wanted}
+use Rattle.bpf_host_runs.specs.Told.{order_named}
+use Rattle.bpf_host_convert.specs.declared.asked.ConvertAsked.{ConvertAsked}
 
 -- 0 is blocks, 1 packets, 2 seccomp's, and 3 blocks with the words of Linux's auxiliary data; a call refuses any other number
 abbrev pub form_named : ℕ → Form
@@ -34,3 +36,7 @@ turns_of form size told = if told == 0 then usual_turns form size else told
 
 abbrev pub wanted_by : ℕ → ℕ → Order → Wanted
 wanted_by asked size order = record { form = form_asked asked; length = size; order = order; turns = turns_of (form_asked asked) size (asked / 2 ^ 16) }
+
+-- the same by what is asked of the call
+abbrev pub wanted_as : ConvertAsked → Wanted
+wanted_as a = wanted_by a.form a.size (order_named a.order)

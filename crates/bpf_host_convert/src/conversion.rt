@@ -103,8 +103,8 @@ pub(crate) fn conversion(alloc: Global, given: Given<'_>, wanted: Wanted) -> Res
 
 /// Gives both where there is room for each.
 pub(crate) fn give_both(made: &Made, image: &mut [u8], text: &mut [u8]) -> i32
-    ensures given { result ≡ YES → (image.new ≡ made.now.image.items ++ drop (length made.now.image.items) image.old)
-        × (text.new ≡ made.now.text.items ++ drop (length made.now.text.items) text.old) }
+    ensures image { result ≡ YES → image.new ≡ made.now.image.items ++ drop (length made.now.image.items) image.old }
+    ensures text { result ≡ YES → text.new ≡ made.now.text.items ++ drop (length made.now.text.items) text.old }
     ensures small { result ≡ TOO_SMALL → (length image.old < length made.now.image.items) ⊎ (length text.old < length made.now.text.items) }
     ensures image_kept { (result ≡ YES) ⊎ (image.new ≡ image.old) }
     ensures text_kept { (result ≡ YES) ⊎ (text.new ≡ text.old) }

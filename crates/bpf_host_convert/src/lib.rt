@@ -3,15 +3,17 @@
 
 ghost use Rattle.std.specs.Prelude.{◌≡◌, ◌⊎◌, ◌↔◌, ◌<◌, false};
 ghost use Rattle.bpf_host_runs.specs.Told.{order_named};
-ghost use Rattle.bpf_host_convert.specs.Forms.{form_part, form_asked, may_have, wanted_by};
+ghost use Rattle.bpf_host_convert.specs.Forms.{form_part, form_asked, may_have, wanted_as};
 ghost use Rattle.bpf_host_convert.specs.Converted.{GivesConverted, IsNotConverted, WantsConvertedRoom};
 ghost use Rattle.bpf_host_runs.specs.declared.answers.TheConstants.{YES, NO, NO_MEMORY, BAD_CALL, TOO_SMALL};
 
+mod asked;
 mod conversion;
 mod forms;
 mod refusals;
 mod sizes;
 
+pub use asked::ConvertAsked;
 use bpf_host_runs::{BAD_CALL, BpfRefusal, NO, NO_MEMORY, order_of};
 pub use conversion::BpfConverted;
 use conversion::{Given, conversion, give_both};
@@ -32,42 +34,40 @@ use std::alloc::Global;
 pub fn convert(
     alloc: Global,
     filter: &[u8],
-    filter_order: u32,
-    form: u32,
-    size: u32,
-    order: u32,
+    asked: ConvertAsked,
     made: &mut [u8],
     text: &mut [u8],
     converted: &mut BpfConverted,
     refusal: &mut BpfRefusal,
 ) -> i32
-    ensures given { result ≡ YES → GivesConverted (order_named filter_order) filter.now (wanted_by form size (order_named order)) converted.new made.old made.new text.old text.new }
-    ensures small { result ≡ TOO_SMALL → WantsConvertedRoom (order_named filter_order) filter.now (wanted_by form size (order_named order)) converted.new made.old text.old }
-    ensures refused { result ≡ NO → IsNotConverted (order_named filter_order) filter.now (form_asked form) refusal.new }
-    ensures call { (result ≡ BAD_CALL) ↔ ((1 < filter_order) ⊎ ((1 < order) ⊎ ((3 < form_part form) ⊎ (may_have (form_asked form) size ≡ false)))) }
+    ensures given { result ≡ YES → GivesConverted (order_named asked.filter_order) filter.now (wanted_as asked) converted.new made.old made.new text.old text.new }
+    ensures small { result ≡ TOO_SMALL → WantsConvertedRoom (order_named asked.filter_order) filter.now (wanted_as asked) converted.new made.old text.old }
+    ensures refused { result ≡ NO → IsNotConverted (order_named asked.filter_order) filter.now (form_asked asked.form) refusal.new }
+    ensures call { (result ≡ BAD_CALL) ↔ ((1 < asked.filter_order) ⊎ ((1 < asked.order) ⊎ ((3 < form_part asked.form) ⊎ (may_have (form_asked asked.form) asked.size ≡ false)))) }
     ensures answers { (result ≡ YES) ⊎ (result ≡ NO) ⊎ (result ≡ NO_MEMORY) ⊎ (result ≡ BAD_CALL) ⊎ (result ≡ TOO_SMALL) }
     ensures made_kept { (result ≡ YES) ⊎ (made.new ≡ made.old) }
     ensures text_kept { (result ≡ YES) ⊎ (text.new ≡ text.old) }
     ensures converted_kept { (result ≡ YES) ⊎ (result ≡ TOO_SMALL) ⊎ (converted.new ≡ converted.old) }
     ensures refusal_kept { (result ≡ NO) ⊎ (refusal.new ≡ refusal.old) }
 {
-    let Some(filter_order) = order_of(u64::from(filter_order)) else {
+    let Some(filter_order) = order_of(u64::from(asked.filter_order)) else {
         return BAD_CALL;
     };
-    let Some(order) = order_of(u64::from(order)) else {
+    let Some(order) = order_of(u64::from(asked.order)) else {
         return BAD_CALL;
     };
-    let Some(named) = form_of(form_part(form)) else {
+    let Some(named) = form_of(form_part(asked.form)) else {
         return BAD_CALL;
     };
-    if !may_have(named, size) {
+    if !may_have(named, asked.size) {
         return BAD_CALL;
     }
     let given = Given {
         filter,
         order: filter_order,
     };
-    match conversion(alloc, given, wanted_by(named, form, size, order)) {
+    let wanted = wanted_by(named, asked.form, asked.size, order);
+    match conversion(alloc, given, wanted) {
         Ok(found) => {
             *converted = found.told;
             give_both(&found, made, text)

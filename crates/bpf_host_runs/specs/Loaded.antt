@@ -2,7 +2,9 @@
 use Rattle.std.specs.Prelude.{◌≡◌, ◌≤◌, ◌<◌, ◌^◌, ◌+◌, ℕ, List, length, drop}
 use Rattle.byteorder.specs.Endian.{little_number}
 use Rattle.bpf_insn.specs.declared.order.Order.{Order}
-use Rattle.bpf_check.specs.Verdicts.{Verified}
+use Rattle.bpf_cert.specs.View.{CertificateView}
+use Rattle.bpf_check.specs.Verdicts.{Certifies, Verified}
+use Rattle.bpf_host_runs.specs.Told.{order_named}
 use Rattle.bpf_host_runs.specs.Prepared.{IsPrepared, IsMarked, IsWhole}
 use Rattle.bpf_host_runs.specs.Answers.{EndsOn}
 
@@ -31,6 +33,11 @@ pub record IsLoaded (order : Order) (image : List ℕ) (least most bound : ℕ) 
   pub fits : handle_head + length image ≤ length memory
   pub numbers : HasRange least most bound memory
   pub is_prepared : IsPrepared order image (drop 24 memory)
+
+-- Each certificate that certifies an image in an order that there is, and is one of these, is answered so, where memory has just the size of a handle.
+abbrev pub LoadsEach : (order : ℕ) → (image certificate memory : List ℕ) → (which says : CertificateView → Type 0) → Type 0
+LoadsEach order image certificate memory which says =
+    (c : CertificateView) → order ≤ 1 → length memory ≡ handle_head + length image → Certifies (order_named order) image certificate c → which c → says c
 
 -- this version's mark stands in a handle
 abbrev pub IsMarkedHandle : List ℕ → Type 0

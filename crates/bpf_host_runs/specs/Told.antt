@@ -1,5 +1,5 @@
 -- What the numbers that C sees tell.
-use Rattle.std.specs.Prelude.{◌≡◌, ℕ, zero, suc}
+use Rattle.std.specs.Prelude.{◌≡◌, ◌⊎◌, ℕ, ℤ, zero, suc}
 use Rattle.bpf_insn.specs.RefusalNumbers.{decode_number, decode_slot}
 use Rattle.bpf_insn.specs.declared.order.Order.{Order}
 use Rattle.bpf_insn.specs.declared.order.Order.TheVariants.{Little, Big}
@@ -16,6 +16,7 @@ use Rattle.bpf_machine.specs.declared.outcome.Outcome.TheVariants.{Done, Fault, 
 use Rattle.bpf_refusals.specs.Letters.{code_of}
 use Rattle.bpf_refusals.specs.Told.{at_number, named, told_image, told_certificate, told_check}
 use Rattle.bpf_refusals.specs.declared.told.Told.{Told}
+use Rattle.bpf_host_runs.specs.declared.answers.TheConstants.{NO_MEMORY}
 use Rattle.bpf_host_runs.specs.declared.answers.BpfVerdict.{BpfVerdict}
 use Rattle.bpf_host_runs.specs.declared.answers.BpfRefusal.{BpfRefusal}
 use Rattle.bpf_host_runs.specs.declared.answers.BpfOutcome.{BpfOutcome}
@@ -28,6 +29,10 @@ order_named (suc n) = Big
 -- a verdict says what a certificate claims
 abbrev pub IsVerdictOf : CertificateView → BpfVerdict → Type 0
 IsVerdictOf c verdict = (verdict.least ≡ c.least) × (verdict.most ≡ c.most) × (verdict.bound ≡ c.steps)
+
+-- a call answers so, with that verdict; or memory ran out
+abbrev pub AnswersVerdict : ℤ → CertificateView → ℤ → BpfVerdict → Type 0
+AnswersVerdict answer c result verdict = ((result ≡ answer) × IsVerdictOf c verdict) ⊎ (result ≡ NO_MEMORY)
 
 -- and is what was judged
 abbrev pub TellsVerdict : Verdict → BpfVerdict → Type 0

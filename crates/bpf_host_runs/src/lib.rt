@@ -8,9 +8,9 @@ ghost use Rattle.bpf_insn.specs.Laws.{IsImageOfProgram};
 ghost use Rattle.bpf_insn.specs.declared.instruction.Insn.{Insn as Instruction};
 ghost use Rattle.bpf_cert.specs.View.{CertificateView};
 ghost use Rattle.bpf_check.specs.Verdicts.{Verified, Promises, Certifies};
-ghost use Rattle.bpf_host_runs.specs.Told.{order_named, IsVerdictOf};
+ghost use Rattle.bpf_host_runs.specs.Told.{AnswersVerdict, order_named};
 ghost use Rattle.bpf_host_runs.specs.Prepared.{IsPrepared, IsMarked, IsWhole, prepared_head, version};
-ghost use Rattle.bpf_host_runs.specs.Loaded.{handle_head, IsLoaded, IsMarkedHandle, IsWholeHandle, HoldsLoaded, EndsAsLoaded, loaded_least, loaded_most};
+ghost use Rattle.bpf_host_runs.specs.Loaded.{handle_head, IsLoaded, LoadsEach, IsMarkedHandle, IsWholeHandle, HoldsLoaded, EndsAsLoaded, loaded_least, loaded_most};
 ghost use Rattle.bpf_host_runs.specs.Answers.{IsRefusedAsTold, IsNoImage, RanImage, RanPrepared, IsUnrun, HoldsProgram, MayRun, EndsAsPrepared};
 ghost use Rattle.bpf_host_runs.specs.declared.answers.TheConstants.{YES, NO, NO_MEMORY, BAD_CALL, TOO_SMALL, TOO_LONG, BAD_LENGTH, BAD_WORDS};
 
@@ -59,7 +59,7 @@ pub fn verify(
     ensures yes { result ≡ YES → Verified (order_named order) image.now verdict.new.least verdict.new.most verdict.new.bound }
     ensures promised { result ≡ YES → Promises (order_named order) image.now certificate.now verdict.new.least verdict.new.most verdict.new.bound }
     ensures no { result ≡ NO → IsRefusedAsTold (order_named order) image.now certificate.now refusal.new }
-    ensures accepts { (c : CertificateView) → order ≤ 1 → Certifies (order_named order) image.now certificate.now c → ((result ≡ YES) × IsVerdictOf c verdict.new) ⊎ (result ≡ NO_MEMORY) }
+    ensures accepts { (c : CertificateView) → order ≤ 1 → Certifies (order_named order) image.now certificate.now c → AnswersVerdict YES c result verdict.new }
     ensures memory { result ≡ NO_MEMORY → (is : List Instruction) × IsImageOfProgram (order_named order) image.now is }
     ensures call { (result ≡ BAD_CALL) ↔ (1 < order) }
     ensures answers { (result ≡ YES) ⊎ (result ≡ NO) ⊎ (result ≡ NO_MEMORY) ⊎ (result ≡ BAD_CALL) }
@@ -193,46 +193,54 @@ pub fn loaded_size(image_len: usize) -> usize
     handle_size(image_len) / 8
 }
 
+/// What is asked of `load` beside an image and its certificate.
+#[derive(Clone, Copy)]
+pub struct LoadAsked {
+    /// The byte order of the image, 0 little-endian or 1 big-endian.
+    pub order: u32,
+    /// The greatest bound that is paid for, in instructions.
+    pub limit: u32,
+}
+
 /// Judges an image by a certificate, as `verify` does, and writes a handle for `run_loaded`, in `memory` of
 /// 8 times `loaded_size` bytes. 1: `memory` is the handle, and `verdict` is what is promised. 0: the image is
 /// refused, and `refusal` says why. -1: memory ran out while the certificate was read. -2: the order is neither 0 nor 1.
-/// -3: the memory has another size. -4: the bound is above `limit`, and `verdict` is what is promised. What isn't answered
+/// -3: the memory has another size. -4: the bound is above the limit, and `verdict` is what is promised. What isn't answered
 /// stays as it was, and but for 1 so does the memory.
 pub fn load(
     alloc: Global,
     image: &[u8],
-    order: u32,
+    asked: LoadAsked,
     certificate: &[u8],
-    limit: u32,
     memory: &mut [u8],
     verdict: &mut BpfVerdict,
     refusal: &mut BpfRefusal,
 ) -> i32
-    ensures loaded { result ≡ YES → IsLoaded (order_named order) image.now verdict.new.least verdict.new.most verdict.new.bound memory.new }
-    ensures yes { (result ≡ YES) ⊎ (result ≡ TOO_LONG) → Verified (order_named order) image.now verdict.new.least verdict.new.most verdict.new.bound }
-    ensures promised { (result ≡ YES) ⊎ (result ≡ TOO_LONG) → Promises (order_named order) image.now certificate.now verdict.new.least verdict.new.most verdict.new.bound }
-    ensures paid { result ≡ YES → verdict.new.bound ≤ limit }
-    ensures long { result ≡ TOO_LONG → limit < verdict.new.bound }
-    ensures no { result ≡ NO → IsRefusedAsTold (order_named order) image.now certificate.now refusal.new }
-    ensures accepts { (c : CertificateView) → order ≤ 1 → length memory.old ≡ handle_head + length image.now → Certifies (order_named order) image.now certificate.now c → c.steps ≤ limit → ((result ≡ YES) × IsVerdictOf c verdict.new) ⊎ (result ≡ NO_MEMORY) }
-    ensures unpaid { (c : CertificateView) → order ≤ 1 → length memory.old ≡ handle_head + length image.now → Certifies (order_named order) image.now certificate.now c → limit < c.steps → ((result ≡ TOO_LONG) × IsVerdictOf c verdict.new) ⊎ (result ≡ NO_MEMORY) }
-    ensures memory { result ≡ NO_MEMORY → (is : List Instruction) × IsImageOfProgram (order_named order) image.now is }
-    ensures call { (result ≡ BAD_CALL) ↔ (1 < order) }
+    ensures loaded { result ≡ YES → IsLoaded (order_named asked.order) image.now verdict.new.least verdict.new.most verdict.new.bound memory.new }
+    ensures yes { (result ≡ YES) ⊎ (result ≡ TOO_LONG) → Verified (order_named asked.order) image.now verdict.new.least verdict.new.most verdict.new.bound }
+    ensures promised { (result ≡ YES) ⊎ (result ≡ TOO_LONG) → Promises (order_named asked.order) image.now certificate.now verdict.new.least verdict.new.most verdict.new.bound }
+    ensures paid { result ≡ YES → verdict.new.bound ≤ asked.limit }
+    ensures long { result ≡ TOO_LONG → asked.limit < verdict.new.bound }
+    ensures no { result ≡ NO → IsRefusedAsTold (order_named asked.order) image.now certificate.now refusal.new }
+    ensures accepts { LoadsEach asked.order image.now certificate.now memory.old (λ c. c.steps ≤ asked.limit) (λ c. AnswersVerdict YES c result verdict.new) }
+    ensures unpaid { LoadsEach asked.order image.now certificate.now memory.old (λ c. asked.limit < c.steps) (λ c. AnswersVerdict TOO_LONG c result verdict.new) }
+    ensures memory { result ≡ NO_MEMORY → (is : List Instruction) × IsImageOfProgram (order_named asked.order) image.now is }
+    ensures call { (result ≡ BAD_CALL) ↔ (1 < asked.order) }
     ensures small { result ≡ TOO_SMALL → length memory.old ≢ handle_head + length image.now }
-    ensures certified { result ≡ TOO_SMALL → (c : CertificateView) × Certifies (order_named order) image.now certificate.now c }
+    ensures certified { result ≡ TOO_SMALL → (c : CertificateView) × Certifies (order_named asked.order) image.now certificate.now c }
     ensures size { (result ≡ YES) ⊎ (result ≡ TOO_LONG) → length memory.old ≡ handle_head + length image.now }
     ensures answers { (result ≡ YES) ⊎ (result ≡ NO) ⊎ (result ≡ NO_MEMORY) ⊎ (result ≡ BAD_CALL) ⊎ (result ≡ TOO_SMALL) ⊎ (result ≡ TOO_LONG) }
     ensures memory_kept { (result ≡ YES) ⊎ (memory.new ≡ memory.old) }
     ensures verdict_kept { (result ≡ YES) ⊎ (result ≡ TOO_LONG) ⊎ (verdict.new ≡ verdict.old) }
     ensures refusal_kept { (result ≡ NO) ⊎ (refusal.new ≡ refusal.old) }
 {
-    let Some(order) = order_of(u64::from(order)) else {
+    let Some(order) = order_of(u64::from(asked.order)) else {
         return BAD_CALL;
     };
     let given = Given {
         image,
         order,
-        limit,
+        limit: asked.limit,
     };
     kept(
         bpf_check::verify(alloc, image, order, certificate),

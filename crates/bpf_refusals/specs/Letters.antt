@@ -6,11 +6,11 @@ use Rattle.bpf_state.specs.Condition.{condition_texts}
 use Rattle.bpf_cert.specs.RefusalNumbers.{certificate_texts}
 use Rattle.bpf_infer_error.specs.RefusalNumbers.{infer_texts}
 use Rattle.bpf_follows_notes.specs.Refused.{mismatch_texts}
-use Rattle.bpf_refusals.specs.Sentences.{text_texts, filter_texts, hardening_texts, notes_texts}
+use Rattle.bpf_refusals.specs.Sentences.{text_texts, filter_texts, hardening_texts, notes_texts, capture_texts}
 use Rattle.bpf_refusals.specs.declared.letter.Letter.{Letter}
-use Rattle.bpf_refusals.specs.declared.letter.Letter.TheVariants.{Text, Classic, Check, Image, Fault, Hardening, Inference, Certificate, Mismatch, Notes}
+use Rattle.bpf_refusals.specs.declared.letter.Letter.TheVariants.{Text, Classic, Check, Image, Fault, Hardening, Inference, Certificate, Mismatch, Notes, Capture}
 
--- A, B, C, E, F, H, I, K, M and N in ASCII
+-- A, B, C, E, F, H, I, K, M, N and P in ASCII
 abbrev pub code_of : Letter → ℕ
 code_of Text = 65
 code_of Classic = 66
@@ -22,12 +22,14 @@ code_of Inference = 73
 code_of Certificate = 75
 code_of Mismatch = 77
 code_of Notes = 78
+code_of Capture = 80
 
 -- the letter with this code
 abbrev pub letter_of : ℕ → Option Letter
 letter_of code =
     if code == 65 then Some Text else if code == 66 then Some Classic else if code == 67 then Some Check else if code == 69 then Some Image else if code == 70 then Some Fault
-    else if code == 72 then Some Hardening else if code == 73 then Some Inference else if code == 75 then Some Certificate else if code == 77 then Some Mismatch else if code == 78 then Some Notes else None
+    else if code == 72 then Some Hardening else if code == 73 then Some Inference else if code == 75 then Some Certificate else if code == 77 then Some Mismatch else if code == 78 then Some Notes
+    else if code == 80 then Some Capture else None
 
 -- what is said by number; there is no number 0
 abbrev pub texts_of : Letter → List (List ℕ)
@@ -41,8 +43,9 @@ texts_of Inference = infer_texts
 texts_of Certificate = certificate_texts
 texts_of Mismatch = mismatch_texts
 texts_of Notes = notes_texts
+texts_of Capture = capture_texts
 
--- there is such a refusal: A1 to A7, B1 to B10, C1 to C13, E1 to E10, F1 to F9, H1 to H15, I1 to I5, K1 to K5, M1 to M7, N1 and N2
+-- there is such a refusal: A1 to A7, B1 to B10, C1 to C13, E1 to E10, F1 to F9, H1 to H15, I1 to I5, K1 to K5, M1 to M7, N1 and N2, P1 to P5
 abbrev pub IsNumbered : Letter → ℕ → Type 0
 IsNumbered letter number = (1 ≤ number) × (number ≤ length (texts_of letter) - 1)
 

@@ -47,3 +47,14 @@ notes_texts =
     codes "the line has no form of a line of notes" ∷
     codes "out of memory" ∷
     []
+
+-- why a file is no capture of packets, P1 to P5
+abbrev pub capture_texts : List (List ℕ)
+capture_texts =
+    [] ∷
+    codes "the file is shorter than the 24 bytes of a capture file's header: capture anew" ∷
+    codes "the file is of the form pcapng: `editcap -F pcap FILE NEW` writes one of the form pcap" ∷
+    codes "the file begins with none of the numbers a1b2c3d4 and a1b23c4d of a capture file: `tcpdump -w FILE` writes one" ∷
+    codes "the file ends within a record" ∷
+    codes "the file can't be read" ∷
+    []

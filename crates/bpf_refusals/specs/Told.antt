@@ -29,11 +29,15 @@ use Rattle.bpf_follows.specs.declared.mismatch.Mismatch.{Mismatch}
 use Rattle.bpf_follows_notes.specs.Refused.{refusal_number as notes_number}
 use Rattle.bpf_follows_notes.specs.declared.error.NotesError.{NotesError}
 use Rattle.bpf_follows_notes.specs.declared.error.NotesError.TheVariants as notes
+use Rattle.bpf_pcap.specs.Refused.{refusal_number as capture_number}
+use Rattle.bpf_pcap.specs.declared.error.CaptureError.{CaptureError}
+use Rattle.bpf_pcap.specs.declared.error.CaptureError.TheVariants as captures
+use Rattle.bpf_pcap.specs.declared.error.CaptureRefusal.{CaptureRefusal}
 use Rattle.bpf_refusals.specs.declared.letter.Letter.{Letter}
 use Rattle.bpf_refusals.specs.declared.letter.Letter.TheVariants as letters
 use Rattle.bpf_refusals.specs.declared.told.Told.{Told}
 use Rattle.bpf_refusals.specs.declared.told.At.{At}
-use Rattle.bpf_refusals.specs.declared.told.At.TheVariants.{Nowhere, Slot, Line, Instruction}
+use Rattle.bpf_refusals.specs.declared.told.At.TheVariants.{Nowhere, Slot, Line, Instruction, Packet}
 use Rattle.bpf_refusals.specs.declared.told.TheConstants.{FILTER_MEMORY, NOT_SHOWN, TOO_DEAR, UNCERTIFIED}
 
 -- the number of what is named, and 0 of nothing
@@ -42,6 +46,7 @@ at_number Nowhere = 0
 at_number (Slot slot) = slot
 at_number (Line line) = line
 at_number (Instruction at) = at
+at_number (Packet packet byte) = packet
 
 -- the condition that is named, and 0 of none
 abbrev pub named : Option ℕ → ℕ
@@ -173,3 +178,13 @@ notes_at notes.Memory = Nowhere
 
 abbrev pub told_notes : NotesError → Told
 told_notes e = told_at letters.Notes (notes_number e) (notes_at e)
+
+-- ---- P
+
+-- a capture ends within a record; of any other it isn't told where
+abbrev pub capture_at : CaptureError → ℕ → ℕ → At
+capture_at captures.ShortRecord packet byte = Packet packet byte
+capture_at error packet byte = Nowhere
+
+abbrev pub told_capture : CaptureRefusal → Told
+told_capture r = told_at letters.Capture (capture_number r.error) (capture_at r.error r.packet r.byte)

@@ -11,6 +11,7 @@ use bpf_follows_notes::NotesError;
 use bpf_harden_notes::HardenError;
 use bpf_infer_error::InferError;
 use bpf_insn::DecodeError;
+use bpf_pcap::{CaptureError, CaptureRefusal};
 use bpf_semantics::Reason;
 use bpf_text::TextError;
 
@@ -191,5 +192,23 @@ impl Tells for NotesError {
             NotesError::Memory => At::Nowhere,
         };
         Told::new(Letter::Notes, self.number(), at)
+    }
+}
+
+/// P1 to P5.
+impl Tells for CaptureRefusal {
+    ghost use Rattle.bpf_refusals.specs.Told.{told_capture};
+
+    ghost told_of = { told_capture };
+
+    fn told(&self) -> Told {
+        let at = match self.error {
+            CaptureError::ShortRecord => At::Packet {
+                packet: self.packet,
+                byte: self.byte,
+            },
+            _ => At::Nowhere,
+        };
+        Told::new(Letter::Capture, self.error.number(), at)
     }
 }

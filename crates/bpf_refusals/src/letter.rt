@@ -3,7 +3,9 @@
 ghost use Rattle.std.specs.Prelude.{◌≡◌, ◌<◌, ◌↔◌, [], ◌∷◌, IsSome, IfSome, MatchOption, length};
 ghost use Rattle.bpf_refusals.specs.Letters.{IsNumbered, LettersDiffer, code_of, letter_of, sentence_of};
 
-use crate::sentences::{filter_sentence, hardening_sentence, notes_sentence, text_sentence};
+use crate::sentences::{
+    capture_sentence, filter_sentence, hardening_sentence, notes_sentence, text_sentence,
+};
 use bpf_cert::CertError;
 use bpf_follows_notes::mismatch_text;
 use bpf_infer_error::InferError;
@@ -34,6 +36,8 @@ pub enum Letter {
     Mismatch,
     /// N: a text as notes.
     Notes,
+    /// P: a file as a capture of packets.
+    Capture,
 }
 
 impl Letter {
@@ -52,6 +56,7 @@ impl Letter {
             Letter::Certificate => b'K',
             Letter::Mismatch => b'M',
             Letter::Notes => b'N',
+            Letter::Capture => b'P',
         };
         u32::from(letter)
     }
@@ -71,6 +76,7 @@ impl Letter {
             Letter::Certificate => "K",
             Letter::Mismatch => "M",
             Letter::Notes => "N",
+            Letter::Capture => "P",
         }
     }
 
@@ -92,6 +98,7 @@ impl Letter {
             b'K' => Some(Letter::Certificate),
             b'M' => Some(Letter::Mismatch),
             b'N' => Some(Letter::Notes),
+            b'P' => Some(Letter::Capture),
             _ => None,
         }
     }
@@ -113,6 +120,7 @@ impl Letter {
             Letter::Certificate => CertError::text_numbered(number),
             Letter::Mismatch => mismatch_text(number),
             Letter::Notes => notes_sentence(number),
+            Letter::Capture => capture_sentence(number),
         }
     }
 }

@@ -1,7 +1,7 @@
-//! What the refusals say whose crates have no table: A, B and N, and H13 to H15.
+//! What the refusals say whose crates have no table: A, B, N and P, and H13 to H15.
 
 ghost use Rattle.std.specs.Prelude.{◌≡◌, ◌<◌, ◌≤◌, ◌↔◌, [], IsSome, IfSome, MatchOption, get_or, length};
-ghost use Rattle.bpf_refusals.specs.Sentences.{filter_texts, hardening_texts, notes_texts, text_texts};
+ghost use Rattle.bpf_refusals.specs.Sentences.{capture_texts, filter_texts, hardening_texts, notes_texts, text_texts};
 
 use crate::told::{NOT_SHOWN, TOO_DEAR, UNCERTIFIED};
 use bpf_harden_notes::HardenError;
@@ -73,6 +73,26 @@ pub fn notes_sentence(number: u32) -> Option<&'static str>
     match number {
         1 => Some("the line has no form of a line of notes"),
         2 => Some("out of memory"),
+        _ => None,
+    }
+}
+
+/// Why a file is no capture of packets.
+pub fn capture_sentence(number: u32) -> Option<&'static str>
+    ensures numbered { IsSome result ↔ ((1 ≤ number) × (number ≤ 5)) }
+    ensures said { IfSome result (λ text. 0 < length text.now) }
+    ensures words { MatchOption result (get_or capture_texts number [] ≡ []) (λ text. text.now ≡ get_or capture_texts number []) }
+{
+    match number {
+        1 => Some("the file is shorter than the 24 bytes of a capture file's header: capture anew"),
+        2 => Some(
+            "the file is of the form pcapng: `editcap -F pcap FILE NEW` writes one of the form pcap",
+        ),
+        3 => Some(
+            "the file begins with none of the numbers a1b2c3d4 and a1b23c4d of a capture file: `tcpdump -w FILE` writes one",
+        ),
+        4 => Some("the file ends within a record"),
+        5 => Some("the file can't be read"),
         _ => None,
     }
 }

@@ -30,10 +30,12 @@ pub enum At {
     Line(u64),
     /// At an instruction of a filter of classic BPF, counted from 0.
     Instruction(u64),
+    /// In the record of a packet of a capture, counted from 1, which begins at a byte of the file, counted from 0.
+    Packet { packet: u64, byte: u64 },
 }
 
 impl At {
-    /// The number of the slot, the line or the instruction; 0 of nothing.
+    /// The number of the slot, the line, the instruction or the packet; 0 of nothing.
     pub fn number(self) -> u64
         ensures { result ≡ at_number self }
     {
@@ -42,6 +44,7 @@ impl At {
             At::Slot(slot) => u64::from(slot),
             At::Line(line) => line,
             At::Instruction(at) => at,
+            At::Packet { packet, .. } => packet,
         }
     }
 }

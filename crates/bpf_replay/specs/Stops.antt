@@ -1,5 +1,5 @@
 -- Which packets of a capture file are answered, and where that ends.
-use Rattle.std.specs.Prelude.{◌≡◌, ◌⊎◌, ℕ, ◌+◌, List, [], ◌∷◌, length, Option, IfSome, ⊤}
+use Rattle.std.specs.Prelude.{◌≡◌, ◌⊎◌, ℕ, ◌+◌, Bool, List, [], ◌∷◌, length, flat_map, Option, IfSome, ⊤}
 use Rattle.std.specs.Io.KnownBytes.{Consumes}
 use Rattle.bpf_insn.specs.declared.order.Order.{Order}
 use Rattle.bpf_pcap.specs.Block.{block_of}
@@ -7,6 +7,7 @@ use Rattle.bpf_pcap.specs.Capture.{Begins, BreaksOff, IsBroken, IsCapture, IsRec
 use Rattle.bpf_pcap.specs.Taken.{IsRefusedHeader}
 use Rattle.bpf_pcap.specs.declared.error.CaptureError.TheVariants.{ShortRecord}
 use Rattle.bpf_pcap.specs.declared.error.CaptureRefusal.{CaptureRefusal}
+use Rattle.bpf_replay.specs.Lines.{IsTold, value_line}
 use Rattle.bpf_replay.specs.declared.answerer.Blocks.{Blocks}
 use Rattle.bpf_replay.specs.declared.turn.Stop.{Stop}
 use Rattle.bpf_replay.specs.declared.turn.Stop.TheVariants.{End, Refused, Failed}
@@ -61,3 +62,13 @@ pub record Replayed (gives : List ℕ → ℕ → Type 0) (blocks : Blocks) (kno
   pub packets : List (List ℕ)
   pub stops : StopsBy order known packets stop
   pub given : AllGive gives blocks packets values
+
+-- ---- what is written of them
+
+-- A file is replayed until it ends so: its first packets gave numbers, and this holds of the text that tells them.
+abbrev pub Replays : (List ℕ → ℕ → Type 0) → Blocks → Option (List ℕ) → Bool → (List ℕ → Type 0) → Stop → Type 0
+Replays gives blocks known counts holds stop = (values : List ℕ) × (text : List ℕ) × Replayed gives blocks known stop values × IsTold counts values text × holds text
+
+-- the same of the text that has a line for each
+abbrev pub ReplaysEach : (List ℕ → ℕ → Type 0) → Blocks → Option (List ℕ) → (List ℕ → Type 0) → Stop → Type 0
+ReplaysEach gives blocks known holds stop = (values : List ℕ) × Replayed gives blocks known stop values × holds (flat_map value_line values)

@@ -1,12 +1,11 @@
 //! The answers to the packets of a capture file.
 
-ghost use Rattle.std.specs.Prelude.{◌≡◌, ◌≤◌, ℕ, List, [], IfOk, IfErr, true};
+ghost use Rattle.std.specs.Prelude.{◌≡◌, ◌≤◌, [], IfOk, IfErr, true};
 ghost use Rattle.std.specs.Io.KnownBytes.{Appends};
 ghost use Rattle.bpf_insn.specs.Limits.{max_context};
 ghost use Rattle.bpf_insn.specs.Written.{AppendsBeginning, Gathers};
 ghost use Rattle.bpf_packets.specs.Blocks.{head_bytes};
-ghost use Rattle.bpf_replay.specs.Lines.{IsTold};
-ghost use Rattle.bpf_replay.specs.Stops.{Replayed};
+ghost use Rattle.bpf_replay.specs.Stops.{Replays};
 ghost use Rattle.bpf_replay.specs.declared.turn.Stop.TheVariants.{Failed};
 
 use crate::answerer::{Answerer, Blocks};
@@ -39,10 +38,10 @@ fn tell_counts<R: Read, Q: Answerer, W: Write>(
     requires room { head_bytes ≤ blocks.size }
     requires short { blocks.size ≤ max_context }
     requires nothing { pending.old ≡ [] }
-    ensures ok { IfOk result (λ stop. (values : List ℕ) × (text : List ℕ) × Replayed (Q.gives answerer.now) blocks (R.remaining reader.old) stop values
-        × IsTold true values text × Gathers (W.contents out.old) (W.contents out.new) [] pending.new text) }
-    ensures err { IfErr result (λ _. (values : List ℕ) × (text : List ℕ) × Replayed (Q.gives answerer.now) blocks (R.remaining reader.old) Failed values
-        × IsTold true values text × AppendsBeginning (W.contents out.old) (W.contents out.new) text) }
+    ensures ok { IfOk result (Replays (Q.gives answerer.now) blocks (R.remaining reader.old) true
+        (Gathers (W.contents out.old) (W.contents out.new) [] pending.new)) }
+    ensures err { IfErr result (λ _. Replays (Q.gives answerer.now) blocks (R.remaining reader.old) true
+        (AppendsBeginning (W.contents out.old) (W.contents out.new)) Failed) }
 {
     let mut counts = Counts::new(alloc);
     let stop = match count_each(reader, &mut counts, answerer, blocks) {
@@ -69,10 +68,10 @@ fn tell_each<R: Read, Q: Answerer, W: Write>(
     requires room { head_bytes ≤ blocks.size }
     requires short { blocks.size ≤ max_context }
     requires nothing { pending.old ≡ [] }
-    ensures ok { IfOk result (λ stop. (values : List ℕ) × (text : List ℕ) × Replayed (Q.gives answerer.now) blocks (R.remaining reader.old) stop values
-        × IsTold counts values text × Gathers (W.contents out.old) (W.contents out.new) [] pending.new text) }
-    ensures err { IfErr result (λ _. (values : List ℕ) × (text : List ℕ) × Replayed (Q.gives answerer.now) blocks (R.remaining reader.old) Failed values
-        × IsTold counts values text × AppendsBeginning (W.contents out.old) (W.contents out.new) text) }
+    ensures ok { IfOk result (Replays (Q.gives answerer.now) blocks (R.remaining reader.old) counts
+        (Gathers (W.contents out.old) (W.contents out.new) [] pending.new)) }
+    ensures err { IfErr result (λ _. Replays (Q.gives answerer.now) blocks (R.remaining reader.old) counts
+        (AppendsBeginning (W.contents out.old) (W.contents out.new)) Failed) }
 {
     if counts {
         tell_counts(alloc, reader, out, pending, answerer, blocks)
@@ -95,10 +94,9 @@ pub fn replay<R: Read, Q: Answerer, W: Write>(
     requires taken { Q.takes answerer.now blocks.size }
     requires room { head_bytes ≤ blocks.size }
     requires short { blocks.size ≤ max_context }
-    ensures ok { IfOk result (λ stop. (values : List ℕ) × (text : List ℕ) × Replayed (Q.gives answerer.now) blocks (R.remaining reader.old) stop values
-        × IsTold counts values text × Appends (W.contents out.old) (W.contents out.new) text) }
-    ensures err { IfErr result (λ _. (values : List ℕ) × (text : List ℕ) × Replayed (Q.gives answerer.now) blocks (R.remaining reader.old) Failed values
-        × IsTold counts values text × AppendsBeginning (W.contents out.old) (W.contents out.new) text) }
+    ensures ok { IfOk result (Replays (Q.gives answerer.now) blocks (R.remaining reader.old) counts (Appends (W.contents out.old) (W.contents out.new))) }
+    ensures err { IfErr result (λ _. Replays (Q.gives answerer.now) blocks (R.remaining reader.old) counts
+        (AppendsBeginning (W.contents out.old) (W.contents out.new)) Failed) }
 {
     let mut pending = Pending::new();
     let stop = match tell_each(alloc, reader, out, &mut pending, answerer, blocks, counts) {

@@ -1,11 +1,10 @@
 //! A line for each packet.
 
-ghost use Rattle.std.specs.Prelude.{◌≡◌, ◌≤◌, ℕ, List, [], IfOk, IfErr, flat_map};
+ghost use Rattle.std.specs.Prelude.{◌≡◌, ◌≤◌, [], IfOk, IfErr};
 ghost use Rattle.bpf_insn.specs.Limits.{max_context};
 ghost use Rattle.bpf_insn.specs.Written.{AppendsBeginning, Gathers};
 ghost use Rattle.bpf_packets.specs.Blocks.{head_bytes};
-ghost use Rattle.bpf_replay.specs.Lines.{value_line};
-ghost use Rattle.bpf_replay.specs.Stops.{Replayed};
+ghost use Rattle.bpf_replay.specs.Stops.{ReplaysEach};
 ghost use Rattle.bpf_replay.specs.declared.turn.Stop.TheVariants.{Failed};
 
 use crate::answerer::{Answerer, Blocks};
@@ -29,10 +28,10 @@ pub fn print_each<R: Read, Q: Answerer, W: Write>(
     requires room { head_bytes ≤ blocks.size }
     requires short { blocks.size ≤ max_context }
     requires nothing { pending.old ≡ [] }
-    ensures ok { IfOk result (λ stop. (values : List ℕ) × Replayed (Q.gives answerer.now) blocks (R.remaining reader.old) stop values
-        × Gathers (W.contents out.old) (W.contents out.new) [] pending.new (flat_map value_line values)) }
-    ensures err { IfErr result (λ _. (values : List ℕ) × Replayed (Q.gives answerer.now) blocks (R.remaining reader.old) Failed values
-        × AppendsBeginning (W.contents out.old) (W.contents out.new) (flat_map value_line values)) }
+    ensures ok { IfOk result (ReplaysEach (Q.gives answerer.now) blocks (R.remaining reader.old)
+        (Gathers (W.contents out.old) (W.contents out.new) [] pending.new)) }
+    ensures err { IfErr result (λ _. ReplaysEach (Q.gives answerer.now) blocks (R.remaining reader.old)
+        (AppendsBeginning (W.contents out.old) (W.contents out.new)) Failed) }
 {
     let order = match first_of(reader) {
         Ok(order) => order,

@@ -3,10 +3,9 @@
 ghost use Rattle.std.specs.Prelude.{◌≡◌, ◌≤◌, IfOk, IfErr, IfSome, false, IsTrue};
 ghost use Rattle.bpf_insn.specs.Limits.{max_context};
 ghost use Rattle.bpf_certify.specs.Certified.{Answers as IsAnswer, IsRefused};
-ghost use Rattle.bpf_answers.specs.Both.{pairing};
+ghost use Rattle.bpf_answers.specs.Both.{putting};
 ghost use Rattle.bpf_follows_notes.specs.NotesText.{notes_text};
-ghost use Rattle.bpf_places.specs.Made.{making};
-ghost use Rattle.bpf_command.specs.Certified.{AllPut, CertifyFails, CertifySays, CertifyWithFails, CertifyWithSays, NotAllPut, NotAllStand, NotCertified, NotCertifiedWith, assessment_answer, made_of, notes_of, refused_as, rewriting_of, told_of, wish_of};
+ghost use Rattle.bpf_command.specs.Certified.{CertifyFails, CertifySays, CertifyWithFails, CertifyWithSays, IsAllPut, NotAllPut, NotAllStand, NotCertified, NotCertifiedWith, assessment_answer, made_of, notes_of, refused_as, rewriting_of, told_of, wish_of};
 
 use crate::commands::explain::lines_at;
 use crate::commands::harden::{Beside, changes_of, put_beside, text_of};
@@ -155,11 +154,11 @@ fn put_all<'a, P: Places>(
     certificate: &Certificate,
     beside: &Beside,
 ) -> Result<u8, Failure<'a>>
-    ensures ok { IfOk result (λ status. (status ≡ 0) × AllPut (making P.creates P.ends P.Writer.contents) (pairing P.creates P.ends P.Writer.contents)
+    ensures ok { IfOk result (IsAllPut (putting P.creates P.ends P.Writer.contents)
         places.old asked.entry made.now certificate.now beside.now.notes.items places.new) }
-    ensures err { IfErr result (NotAllPut (making P.creates P.ends P.Writer.contents) (pairing P.creates P.ends P.Writer.contents)
+    ensures err { IfErr result (NotAllPut (putting P.creates P.ends P.Writer.contents)
         places.old asked.entry made.now certificate.now places.new) }
-    ensures names { IfErr result (λ _. NotAllStand (making P.creates P.ends P.Writer.contents) (pairing P.creates P.ends P.Writer.contents)
+    ensures names { IfErr result (λ _. NotAllStand (putting P.creates P.ends P.Writer.contents)
         places.old asked.entry made.now certificate.now places.new) }
 {
     put_both(places, asked.output, made, asked.certificate, certificate)?;
@@ -200,11 +199,11 @@ fn assess<'a, P: Places>(
     places: &mut P,
     asked: Certifying<'a>,
 ) -> Result<Assessment, Failure<'a>>
-    ensures ok { IfOk result (CertifySays P.opens (making P.creates P.ends P.Writer.contents) (pairing P.creates P.ends P.Writer.contents)
+    ensures ok { IfOk result (CertifySays P.opens (putting P.creates P.ends P.Writer.contents)
         places.old asked.entry places.new) }
-    ensures err { IfErr result (CertifyFails P.opens (making P.creates P.ends P.Writer.contents) (pairing P.creates P.ends P.Writer.contents)
+    ensures err { IfErr result (CertifyFails P.opens (putting P.creates P.ends P.Writer.contents)
         places.old asked.entry places.new) }
-    ensures names { IfErr result (λ _. NotCertified P.opens (making P.creates P.ends P.Writer.contents) (pairing P.creates P.ends P.Writer.contents)
+    ensures names { IfErr result (λ _. NotCertified P.opens (putting P.creates P.ends P.Writer.contents)
         places.old asked.entry places.new) }
 {
     let program = match program_at(alloc, places, asked.input, asked.order)? {
@@ -231,11 +230,10 @@ pub fn certified<'a, P: Places>(
     places: &mut P,
     asked: Certifying<'a>,
 ) -> Result<Assessed, Failure<'a>>
-    ensures ok { IfOk result (CertifyWithSays P.opens (making P.creates P.ends P.Writer.contents)
-        (pairing P.creates P.ends P.Writer.contents) places.old asked.entry places.new) }
-    ensures err { IfErr result (CertifyWithFails P.opens (making P.creates P.ends P.Writer.contents) (pairing P.creates P.ends P.Writer.contents)
+    ensures ok { IfOk result (CertifyWithSays P.opens (putting P.creates P.ends P.Writer.contents) places.old asked.entry places.new) }
+    ensures err { IfErr result (CertifyWithFails P.opens (putting P.creates P.ends P.Writer.contents)
         places.old asked.entry places.new) }
-    ensures names { IfErr result (λ _. NotCertifiedWith P.opens (making P.creates P.ends P.Writer.contents) (pairing P.creates P.ends P.Writer.contents)
+    ensures names { IfErr result (λ _. NotCertifiedWith P.opens (putting P.creates P.ends P.Writer.contents)
         places.old asked.entry places.new) }
 {
     let lines = lines_at(alloc, places, asked.lines)?;

@@ -1,15 +1,9 @@
 //! `bpf explain IN`, and the same with a certificate, over the inferrer's work, and of a text.
 
-ghost use Rattle.std.specs.Prelude.{◌≡◌, ◌≤◌, ◌<◌, IfOk, IfErr, IfSome, IfNone, None, MatchResult, false, ◌∷◌, []};
-ghost use Rattle.bpf_insn.specs.Instruction.{slots};
-ghost use Rattle.bpf_insn.specs.Limits.{max_context};
-ghost use Rattle.bpf_cert.specs.Limits.{IsCertificate};
-ghost use Rattle.bpf_safety.specs.Certified.{IsLeastFlaw};
-ghost use Rattle.bpf_check.specs.CheckedProgram.{IsCertifiedBy};
-ghost use Rattle.bpf_check.specs.RefusalNumbers.{refusal_number, refusal_slot};
-ghost use Rattle.bpf_infer_error.specs.RefusalNumbers.{infer_slot};
+ghost use Rattle.std.specs.Prelude.{◌≡◌, IfOk, IfErr, IfSome, IfNone, None, false, ◌∷◌, []};
+ghost use Rattle.std.specs.String.{string_bytes};
 ghost use Rattle.bpf_command.specs.Names.{behind_lines, names_explained, names_opened};
-ghost use Rattle.bpf_answers.specs.Loaded.{CertificateAt, CertificateFails, CertificateRefused, ImageFails, OpensFirst, ReadableFails, Tried};
+ghost use Rattle.bpf_answers.specs.Loaded.{CertificateFails, ImageFails, OpensFirst, ReadableFails, ReadsCertificateAt, Tried};
 ghost use Rattle.bpf_command.specs.Explained.{Answers, ExplainFails, ExplainSays, ExplainWithFails, ExplainWithSays, HardenedSays, JudgesOf, LinesAt, LinesFail, SoughtSays, TaskSays, TextSays};
 ghost use Rattle.bpf_command_core.specs.Printed.{ImageSays, JudgedSays, ListSays, LoadedFails, LoadedSays, YesSays};
 ghost use Rattle.bpf_answers.specs.Told.{OutputFails};
@@ -142,8 +136,7 @@ fn certificate_kept<'a, P: Places>(
     places: &mut P,
     name: &'a str,
 ) -> Result<(Result<Certificate, CertError>, Option<Vec<u8>>), Failure<'a>>
-    ensures ok { IfOk result (λ found. MatchResult found.0 (CertificateAt P.opens places.old name.entry.now places.new)
-        (CertificateRefused P.opens places.old name.entry.now places.new)) }
+    ensures ok { IfOk result (λ found. ReadsCertificateAt P.opens places.old name.entry.now places.new found.0) }
     ensures err { IfErr result (CertificateFails P.opens places.old name.entry.now places.new) }
     ensures names { Tried P.opens places.old name.entry.now places.new }
 {
@@ -326,7 +319,7 @@ pub(super) fn lines_at<'a, P: Places>(
     places: &mut P,
     lines: Option<&'a str>,
 ) -> Result<String, Failure<'a>>
-    ensures ok { IfOk result (λ _. LinesAt P.opens places.old lines.entry places.new) }
+    ensures ok { IfOk result (λ table. LinesAt P.opens places.old lines.entry places.new (string_bytes table)) }
     ensures err { IfErr result (LinesFail P.opens places.old lines.entry places.new) }
     ensures opened { OpensFirst P.opens (behind_lines lines.entry []) places.old places.new }
 {

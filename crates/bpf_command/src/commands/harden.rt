@@ -1,14 +1,11 @@
 //! `bpf harden IN LEN OUT`.
 
-ghost use Rattle.std.specs.Prelude.{◌≡◌, ◌<◌, ℕ, List, Option, IfOk, IfErr, IfSome, MatchOption, None, false};
-ghost use Rattle.bpf_follows.specs.Mismatches.{IsMismatch};
+ghost use Rattle.std.specs.Prelude.{◌≡◌, ◌<◌, IfOk, IfErr, IfSome, None, false};
 ghost use Rattle.bpf_insn.specs.Instruction.{slots};
 ghost use Rattle.bpf_insn.specs.Image.{IsProgram};
 ghost use Rattle.bpf_harden_notes.specs.RefusalNumbers.{harden_slot};
-ghost use Rattle.bpf_follows_law.specs.declared.notes.Place.{Place};
-ghost use Rattle.bpf_follows_law.specs.Matching.{Matches};
 ghost use Rattle.bpf_follows_notes.specs.NotesText.{notes_text};
-ghost use Rattle.bpf_command.specs.Hardened.{AreLeft, BothStand, HardenFails, HardenSays, IsKept, IsLeft, IsLeftSaid, IsUnshown, NotAllMade, NotBothPut, NotBothStand, Stands, Unput, asked_bytes, attempt_answer, bounds_of};
+ghost use Rattle.bpf_command.specs.Hardened.{AreLeft, BothStand, HardenFails, HardenSays, IsLeft, IsLeftSaid, IsNoted, IsUnshown, NotAllMade, NotBothPut, NotBothStand, Show, Stands, Unput, asked_bytes, attempt_answer, bounds_of};
 ghost use Rattle.bpf_places.specs.Made.{making};
 
 use crate::commands::changes::changes_text;
@@ -157,9 +154,7 @@ fn evidence(
 ) -> Result<Evidence, AllocError>
     ensures left { IfOk result (λ found. AreLeft asked.entry found.untouched) }
     ensures all { IfOk result (λ found. IfSome found.mismatch (λ _. found.untouched ≡ asked_bytes asked.entry)) }
-    ensures exact { IfOk result (λ found. MatchOption found.mismatch
-        (Matches program.now hardened.now.program found.notes.items (bounds_of asked.entry found.untouched))
-        (IsMismatch program.now hardened.now.program found.notes.items (bounds_of asked.entry found.untouched))) }
+    ensures exact { IfOk result (λ found. Show program.now hardened.now.program found.notes.items (bounds_of asked.entry found.untouched) found.mismatch) }
 {
     match asked.untouched {
         None if is_free(asked) => evidence_of(alloc, program, hardened, bounds_of(asked, 0)),
@@ -197,9 +192,7 @@ fn shown(
     asked: Hardening<'_>,
 ) -> Result<Evidence, Unshown>
     ensures left { IfOk result (λ found. AreLeft asked.entry found.untouched) }
-    ensures kept { IfOk result (λ found. MatchOption found.mismatch
-        (Matches program.now hardened.now.program found.notes.items (bounds_of asked.entry found.untouched))
-        (IsMismatch program.now hardened.now.program found.notes.items (bounds_of asked.entry found.untouched))) }
+    ensures kept { IfOk result (λ found. Show program.now hardened.now.program found.notes.items (bounds_of asked.entry found.untouched) found.mismatch) }
     ensures proved { IfOk result (λ found. asked.entry.unproved ≡ false → found.mismatch ≡ None) }
     ensures err { IfErr result (IsUnshown program.now hardened.now.program asked.entry) }
 {
@@ -257,8 +250,7 @@ fn notes_for(
     hardened: &Hardened,
     asked: Hardening<'_>,
 ) -> Result<Noted, Unshown>
-    ensures kept { IfOk result (λ n. (notes : List (Option Place)) × IsKept program.now hardened.now.program asked.entry notes n.kept
-        × IfSome asked.entry.notes (λ _. n.beside.notes.items ≡ notes_text notes)) }
+    ensures kept { IfOk result (λ n. IsNoted program.now hardened.now.program asked.entry n.kept n.beside.notes.items) }
     ensures err { IfErr result (IsUnshown program.now hardened.now.program asked.entry) }
 {
     let found = shown(alloc, program, hardened, asked)?;

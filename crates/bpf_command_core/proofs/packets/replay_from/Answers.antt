@@ -1,8 +1,7 @@
-use Rattle.std.proofs.Common.{ℕ, List, subst}
+use Rattle.std.proofs.Common.{subst}
 use Rattle.std.specs.Io.KnownBytes.{Appends}
 use Rattle.bpf_insn.specs.Written.{AppendsBeginning}
-use Rattle.bpf_replay.specs.Lines.{IsTold}
-use Rattle.bpf_replay.specs.Stops.{Replayed}
+use Rattle.bpf_replay.specs.Stops.{Replays}
 use Rattle.bpf_replay.specs.declared.turn.Stop.TheVariants.{Failed}
 use Rattle.bpf_command_core.specs.Replayed.{Gives}
 use Rattle.bpf_command_core.proofs.ReplayedLemmas.{Stopped, replay_fails, replay_leaves, replay_says}
@@ -15,7 +14,7 @@ returns-in-Ok-clause-ok g c =
     let known = g.R.Read.remaining c.args.reader.now in
     let at = g.W.Write.contents in
     let said : Stopped packets k known (at c.args.out.now) (at c.replay.new.out) c.in-Ok.stop
-    = subst (λ n. (values : List ℕ) × (text : List ℕ) × Replayed (Gives k) (record { order = packets.order; size = n }) known c.in-Ok.stop values × IsTold packets.counts values text × Appends (at c.args.out.now) (at c.replay.new.out) text) c.most.ensures c.in-Ok.ensures.ok in
+    = subst (λ n. Replays (Gives k) (record { order = packets.order; size = n }) known packets.counts (Appends (at c.args.out.now) (at c.replay.new.out)) c.in-Ok.stop) c.most.ensures c.in-Ok.ensures.ok in
     replay_says packets k known (at c.args.out.now) (at c.replay.new.out) c.in-Ok.stop c.ended.result said c.ended.ensures.ok
 
 pub returns-in-Ok-clause-err : goal.returns-in-Ok-clause-err
@@ -25,7 +24,7 @@ returns-in-Ok-clause-err g c =
     let known = g.R.Read.remaining c.args.reader.now in
     let at = g.W.Write.contents in
     let said : Stopped packets k known (at c.args.out.now) (at c.replay.new.out) c.in-Ok.stop
-    = subst (λ n. (values : List ℕ) × (text : List ℕ) × Replayed (Gives k) (record { order = packets.order; size = n }) known c.in-Ok.stop values × IsTold packets.counts values text × Appends (at c.args.out.now) (at c.replay.new.out) text) c.most.ensures c.in-Ok.ensures.ok in
+    = subst (λ n. Replays (Gives k) (record { order = packets.order; size = n }) known packets.counts (Appends (at c.args.out.now) (at c.replay.new.out)) c.in-Ok.stop) c.most.ensures c.in-Ok.ensures.ok in
     replay_fails packets k known (at c.args.out.now) (at c.replay.new.out) c.in-Ok.stop c.ended.result said c.ended.ensures.err
 
 pub returns-in-Ok-clause-begun : goal.returns-in-Ok-clause-begun
@@ -35,7 +34,7 @@ returns-in-Ok-clause-begun g c =
     let known = g.R.Read.remaining c.args.reader.now in
     let at = g.W.Write.contents in
     let said : Stopped packets k known (at c.args.out.now) (at c.replay.new.out) c.in-Ok.stop
-    = subst (λ n. (values : List ℕ) × (text : List ℕ) × Replayed (Gives k) (record { order = packets.order; size = n }) known c.in-Ok.stop values × IsTold packets.counts values text × Appends (at c.args.out.now) (at c.replay.new.out) text) c.most.ensures c.in-Ok.ensures.ok in
+    = subst (λ n. Replays (Gives k) (record { order = packets.order; size = n }) known packets.counts (Appends (at c.args.out.now) (at c.replay.new.out)) c.in-Ok.stop) c.most.ensures c.in-Ok.ensures.ok in
     replay_leaves packets k known (at c.args.out.now) (at c.replay.new.out) c.in-Ok.stop c.ended.result said c.ended.ensures.err
 
 pub returns-in-Err-Output-clause-begun : goal.returns-in-Err-Output-clause-begun
@@ -44,7 +43,7 @@ returns-in-Err-Output-clause-begun g c =
     let packets = c.args.packets in
     let known = g.R.Read.remaining c.args.reader.now in
     let at = g.W.Write.contents in
-    subst (λ n. (values : List ℕ) × (text : List ℕ) × Replayed (Gives k) (record { order = packets.order; size = n }) known Failed values × IsTold packets.counts values text × AppendsBeginning (at c.args.out.now) (at c.replay.new.out) text) c.most.ensures c.in-Err-Output.ensures.err
+    subst (λ n. Replays (Gives k) (record { order = packets.order; size = n }) known packets.counts (AppendsBeginning (at c.args.out.now) (at c.replay.new.out)) Failed) c.most.ensures c.in-Err-Output.ensures.err
 
 pub returns-in-Err-Memory-clause-begun : goal.returns-in-Err-Memory-clause-begun
 returns-in-Err-Memory-clause-begun g c =
@@ -52,4 +51,4 @@ returns-in-Err-Memory-clause-begun g c =
     let packets = c.args.packets in
     let known = g.R.Read.remaining c.args.reader.now in
     let at = g.W.Write.contents in
-    subst (λ n. (values : List ℕ) × (text : List ℕ) × Replayed (Gives k) (record { order = packets.order; size = n }) known Failed values × IsTold packets.counts values text × AppendsBeginning (at c.args.out.now) (at c.replay.new.out) text) c.most.ensures c.in-Err-Memory.ensures.err
+    subst (λ n. Replays (Gives k) (record { order = packets.order; size = n }) known packets.counts (AppendsBeginning (at c.args.out.now) (at c.replay.new.out)) Failed) c.most.ensures c.in-Err-Memory.ensures.err

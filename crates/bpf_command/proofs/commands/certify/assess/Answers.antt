@@ -1,7 +1,6 @@
 use Rattle.std.proofs.Common.{rules, IfErr, inr}
 use Rattle.std.proofs.lemmas.Result.{err_from_is_err_and}
-use Rattle.bpf_places.specs.Made.{making}
-use Rattle.bpf_answers.specs.Both.{pairing}
+use Rattle.bpf_answers.specs.Both.{putting}
 use Rattle.bpf_answers.specs.Loaded.{LoadsImage}
 use Rattle.bpf_answers.proofs.MadeLemmas.{on_failure}
 use Rattle.bpf_command.specs.Certified.{NotAllPut, made_of, notes_of, told_of}
@@ -17,17 +16,16 @@ returns-in-Err-found_for-clause-ok g c =
 pub returns-in_err-put_all-clause-err : goal.returns-in_err-put_all-clause-err
 returns-in_err-put_all-clause-err g c =
     let o = g.P.Places.opens in
-    let m = making g.P.Places.creates g.P.Places.ends g.P.Writer.Write.contents in
-    let b = pairing g.P.Places.creates g.P.Places.ends g.P.Writer.Write.contents in
+    let w = putting g.P.Places.creates g.P.Places.ends g.P.Writer.Write.contents in
     let asked = c.args.asked in
     let d = c.in-Ok-found_for.found.certified in
     let length = c.length_of-length.result in
     let image : LoadsImage o asked.order c.args.places.now asked.input.now c.program_at.new.places c.in-Ok.program = search rules in
     let found = certifies_of o c.args.places.now asked c.program_at.new.places c.in-Ok.program length d c.length_of-length.ensures.given image c.in-Ok-found_for.ensures.ok c.in-Ok-found_for.ensures.shown in
     let certifies = certifies_as o c.args.places.now asked c.program_at.new.places c.made_of-made.result.now (made_of c.in-Ok.program d) d.certificate (notes_of d.rewritten) c.told_of-told.result (told_of asked length d) c.made_of-made.ensures c.told_of-told.ensures found in
-    let fails : IfErr c.from_residual-in_err-put_all.result (NotAllPut m b c.program_at.new.places asked c.made_of-made.result.now d.certificate c.put_all.new.places)
+    let fails : IfErr c.from_residual-in_err-put_all.result (NotAllPut w c.program_at.new.places asked c.made_of-made.result.now d.certificate c.put_all.new.places)
     = let p = err_from_is_err_and c.from_residual-in_err-put_all.result c.from_residual-in_err-put_all.ensures.1 in rw (p.1, p.2) c.in_err-put_all.ensures.err in
-    puts_fail c.from_residual-in_err-put_all.result o m b c.args.places.now asked c.program_at.new.places c.put_all.new.places c.made_of-made.result.now d.certificate (notes_of d.rewritten) c.told_of-told.result certifies fails
+    puts_fail c.from_residual-in_err-put_all.result o w c.args.places.now asked c.program_at.new.places c.put_all.new.places c.made_of-made.result.now d.certificate (notes_of d.rewritten) c.told_of-told.result certifies fails
 
 pub returns-in_err-put_all-clause-names : goal.returns-in_err-put_all-clause-names
 returns-in_err-put_all-clause-names g c =

@@ -23,4 +23,4 @@ returns-clause-ok g c =
     let at = g.P.Places.opens in
     let is : c.args.lines ≡ Some c.in-Some.name = search rules in
     let read : ShortTextAt at c.args.places.now c.in-Some.name.now c.text_at.new.places (λ bytes. string_bytes c.in_ok-table.table ≡ bytes) = c.in_ok-table.ensures.ok in
-    lines_read at c.args.places.now c.args.lines c.in-Some.name c.text_at.new.places is read
+    lines_read at c.args.places.now c.args.lines c.in-Some.name c.text_at.new.places (string_bytes c.in_ok-table.table) is read

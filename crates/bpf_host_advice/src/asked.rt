@@ -1,0 +1,68 @@
+//! What is asked of the calls, in numbers as C hands them over. Each call says which of them it takes.
+
+use crate::certification::BpfWish;
+
+/// The lengths of contexts for which a certificate is searched, in bytes, and how it is searched.
+#[derive(Clone, Copy)]
+pub struct RangeAsked {
+    /// From 0 to `most`.
+    pub least: u32,
+    /// From `least` to 4,096.
+    pub most: u32,
+    /// 1 for the deep search, 0 for the plain one.
+    pub deep: u32,
+}
+
+/// The contexts and runs on which a program is to keep the meaning of another one.
+#[derive(Clone, Copy)]
+pub struct RunsAsked {
+    /// How many bytes a context has, from 0 to 4,096.
+    pub size: u32,
+    /// How often a run may come to an instruction.
+    pub turns: u32,
+    /// 1 where contexts are blocks, else 0.
+    pub padded: u32,
+    /// How many of the lowest bytes of each frame are left to r10, from 0 to 512.
+    pub untouched: u32,
+}
+
+/// What is asked of a hardening.
+#[derive(Clone, Copy)]
+pub struct HardenAsked {
+    /// How many bytes a context has, from 0 to 4,096.
+    pub size: u32,
+    /// How often a loop that nothing counts turns at most.
+    pub turns: u32,
+    /// r0 where a trap ends the program.
+    pub otherwise: u64,
+    /// 1 where contexts are blocks, else 0.
+    pub padded: u32,
+    /// 1 where a hardened image is wanted that isn't shown to keep the meaning, too; else 0.
+    pub unproved: u32,
+    /// How many of the lowest bytes of each frame the old program leaves to r10, from 0 to 512.
+    pub untouched: u32,
+}
+
+/// What is asked of a certification.
+#[derive(Clone, Copy)]
+pub struct CertifyAsked {
+    /// The byte order of the image, 0 little-endian or 1 big-endian.
+    pub order: u32,
+    /// How many bytes a context has, from 0 to 4,096.
+    pub size: u32,
+    /// What C asks of it by its own struct.
+    pub wish: BpfWish,
+}
+
+/// What is shown of an image.
+#[derive(Clone, Copy)]
+pub struct ExplainAsked<'a> {
+    /// The byte order of the image, 0 little-endian or 1 big-endian.
+    pub order: u32,
+    /// 0 the listing, 1 the instruction at `slot`, 2 the graph.
+    pub shown: u32,
+    /// The slot of that instruction.
+    pub slot: u32,
+    /// The table of the source's lines, which may be empty.
+    pub lines: &'a [u8],
+}
