@@ -106,6 +106,14 @@ struct bpf_certified {
     uint32_t is_shown;      /* 1: it keeps the meaning of the old one, on those runs; 0: nobody showed it */
 };
 
+/* For which contexts and runs it is asked whether a new image keeps the meaning of an old one, as by the options of `bpf follows`. */
+struct bpf_following {
+    uint32_t size;      /* how many bytes a context has, at most 4,096 */
+    uint32_t padded;    /* 1: a context is a block, of which the old program is given the packet; else 0 */
+    uint32_t turns;     /* for runs that come to no instruction more often; 0: 65,536 times, in bpf_follows */
+    uint32_t untouched; /* and that leave so many of the lowest bytes of each frame, at most 512, to r10 */
+};
+
 /* The form of the contexts that a filter of classic BPF is converted for. */
 enum bpf_form {
     BPF_BLOCKS = 0, /* a packet's length in eight bytes, in the image's order, the packet, as much of it as fits, and anything */
@@ -147,8 +155,7 @@ int32_t bpf_host_run(const uint8_t *image, size_t image_len, uint32_t order, con
 int32_t bpf_host_run_prepared(const uint8_t *memory, size_t memory_len, const uint8_t *context, size_t context_len,
                               uint64_t fuel, struct bpf_outcome *outcome);
 int32_t bpf_host_follows(const uint8_t *old_image, size_t old_len, const uint8_t *new_image, size_t new_len, uint32_t order,
-                         const uint8_t *notes, size_t notes_len, uint32_t size, uint32_t turns, uint32_t padded, uint32_t untouched,
-                         struct bpf_refusal *refusal);
+                         const uint8_t *notes, size_t notes_len, const struct bpf_following *asked, struct bpf_refusal *refusal);
 size_t bpf_host_convert_size(size_t count);
 int32_t bpf_host_convert(const uint8_t *filter, size_t filter_len, uint32_t filter_order, uint32_t form, uint32_t size, uint32_t order,
                          uint8_t *made, size_t made_len, uint8_t *text, size_t text_len, struct bpf_converted *converted,
@@ -497,14 +504,6 @@ static inline int32_t bpf_convert(const void *filter, size_t count, uint32_t for
     return answer;
 }
 
-/* For which contexts and runs it is asked whether a new image keeps the meaning of an old one, as by the options of `bpf follows`. */
-struct bpf_following {
-    uint32_t size;      /* how many bytes a context has, at most 4,096 */
-    uint32_t padded;    /* 1: a context is a block, of which the old program is given the packet; else 0 */
-    uint32_t turns;     /* for runs that come to no instruction more often; 0: 65,536 times */
-    uint32_t untouched; /* and that leave so many of the lowest bytes of each frame, at most 512, to r10 */
-};
-
 /* Whether the text of notes shows that a new image keeps the meaning of an old one. BPF_YES: on each such context on which the old one ends with
  * a number, by such a run, the new one ends with that number. BPF_NO: *refusal says why, by E (the old image where `condition` is 0, the new one
  * where it is 1), N or M. BPF_NO_MEMORY. BPF_BAD_CALL: an order or `padded` that isn't one, `size` above 4,096, or `untouched` above 512.
@@ -512,12 +511,14 @@ struct bpf_following {
 static inline int32_t bpf_follows(const void *old_image, size_t old_len, const void *new_image, size_t new_len, uint32_t order,
                                   const void *notes, size_t notes_len, const struct bpf_following *asked, struct bpf_refusal *refusal) {
     struct bpf_refusal why = {0, 0, 0, 0};
+    struct bpf_following runs;
     int32_t answer;
     if (!bpf_are_bytes(old_image, old_len) || !bpf_are_bytes(new_image, new_len) || !bpf_are_bytes(notes, notes_len)) return BPF_BAD_MEMORY;
     if (!asked || !bpf_is_apart(refusal, sizeof *refusal, old_image, old_len, new_image, new_len)) return BPF_BAD_MEMORY;
     if (!bpf_is_apart(refusal, sizeof *refusal, notes, notes_len, asked, sizeof *asked)) return BPF_BAD_MEMORY;
-    answer = bpf_host_follows(bpf_bytes(old_image), old_len, bpf_bytes(new_image), new_len, order, bpf_bytes(notes), notes_len, asked->size,
-                              asked->turns ? asked->turns : 65536, asked->padded, asked->untouched, &why);
+    runs = *asked;
+    if (!runs.turns) runs.turns = 65536;
+    answer = bpf_host_follows(bpf_bytes(old_image), old_len, bpf_bytes(new_image), new_len, order, bpf_bytes(notes), notes_len, &runs, &why);
     if (answer == BPF_NO && refusal) *refusal = why;
     return answer;
 }

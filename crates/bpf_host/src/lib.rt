@@ -24,7 +24,7 @@ mod certifying;
 mod converting;
 mod explaining;
 
-use bpf_host_advice::{HardenAsked, RangeAsked, RunsAsked};
+use bpf_host_advice::{BpfFollowing, HardenAsked, RangeAsked};
 use bpf_host_runs::{BpfOutcome, BpfRefusal, BpfVerdict, LoadAsked};
 pub use certifying::bpf_host_certify;
 pub use converting::{bpf_host_convert, bpf_host_convert_size};
@@ -285,25 +285,16 @@ pub extern "C" fn bpf_host_follows(
     new: &[u8],
     order: u32,
     notes: &[u8],
-    size: u32,
-    turns: u32,
-    padded: u32,
-    untouched: u32,
+    runs: &BpfFollowing,
     refusal: &mut BpfRefusal,
 ) -> i32
-    ensures yes { result ≡ YES → IsFollowed (order_named order) old.now new.now (bounds_of size padded turns untouched) }
-    ensures no { result ≡ NO → IsNotFollowed (order_named order) old.now new.now notes.now (bounds_of size padded turns untouched) refusal.new }
-    ensures call { (result ≡ BAD_CALL) ↔ ((1 < order) ⊎ ((max_context < size) ⊎ ((1 < padded) ⊎ (frame_bytes < untouched)))) }
+    ensures yes { result ≡ YES → IsFollowed (order_named order) old.now new.now (bounds_of runs.now.size runs.now.padded runs.now.turns runs.now.untouched) }
+    ensures no { result ≡ NO → IsNotFollowed (order_named order) old.now new.now notes.now (bounds_of runs.now.size runs.now.padded runs.now.turns runs.now.untouched) refusal.new }
+    ensures call { (result ≡ BAD_CALL) ↔ ((1 < order) ⊎ ((max_context < runs.now.size) ⊎ ((1 < runs.now.padded) ⊎ (frame_bytes < runs.now.untouched)))) }
     ensures answers { (result ≡ YES) ⊎ (result ≡ NO) ⊎ (result ≡ NO_MEMORY) ⊎ (result ≡ BAD_CALL) }
     ensures refusal_kept { (result ≡ NO) ⊎ (refusal.new ≡ refusal.old) }
 {
-    let runs = RunsAsked {
-        size,
-        turns,
-        padded,
-        untouched,
-    };
-    bpf_host_advice::follows(alloc, old, new, order, notes, runs, refusal)
+    bpf_host_advice::follows(alloc, old, new, order, notes, *runs, refusal)
 }
 
 /// `refusal_text` of `bpf_host_advice`, for C.

@@ -13,15 +13,16 @@ pub struct RangeAsked {
     pub deep: u32,
 }
 
-/// The contexts and runs on which a program is to keep the meaning of another one.
+/// The contexts and runs on which a program is to keep the meaning of another one, as C sees them.
+#[repr(C)]
 #[derive(Clone, Copy)]
-pub struct RunsAsked {
+pub struct BpfFollowing {
     /// How many bytes a context has, from 0 to 4,096.
     pub size: u32,
-    /// How often a run may come to an instruction.
-    pub turns: u32,
     /// 1 where contexts are blocks, else 0.
     pub padded: u32,
+    /// How often a run may come to an instruction.
+    pub turns: u32,
     /// How many of the lowest bytes of each frame are left to r10, from 0 to 512.
     pub untouched: u32,
 }

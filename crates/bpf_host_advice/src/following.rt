@@ -8,7 +8,7 @@ ghost use Rattle.bpf_host_advice.specs.Followed.{IsFollowed, IsNotFollowed};
 ghost use Rattle.bpf_host_advice.specs.Told.{IsTold, TellsNewImage, TellsNotes};
 ghost use Rattle.bpf_host_runs.specs.declared.answers.TheConstants.{YES, NO, NO_MEMORY, BAD_CALL};
 
-use crate::asked::RunsAsked;
+use crate::asked::BpfFollowing;
 use crate::refusals::Unmade;
 use bpf_follows::follows as shows;
 use bpf_follows_law::Bounds;
@@ -79,7 +79,7 @@ pub fn follows(
     new: &[u8],
     order: u32,
     notes: &[u8],
-    runs: RunsAsked,
+    runs: BpfFollowing,
     refusal: &mut BpfRefusal,
 ) -> i32
     ensures yes { result ≡ YES → IsFollowed (order_named order) old.now new.now (bounds_of runs.size runs.padded runs.turns runs.untouched) }

@@ -23,7 +23,7 @@ mod refusals;
 mod sizes;
 mod texts;
 
-pub use asked::{CertifyAsked, ExplainAsked, HardenAsked, RangeAsked, RunsAsked};
+pub use asked::{BpfFollowing, CertifyAsked, ExplainAsked, HardenAsked, RangeAsked};
 use bpf_follows_law::Bounds;
 use bpf_host_runs::{BAD_CALL, BpfRefusal, NO, NO_MEMORY, order_of};
 use bpf_infer::Wanted;
