@@ -18,6 +18,12 @@ use Rattle.bpf_host_runs.specs.Told.{TellsImage}
 use Rattle.bpf_host_runs.specs.declared.answers.BpfRefusal.{BpfRefusal}
 use Rattle.bpf_host_advice.specs.Told.{TellsNewImage, TellsNotes, TellsMatch}
 use Rattle.bpf_host_advice.specs.declared.refusals.Unmade.TheVariants.{Refused}
+use Rattle.bpf_host_advice.specs.declared.asked.BpfFollowing.{BpfFollowing}
+use Rattle.bpf_host_advice.specs.Hardened.{bounds_of}
+
+-- the contexts and runs that C asks for
+abbrev pub bounds_asked : BpfFollowing → Bounds
+bounds_asked asked = bounds_of asked.size asked.padded asked.turns asked.untouched
 
 -- both are images, and the program of the new one keeps the meaning of the other's
 pub record IsFollowed (order : Order) (old new : List ℕ) (bounds : Bounds) : Type 0 where
