@@ -17,7 +17,7 @@ ghost use Rattle.bpf_host_advice.specs.Sizes.{infer_size, explain_size};
 ghost use Rattle.bpf_host_advice.specs.Texts.{refusal_text, answer_text, IsNumbered};
 ghost use Rattle.bpf_host_advice.specs.Proposals.{GivesProposal, WantsRoom, IsNotProposed};
 ghost use Rattle.bpf_host_advice.specs.Hardened.{bounds_of, GivesHardened, WantsHardenedRoom, IsNotHardened};
-ghost use Rattle.bpf_host_advice.specs.Followed.{bounds_asked, IsFollowed, IsNotFollowed};
+ghost use Rattle.bpf_host_advice.specs.Followed.{bounds_followed, IsFollowed, IsNotFollowed};
 ghost use Rattle.bpf_host_runs.specs.declared.answers.TheConstants.{YES, NO, NO_MEMORY, BAD_CALL, TOO_SMALL, TOO_LONG, BAD_LENGTH, BAD_WORDS};
 
 mod certifying;
@@ -288,8 +288,8 @@ pub extern "C" fn bpf_host_follows(
     runs: &BpfFollowing,
     refusal: &mut BpfRefusal,
 ) -> i32
-    ensures yes { result ≡ YES → IsFollowed (order_named order) old.now new.now (bounds_asked runs.now) }
-    ensures no { result ≡ NO → IsNotFollowed (order_named order) old.now new.now notes.now (bounds_asked runs.now) refusal.new }
+    ensures yes { result ≡ YES → IsFollowed (order_named order) old.now new.now (bounds_followed runs.now) }
+    ensures no { result ≡ NO → IsNotFollowed (order_named order) old.now new.now notes.now (bounds_followed runs.now) refusal.new }
     ensures call { (result ≡ BAD_CALL) ↔ ((1 < order) ⊎ ((max_context < runs.now.size) ⊎ ((1 < runs.now.padded) ⊎ (frame_bytes < runs.now.untouched)))) }
     ensures answers { (result ≡ YES) ⊎ (result ≡ NO) ⊎ (result ≡ NO_MEMORY) ⊎ (result ≡ BAD_CALL) }
     ensures refusal_kept { (result ≡ NO) ⊎ (refusal.new ≡ refusal.old) }

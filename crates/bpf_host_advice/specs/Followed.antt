@@ -22,8 +22,8 @@ use Rattle.bpf_host_advice.specs.declared.asked.BpfFollowing.{BpfFollowing}
 use Rattle.bpf_host_advice.specs.Hardened.{bounds_of}
 
 -- the contexts and runs that C asks for
-abbrev pub bounds_asked : BpfFollowing → Bounds
-bounds_asked asked = bounds_of asked.size asked.padded asked.turns asked.untouched
+abbrev pub bounds_followed : BpfFollowing → Bounds
+bounds_followed asked = bounds_of asked.size asked.padded asked.turns asked.untouched
 
 -- both are images, and the program of the new one keeps the meaning of the other's
 pub record IsFollowed (order : Order) (old new : List ℕ) (bounds : Bounds) : Type 0 where

@@ -3,7 +3,7 @@
 ghost use Rattle.std.specs.Prelude.{◌≡◌, ◌↔◌, ◌⊎◌, ◌<◌, IsOk, IfErr};
 ghost use Rattle.bpf_insn.specs.Limits.{max_context, frame_bytes};
 ghost use Rattle.bpf_host_runs.specs.Told.{order_named};
-ghost use Rattle.bpf_host_advice.specs.Followed.{bounds_asked, IsFollowed, IsNotFollowed};
+ghost use Rattle.bpf_host_advice.specs.Followed.{bounds_followed, IsFollowed, IsNotFollowed};
 ghost use Rattle.bpf_host_advice.specs.Told.{IsTold, TellsNewImage, TellsNotes};
 ghost use Rattle.bpf_host_runs.specs.declared.answers.TheConstants.{YES, NO, NO_MEMORY, BAD_CALL};
 
@@ -81,8 +81,8 @@ pub fn follows(
     runs: BpfFollowing,
     refusal: &mut BpfRefusal,
 ) -> i32
-    ensures yes { result ≡ YES → IsFollowed (order_named order) old.now new.now (bounds_asked runs) }
-    ensures no { result ≡ NO → IsNotFollowed (order_named order) old.now new.now notes.now (bounds_asked runs) refusal.new }
+    ensures yes { result ≡ YES → IsFollowed (order_named order) old.now new.now (bounds_followed runs) }
+    ensures no { result ≡ NO → IsNotFollowed (order_named order) old.now new.now notes.now (bounds_followed runs) refusal.new }
     ensures call { (result ≡ BAD_CALL) ↔ ((1 < order) ⊎ ((max_context < runs.size) ⊎ ((1 < runs.padded) ⊎ (frame_bytes < runs.untouched)))) }
     ensures answers { (result ≡ YES) ⊎ (result ≡ NO) ⊎ (result ≡ NO_MEMORY) ⊎ (result ≡ BAD_CALL) }
     ensures refusal_kept { (result ≡ NO) ⊎ (refusal.new ≡ refusal.old) }
