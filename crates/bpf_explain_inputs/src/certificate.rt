@@ -295,6 +295,15 @@ const _: () = prove!(MAX_DEPTH == 8 && MAX_FUNCTIONS == 256 && MAX_TERMS == 4);
 
 const _: () = prove!(MAX_BASE == 1099511627776 && MAX_WEIGHT == 1048576 && FARTHEST == 2147483648);
 
+/// K3: the limits of what stands in a line.
+fn limit_finding(line: &[u8]) -> Finding<'_> {
+    if line.len() > 256 {
+        Finding::told(LONG_LINE)
+    } else {
+        Finding::of(quoted(line), limits_of(kind_of(line)))
+    }
+}
+
 // ---- refusals
 
 /// Why a line is refused.
@@ -303,8 +312,7 @@ fn finding_of<'a>(found: LineAt<'a>, error: CertError) -> Finding<'a> {
     match error {
         CertError::Syntax { .. } => syntax_finding(found),
         CertError::NotCanonical { .. } => Finding::of(quoted(line), spelling_rule(line)),
-        CertError::Limit { .. } if line.len() > 256 => Finding::told(LONG_LINE),
-        CertError::Limit { .. } => Finding::of(quoted(line), limits_of(kind_of(line))),
+        CertError::Limit { .. } => limit_finding(line),
         CertError::Memory | CertError::Read { .. } => Finding::told(error.text()),
     }
 }
