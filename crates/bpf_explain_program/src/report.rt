@@ -303,12 +303,12 @@ impl<'a, 'o, C: Code, W: Tell> Report<'a, 'o, C, W> {
 
     /// Passes over a slot at which no state is known. Those that were passed over for another reason are told.
     fn pass_over(&mut self, slot: u32) {
-        let silence = self.silence;
+        let (silence, known) = (self.silence, self.quiet);
         let mut slots = Range {
             first: slot,
             last: slot,
         };
-        match self.quiet {
+        match known {
             Some(quiet) if quiet.silence == silence => slots.first = quiet.slots.first,
             _ => self.tell_quiet(),
         }
