@@ -242,9 +242,11 @@ impl<'a, 'o, C: Code, W: Tell> Report<'a, 'o, C, W> {
         let slot = sight.site.here.slot;
         let others = self.flaws_at(slot);
         if others.is_empty() {
+            if sight.flaws.is_empty() {
+                return;
+            }
             let is_silent = sight.is_never && sight.flaws.is_only(Condition::FallsOff);
             match self.view {
-                _ if sight.flaws.is_empty() => return,
                 View::List if is_silent => return self.pass_over(slot),
                 View::Listing if is_silent => return,
                 _ => {}

@@ -190,7 +190,7 @@ impl Handings {
     /// The call that hands a register over to a function.
     fn to(&self, first: u32, reg: Reg) -> Option<u32> {
         for handing in self.found.iter() {
-            if handing.first == first && handing.reg as u8 == reg as u8 {
+            if handing.first == first && handing.reg == reg {
                 return Some(handing.slot);
             }
         }
