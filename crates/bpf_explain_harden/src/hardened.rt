@@ -196,7 +196,7 @@ fn tell_why<W: Tell>(out: &mut W, why: Unhardened, lines: &[u8]) {
             write!(out, "; from {text}");
         }
     }
-    write!(out, "\n");
+    out.say("\n");
 }
 
 /// The flaw that the checker would name, where the refusal says so.

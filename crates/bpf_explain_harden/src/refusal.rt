@@ -27,25 +27,32 @@ impl Unhardened {
             Unhardened::Unshown(mismatch) => Some(mismatch.slot()),
         }
     }
+
+    /// The letter and the number of what fails: of the mismatch, or of the checker's condition.
+    fn cause(self) -> Option<(&'static str, u8)> {
+        match self {
+            Unhardened::Unshown(mismatch) => Some(("M", mismatch.number())),
+            Unhardened::Refused(HardenError::Fault { condition, .. }) => {
+                Some(("C", condition.number()))
+            }
+            Unhardened::Refused(_) => None,
+        }
+    }
 }
 
 /// `no hardened program: H13 (M5) at slot 12`
 impl Display for Unhardened {
     fn fmt<W: fmt::Write>(&self, f: &mut fmt::Formatter<W>) -> fmt::Result {
-        f.write_str("no hardened program: ")?;
-        match *self {
-            Unhardened::Unshown(mismatch) => {
-                let (number, slot) = (mismatch.number(), mismatch.slot());
-                write!(f, "H{NOT_SHOWN} (M{number}) at slot {slot}")
-            }
-            Unhardened::Refused(HardenError::Fault { slot, condition }) => {
-                let failed = condition.number();
-                write!(f, "H7 (C{failed}) at slot {slot}")
-            }
-            Unhardened::Refused(error) => {
-                let (number, slot) = (error.number(), error.slot());
-                write!(f, "H{number} at slot {slot}")
-            }
+        let (number, slot) = match *self {
+            Unhardened::Unshown(mismatch) => (NOT_SHOWN, mismatch.slot()),
+            Unhardened::Refused(error) => (error.number(), error.slot()),
+        };
+        match self.cause() {
+            Some((letter, cause)) => write!(
+                f,
+                "no hardened program: H{number} ({letter}{cause}) at slot {slot}"
+            ),
+            None => write!(f, "no hardened program: H{number} at slot {slot}"),
         }
     }
 }
@@ -58,13 +65,14 @@ impl Display for Unshown {
     fn fmt<W: fmt::Write>(&self, f: &mut fmt::Formatter<W>) -> fmt::Result {
         let (number, slot) = (self.0.number(), self.0.slot());
         let text = mismatch_text(u32::from(number)).unwrap_or("its notes fail");
+        let advice = if number == READS_OTHER {
+            "; where it puts pointers in order, compare offsets, not pointers"
+        } else {
+            ""
+        };
         write!(
             f,
-            "at slot {slot}: the hardened program isn't shown to keep the meaning: M{number}: {text}"
-        )?;
-        if number == READS_OTHER {
-            f.write_str("; where it puts pointers in order, compare offsets, not pointers")?;
-        }
-        Ok(())
+            "at slot {slot}: the hardened program isn't shown to keep the meaning: M{number}: {text}{advice}"
+        )
     }
 }

@@ -1,26 +1,14 @@
 //! Why a text is no certificate, in words.
 
-use crate::texts::parted;
+use crate::texts::{Excerpt, parted};
 use bpf_cert::{CertError, LAST_SLOT, MAX_BASE, MAX_DEPTH, MAX_FUNCTIONS, MAX_TERMS, MAX_WEIGHT};
 use bpf_explain_page::{Page, Tell};
 use bpf_insn::{MAX_CONTEXT, MAX_SLOTS};
 use bpf_state::FARTHEST;
-use std::fmt;
 use std::io::{self, Write};
-use std::str::from_utf8;
-
-/// The most labels: one a slot.
-const MAX_LABELS: usize = MAX_SLOTS;
-
-const MAX_STEPS: u32 = u32::MAX;
-
-/// The greatest limit of a counter.
-const MAX_LIMIT: u64 = u64::MAX;
-
-const LONG_LINE: &str = "a line has at most 256 bytes";
 
 /// What a line of a certificate begins with.
-#[derive(Clone, Copy, PartialEq)]
+#[derive(Clone, Copy)]
 enum Kind {
     Header,
     Function,
@@ -31,17 +19,35 @@ enum Kind {
     Other,
 }
 
-/// What a line begins with.
-fn kind_of(line: &[u8]) -> Kind {
-    match parted(line, b' ').0 {
-        b"bpfcert" => Kind::Header,
-        b"fn" => Kind::Function,
-        b"at" => Kind::Label,
-        b"end" => Kind::End,
-        [b'r', b'0'..=b'9', ..] => Kind::Register,
-        [b's', b'0'..=b'9', ..] => Kind::Slot,
+/// The words that lines begin with.
+const WORDS: [(&[u8], Kind); 4] = [
+    (b"bpfcert", Kind::Header),
+    (b"fn", Kind::Function),
+    (b"at", Kind::Label),
+    (b"end", Kind::End),
+];
+
+/// What a line begins with that begins with none of those words.
+fn kind_of_place(word: &[u8]) -> Kind {
+    let [letter, digit, ..] = word else {
+        return Kind::Other;
+    };
+    match (*letter, digit.is_ascii_digit()) {
+        (b'r', true) => Kind::Register,
+        (b's', true) => Kind::Slot,
         _ => Kind::Other,
     }
+}
+
+/// What a line begins with.
+fn kind_of(line: &[u8]) -> Kind {
+    let word = parted(line, b' ').0;
+    for (name, kind) in &WORDS {
+        if word == *name {
+            return *kind;
+        }
+    }
+    kind_of_place(word)
 }
 
 /// The form of a line, and what its fields mean.
@@ -54,49 +60,6 @@ fn form_of(kind: Kind) -> &'static str {
         Kind::Slot => "`s<k> <what>`, as `s1 *`, `s1 b15` or `s2 ctx0..0`",
         Kind::End => "`end`",
         Kind::Other => "`bpfcert`, `fn`, `at`, `r<i>`, `s<k>` or `end`",
-    }
-}
-
-/// The limits of a line's fields.
-#[derive(Clone, Copy)]
-struct Limits(Kind);
-
-impl fmt::Display for Limits {
-    fn fmt<W: fmt::Write>(&self, f: &mut fmt::Formatter<W>) -> fmt::Result {
-        match self.0 {
-            Kind::Header => write!(
-                f,
-                "lengths are 0 to {MAX_CONTEXT}, the least first, and steps 1 to {MAX_STEPS}; a function must follow"
-            ),
-            Kind::Function => write!(
-                f,
-                "first is 0 to {LAST_SLOT}, depth 1 to {MAX_DEPTH}; there are at most {MAX_FUNCTIONS} functions, each with a label"
-            ),
-            Kind::Label => write!(
-                f,
-                "slot is 0 to {LAST_SLOT}, base at most {MAX_BASE}, a weight 1 to {MAX_WEIGHT}, a limit at most {MAX_LIMIT}, a place r0 to r9 or s1 to s64; there are at most {MAX_TERMS} terms and {MAX_LABELS} labels"
-            ),
-            Kind::Register => write!(
-                f,
-                "registers are r0 to r9, offsets -{FARTHEST} to {FARTHEST}"
-            ),
-            Kind::Slot => write!(
-                f,
-                "slots are s1 to s64, masks b1 to b254, offsets -{FARTHEST} to {FARTHEST}"
-            ),
-            Kind::End => f.write_str(
-                "there must be a function, and each function must have a label",
-            ),
-            Kind::Other => f.write_str(LONG_LINE),
-        }
-    }
-}
-
-/// A text of what a line knows of a number, if it has one.
-fn if_number(kind: Kind, text: &'static str) -> &'static str {
-    match kind {
-        Kind::Function | Kind::Register | Kind::Slot => text,
-        Kind::Header | Kind::Label | Kind::End | Kind::Other => "",
     }
 }
 
@@ -117,11 +80,11 @@ fn followers(kind: Kind) -> &'static str {
 /// Whether a line of a kind may follow a line of another one. Registers behind slots are out of order, which is K2.
 fn may_follow(before: Kind, kind: Kind) -> bool {
     match before {
-        Kind::Header => kind == Kind::Function,
-        Kind::Function => kind == Kind::Label,
+        Kind::Header => matches!(kind, Kind::Function),
+        Kind::Function => matches!(kind, Kind::Label),
         Kind::Label | Kind::Register | Kind::Slot => !matches!(kind, Kind::Header | Kind::Other),
         Kind::End => false,
-        Kind::Other => kind == Kind::Header,
+        Kind::Other => matches!(kind, Kind::Header),
     }
 }
 
@@ -156,47 +119,95 @@ fn line_at(bytes: &[u8], number: usize) -> LineAt<'_> {
 }
 
 /// A line as it stands, its first 80 bytes at most.
-#[derive(Clone, Copy)]
-struct Line<'a>(&'a [u8]);
+fn quoted(line: &[u8]) -> Excerpt<'_> {
+    Excerpt::of(line, 80, "a line that is no text")
+}
 
-impl<'a> fmt::Display for Line<'a> {
-    fn fmt<W: fmt::Write>(&self, f: &mut fmt::Formatter<W>) -> fmt::Result {
-        let shown = self.0.get(..self.0.len().min(80)).unwrap_or(&[]);
-        match from_utf8(shown) {
-            Ok(text) => write!(f, "`{text}`"),
-            Err(_) => write!(f, "a line that is no text"),
+/// Why a line is refused: what is at fault, and behind a colon the rule that it breaks, in two parts.
+#[derive(Clone, Copy)]
+struct Finding<'a> {
+    what: Excerpt<'a>,
+    colon: &'static str,
+    rule: &'static str,
+    more: &'static str,
+}
+
+impl<'a> Finding<'a> {
+    /// What is at fault, and the rule.
+    fn of(what: Excerpt<'a>, rule: (&'static str, &'static str)) -> Self {
+        Finding {
+            what,
+            colon: ": ",
+            rule: rule.0,
+            more: rule.1,
+        }
+    }
+
+    /// Words alone.
+    fn told(words: &'static str) -> Self {
+        Finding {
+            what: Excerpt::plain(words),
+            colon: "",
+            rule: "",
+            more: "",
         }
     }
 }
 
-/// K1: what was expected of a line.
-fn tell_syntax<'a, W: Tell>(out: &mut W, found: LineAt<'a>) {
-    let before = kind_of(found.before);
+// ---- K1
+
+/// Whether a line behind one of a kind is the byte that ends a string of C.
+fn is_string_end(before: Kind, line: &[u8]) -> bool {
+    matches!(before, Kind::End) && matches!(line, [0])
+}
+
+/// What is wrong with a line that stands where a line may stand; None where it is the line's kind or its form.
+fn fault_of_line(line: &[u8], is_ended: bool) -> Option<&'static str> {
+    if line.contains(&b'\r') {
+        return Some("a CR stands in it, and lines end with LF alone");
+    }
+    if !is_ended {
+        return Some("no LF ends the line");
+    }
+    None
+}
+
+/// What was expected of a line behind one of a kind.
+fn syntax_rule(found: LineAt<'_>, before: Kind) -> (&'static str, &'static str) {
+    if !found.is_there || matches!(before, Kind::End) {
+        return (followers(before), "");
+    }
+    if let Some(fault) = fault_of_line(found.line, found.is_ended) {
+        return (fault, "");
+    }
     let kind = kind_of(found.line);
-    let (line, follows) = (Line(found.line), followers(before));
-    if !found.is_there {
-        write!(out, "the text ends here without `end`: {follows}\n");
-    } else if before == Kind::End && matches!(found.line, [0]) {
-        write!(
-            out,
-            "a byte 0 behind the last line: a certificate's length doesn't count the one that ends a string of C\n"
-        );
-    } else if before == Kind::End {
-        write!(out, "{line}: {follows}\n");
-    } else if found.line.contains(&b'\r') {
-        write!(
-            out,
-            "{line}: a CR stands in it, and lines end with LF alone\n"
-        );
-    } else if !found.is_ended {
-        write!(out, "{line}: no LF ends the line\n");
-    } else if may_follow(before, kind) {
-        let form = form_of(kind);
-        write!(out, "{line}: a line that begins so has the form {form}\n");
+    if may_follow(before, kind) {
+        ("a line that begins so has the form ", form_of(kind))
     } else {
-        write!(out, "{line}: {follows}\n");
+        (followers(before), "")
     }
 }
+
+/// K1: what was expected of a line.
+fn syntax_finding(found: LineAt<'_>) -> Finding<'_> {
+    let before = kind_of(found.before);
+    if is_string_end(before, found.line) {
+        let rule = "a certificate's length doesn't count the one that ends a string of C";
+        return Finding::of(Excerpt::plain("a byte 0 behind the last line"), (rule, ""));
+    }
+    let what = if found.is_there {
+        quoted(found.line)
+    } else {
+        Excerpt::plain("the text ends here without `end`")
+    };
+    Finding::of(what, syntax_rule(found, before))
+}
+
+// ---- K2
+
+/// What makes the text of a number the one spelling of it.
+const SPELLING: &str =
+    "; the parts of a number come in the order u, s, k, one that says nothing is left out, and 0 has no sign";
 
 /// Whether a number in a line has a needless zero in front.
 fn has_padded_number(line: &[u8]) -> bool {
@@ -213,63 +224,105 @@ fn has_padded_number(line: &[u8]) -> bool {
     false
 }
 
-/// What makes a line the one spelling of what it says.
-fn spelling_rule(kind: Kind) -> &'static str {
+/// What makes a line of a kind the one spelling of what it says.
+fn order_of(kind: Kind) -> (&'static str, &'static str) {
     match kind {
-        Kind::Function => "functions rise by their first slots",
-        Kind::Label => {
-            "a function's labels rise by their slots, and terms by their places, registers first"
-        }
-        Kind::Register | Kind::Slot => {
-            "registers rise and then slots, each once, and one that may hold anything has no line"
-        }
-        Kind::Header | Kind::End | Kind::Other => "each certificate has one spelling",
+        Kind::Function => ("functions rise by their first slots", SPELLING),
+        Kind::Label => (
+            "a function's labels rise by their slots, and terms by their places, registers first",
+            "",
+        ),
+        Kind::Register | Kind::Slot => (
+            "registers rise and then slots, each once, and one that may hold anything has no line",
+            SPELLING,
+        ),
+        Kind::Header | Kind::End | Kind::Other => ("each certificate has one spelling", ""),
     }
 }
 
 /// K2: why a line isn't the one spelling of what it says.
-fn tell_spelling<W: Tell>(out: &mut W, text: &[u8]) {
-    let line = Line(text);
-    if has_padded_number(text) {
-        return write!(out, "{line}: a number has a needless zero in front\n");
+fn spelling_rule(line: &[u8]) -> (&'static str, &'static str) {
+    if has_padded_number(line) {
+        ("a number has a needless zero in front", "")
+    } else {
+        order_of(kind_of(line))
     }
-    let kind = kind_of(text);
-    let rule = spelling_rule(kind);
-    let more = if_number(
-        kind,
-        "; the parts of a number come in the order u, s, k, one that says nothing is left out, and 0 has no sign",
-    );
-    write!(out, "{line}: {rule}{more}\n");
 }
 
-/// K3: the limits of what stands in a line.
-fn tell_limit<W: Tell>(out: &mut W, line: &[u8]) {
-    if line.len() > 256 {
-        return write!(out, "{LONG_LINE}\n");
+// ---- K3
+
+const LONG_LINE: &str = "a line has at most 256 bytes";
+
+/// The limits of a number.
+const BOUNDS: &str =
+    "; u is 0 to 18446744073709551615, s -9223372036854775808 to 9223372036854775807, lo is at most hi, value and mask share no bit";
+
+/// The limits of the fields of a line of a kind.
+fn limits_of(kind: Kind) -> (&'static str, &'static str) {
+    match kind {
+        Kind::Header => (
+            "lengths are 0 to 4096, the least first, and steps 1 to 4294967295; a function must follow",
+            "",
+        ),
+        Kind::Function => (
+            "first is 0 to 65535, depth 1 to 8; there are at most 256 functions, each with a label",
+            BOUNDS,
+        ),
+        Kind::Label => (
+            "slot is 0 to 65535, base at most 1099511627776, a weight 1 to 1048576, a limit at most 18446744073709551615, a place r0 to r9 or s1 to s64; there are at most 4 terms and 65536 labels",
+            "",
+        ),
+        Kind::Register => (
+            "registers are r0 to r9, offsets -2147483648 to 2147483648",
+            BOUNDS,
+        ),
+        Kind::Slot => (
+            "slots are s1 to s64, masks b1 to b254, offsets -2147483648 to 2147483648",
+            BOUNDS,
+        ),
+        Kind::End => (
+            "there must be a function, and each function must have a label",
+            "",
+        ),
+        Kind::Other => (LONG_LINE, ""),
     }
-    let kind = kind_of(line);
-    let (line, limits) = (Line(line), Limits(kind));
-    let more = if_number(
-        kind,
-        "; u is 0 to 18446744073709551615, s -9223372036854775808 to 9223372036854775807, lo is at most hi, value and mask share no bit",
-    );
-    write!(out, "{line}: {limits}{more}\n");
+}
+
+// The numbers in these texts. There are as many labels as slots.
+const _: () = prove!(MAX_CONTEXT == 4096 && LAST_SLOT == 65535 && MAX_SLOTS == 65536);
+
+const _: () = prove!(MAX_DEPTH == 8 && MAX_FUNCTIONS == 256 && MAX_TERMS == 4);
+
+const _: () = prove!(MAX_BASE == 1099511627776 && MAX_WEIGHT == 1048576 && FARTHEST == 2147483648);
+
+/// K3: the limits of what stands in a line.
+fn limit_finding(line: &[u8]) -> Finding<'_> {
+    if line.len() > 256 {
+        Finding::told(LONG_LINE)
+    } else {
+        Finding::of(quoted(line), limits_of(kind_of(line)))
+    }
+}
+
+// ---- refusals
+
+/// Why a line is refused.
+fn finding_of<'a>(found: LineAt<'a>, error: CertError) -> Finding<'a> {
+    let line = found.line;
+    match error {
+        CertError::Syntax { .. } => syntax_finding(found),
+        CertError::NotCanonical { .. } => Finding::of(quoted(line), spelling_rule(line)),
+        CertError::Limit { .. } => limit_finding(line),
+        CertError::Memory | CertError::Read { .. } => Finding::told(error.text()),
+    }
 }
 
 /// Tells a refusal.
 fn tell_error<W: Tell>(out: &mut W, bytes: &[u8], error: CertError) {
     let (number, at) = (error.number(), error.line());
-    write!(out, "K{number} at line {at}: ");
-    let found = line_at(bytes, at);
-    match error {
-        CertError::Syntax { .. } => tell_syntax(out, found),
-        CertError::NotCanonical { .. } => tell_spelling(out, found.line),
-        CertError::Limit { .. } => tell_limit(out, found.line),
-        CertError::Memory | CertError::Read { .. } => {
-            let text = error.text();
-            write!(out, "{text}\n");
-        }
-    }
+    let found = finding_of(line_at(bytes, at), error);
+    let (what, colon, rule, more) = (found.what, found.colon, found.rule, found.more);
+    write!(out, "K{number} at line {at}: {what}{colon}{rule}{more}\n");
 }
 
 /// Tells in words why bytes are refused as a certificate: the line, and what was expected of it. A fault of the writer, or a

@@ -10,21 +10,32 @@ use bpf_insn::{
 use std::io::{self, Write};
 use std::str::from_utf8;
 
+/// How many fields there are that may be unused.
+const UNUSED: usize = 5;
+
+/// The name of a field by a number below 5, if it is one of some.
+fn name_among(fields: FieldSet, number: usize) -> Option<&'static str> {
+    match number {
+        0 if fields.dst => Some("dst"),
+        1 if fields.src => Some("src"),
+        2 if fields.offset => Some("offset"),
+        3 if fields.imm => Some("imm"),
+        4 if fields.reserved => Some("the reserved bits"),
+        _ => None,
+    }
+}
+
 /// E4: the fields that must be zero.
 fn tell_unused<W: Tell>(out: &mut W, fields: FieldSet) {
-    let named = [
-        ("dst", fields.dst),
-        ("src", fields.src),
-        ("offset", fields.offset),
-        ("imm", fields.imm),
-        ("the reserved bits", fields.reserved),
-    ];
     let (mut comma, mut used) = ("", "it");
-    for (name, is_wrong) in named {
-        if is_wrong {
+    for number in 0..UNUSED {
+        if let Some(name) = name_among(fields, number) {
             write!(out, "{comma}{name}");
-            let is_one = comma.is_empty() && !fields.reserved;
-            used = if is_one { "it" } else { "them" };
+            used = if comma.is_empty() && !fields.reserved {
+                "it"
+            } else {
+                "them"
+            };
             comma = " and ";
         }
     }
@@ -33,12 +44,12 @@ fn tell_unused<W: Tell>(out: &mut W, fields: FieldSet) {
 
 /// E3: the register that is none.
 fn tell_register<W: Tell>(out: &mut W, fields: Fields) {
-    if fields.dst > 10 {
-        let dst = fields.dst;
-        return write!(out, "dst is {dst}: registers are 0 to 10\n");
-    }
-    let src = fields.src;
-    write!(out, "src is {src}: registers are 0 to 10\n");
+    let (name, number) = if fields.dst > 10 {
+        ("dst", fields.dst)
+    } else {
+        ("src", fields.src)
+    };
+    write!(out, "{name} is {number}: registers are 0 to 10\n");
 }
 
 /// What the field of an opcode selects that selects something.
@@ -53,40 +64,50 @@ fn choice_of(opcode: u8) -> Option<Choice> {
 }
 
 /// E5: the values of a field that selects the operation.
-fn choices_of(choice: Choice) -> &'static str {
+fn choices_of(choice: Option<Choice>) -> &'static str {
     match choice {
-        Choice::Signedness => "offset must be 0, without sign, or 1, with sign",
-        Choice::MoveBits32 => "offset must be 0, or 8 or 16 for a move with sign",
-        Choice::MoveBits64 => "offset must be 0, or 8, 16 or 32 for a move with sign",
-        Choice::SwapBits => "imm must be 16, 32 or 64, the bits that are swapped",
-        Choice::AtomicCode => {
-            "imm must be 0x00, 0x40, 0x50 or 0xa0, each also with 1 more for a fetch, 0xe1 or 0xf1"
+        Some(Choice::Signedness) => "offset must be 0, without sign, or 1, with sign\n",
+        Some(Choice::MoveBits32) => "offset must be 0, or 8 or 16 for a move with sign\n",
+        Some(Choice::MoveBits64) => "offset must be 0, or 8, 16 or 32 for a move with sign\n",
+        Some(Choice::SwapBits) => "imm must be 16, 32 or 64, the bits that are swapped\n",
+        Some(Choice::AtomicCode) => {
+            "imm must be 0x00, 0x40, 0x50 or 0xa0, each also with 1 more for a fetch, 0xe1 or 0xf1\n"
         }
-        Choice::Callee => "src must be 1, for a call of a function of the program",
+        Some(Choice::Callee) => "src must be 1, for a call of a function of the program\n",
+        None => "no field selects the operation\n",
+    }
+}
+
+/// What stands in front of a number and behind it in what is told of an instruction that is left out.
+fn left_out_words(what: LeftOut) -> (&'static str, &'static str) {
+    match what {
+        LeftOut::Constant => (
+            "a 64-bit constant with src ",
+            " names a map or a variable: this profile has none",
+        ),
+        LeftOut::Helper => (
+            "a call with src 0 calls helper ",
+            ": this profile has no helpers",
+        ),
+        LeftOut::KernelFunction => (
+            "a call with src ",
+            " calls a function of the kernel: this profile has none",
+        ),
+        LeftOut::Packet => ("packet access", ""),
     }
 }
 
 /// E7: what the instruction would be.
 fn tell_left_out<W: Tell>(out: &mut W, fields: Fields, what: LeftOut) {
-    let (src, imm) = (fields.src, fields.imm);
-    match what {
-        LeftOut::Constant => write!(
-            out,
-            "a 64-bit constant with src {src} names a map or a variable: this profile has none\n"
-        ),
-        LeftOut::Helper => write!(
-            out,
-            "a call with src 0 calls helper {imm}: this profile has no helpers\n"
-        ),
-        LeftOut::KernelFunction => write!(
-            out,
-            "a call with src {src} calls a function of the kernel: this profile has none\n"
-        ),
-        LeftOut::Packet => write!(
-            out,
-            "packet access is left out of this profile: read the context by r1\n"
-        ),
+    if let LeftOut::Packet = what {
+        return out.say("packet access is left out of this profile: read the context by r1\n");
     }
+    let number = match what {
+        LeftOut::Helper => fields.imm,
+        _ => i32::from(fields.src),
+    };
+    let (front, behind) = left_out_words(what);
+    write!(out, "{front}{number}{behind}\n");
 }
 
 /// What is wrong with a slot.
@@ -96,25 +117,25 @@ fn tell_fault<W: Tell>(out: &mut W, fields: Fields, fault: SlotFault) {
         SlotFault::Opcode => write!(out, "no instruction has the opcode {opcode:02x}\n"),
         SlotFault::Register => tell_register(out, fields),
         SlotFault::Unused { fields: wrong } => tell_unused(out, wrong),
-        SlotFault::Selector => {
-            let text = choice_of(opcode).map_or("no field selects the operation", choices_of);
-            write!(out, "{text}\n");
+        SlotFault::Selector => out.say(choices_of(choice_of(opcode))),
+        SlotFault::Truncated => {
+            out.say("the second slot of the 64-bit constant is missing: the image ends here\n");
         }
-        SlotFault::Truncated => write!(
-            out,
-            "the second slot of the 64-bit constant is missing: the image ends here\n"
-        ),
         SlotFault::LeftOut { what } => tell_left_out(out, fields, what),
     }
 }
 
-/// The bytes of a slot, and its fields.
-fn tell_bytes<W: Tell>(out: &mut W, bytes: &[u8], fields: Fields) {
-    write!(out, "  bytes");
+/// The bytes of a slot.
+fn tell_bytes<W: Tell>(out: &mut W, bytes: &[u8]) {
+    out.say("  bytes");
     for value in bytes.iter().take(8) {
         let value = *value;
         write!(out, " {value:02x}");
     }
+}
+
+/// The fields of a slot.
+fn tell_fields<W: Tell>(out: &mut W, fields: Fields) {
     let (opcode, dst, src) = (fields.opcode, fields.dst, fields.src);
     let (offset, imm) = (fields.offset, fields.imm);
     write!(
@@ -137,55 +158,63 @@ fn is_text(bytes: &[u8]) -> bool {
 
 /// What bytes are that begin as an ELF object or a certificate does, or are a text.
 fn likeness_of(bytes: &[u8]) -> Option<&'static str> {
-    let text = if bytes.starts_with(b"\x7fELF") {
-        "an ELF object and no image: take its code, as by llvm-objcopy -O binary -j .text IN OUT"
-    } else if bytes.starts_with(b"bpfcert ") {
-        "a certificate and no image: the image comes first, and behind it its certificate"
-    } else if is_text(bytes) {
-        "a text and no image: assemble it, as by bpf asm IN OUT"
-    } else {
-        return None;
-    };
-    Some(text)
+    if bytes.starts_with(b"\x7fELF") {
+        return Some(
+            "these bytes are an ELF object and no image: take its code, as by llvm-objcopy -O binary -j .text IN OUT\n",
+        );
+    }
+    if bytes.starts_with(b"bpfcert ") {
+        return Some(
+            "these bytes are a certificate and no image: the image comes first, and behind it its certificate\n",
+        );
+    }
+    if is_text(bytes) {
+        return Some("these bytes are a text and no image: assemble it, as by bpf asm IN OUT\n");
+    }
+    None
+}
+
+/// Whether bytes are an image in the other byte order, and what is told then.
+fn other_order(order: Order, bytes: &[u8]) -> (bool, &'static str) {
+    match order {
+        Order::Little => (
+            ProgramView::of(bytes, Order::Big).is_ok(),
+            "in big-endian order these bytes are an image: try --big\n",
+        ),
+        Order::Big => (
+            ProgramView::of(bytes, Order::Little).is_ok(),
+            "in little-endian order these bytes are an image: leave --big out\n",
+        ),
+    }
 }
 
 /// Tells what bytes are that are no image in a byte order, where they look like something else.
 fn tell_likeness<W: Tell>(out: &mut W, order: Order, bytes: &[u8]) {
     if let Some(likeness) = likeness_of(bytes) {
-        write!(out, "these bytes are {likeness}\n");
+        out.say(likeness);
     }
-    let (other, name, remedy) = match order {
-        Order::Little => (Order::Big, "big", "try --big"),
-        Order::Big => (Order::Little, "little", "leave --big out"),
-    };
-    if ProgramView::of(bytes, other).is_ok() {
-        write!(
-            out,
-            "in {name}-endian order these bytes are an image: {remedy}\n"
-        );
+    let (is_image, words) = other_order(order, bytes);
+    if is_image {
+        out.say(words);
     }
 }
 
+// The greatest size, as the words for E1 tell it.
+const _: () = prove!(MAX_IMAGE == 524288 && MAX_SLOTS == 65536);
+
 /// E1: what is wrong with the number of bytes.
 fn tell_length<W: Tell>(out: &mut W, length: usize) {
-    write!(out, "E1: ");
     if length == 0 {
-        write!(
-            out,
-            "there are no bytes: an image has at least one slot of 8 bytes\n"
-        );
-    } else if length > MAX_IMAGE {
-        // Who reads a longer image may have stopped behind so many bytes.
-        write!(
-            out,
-            "more than {MAX_IMAGE} bytes: an image has at most {MAX_SLOTS} slots of 8 bytes\n"
-        );
-    } else {
-        write!(
-            out,
-            "{length} bytes are no multiple of 8, the size of a slot\n"
-        );
+        return out.say("E1: there are no bytes: an image has at least one slot of 8 bytes\n");
     }
+    if length > MAX_IMAGE {
+        // Who reads a longer image may have stopped behind so many bytes.
+        return out.say("E1: more than 524288 bytes: an image has at most 65536 slots of 8 bytes\n");
+    }
+    write!(
+        out,
+        "E1: {length} bytes are no multiple of 8, the size of a slot\n"
+    );
 }
 
 /// What stands from a slot on, where a whole one does.
@@ -208,7 +237,8 @@ fn tell_slot<W: Tell>(out: &mut W, order: Order, bytes: &[u8], slot: u32, fault:
     write!(out, "E{number} at slot {slot}: ");
     let fields = fields_from(order, rest);
     tell_fault(out, fields, fault);
-    tell_bytes(out, rest, fields);
+    tell_bytes(out, rest);
+    tell_fields(out, fields);
 }
 
 /// What leads from a slot: `jumps to`, and the slot there.
@@ -219,27 +249,39 @@ fn lead_of(insn: Insn, slot: u32) -> Option<(&'static str, i64)> {
     Some((verb, i64::from(slot).saturating_add(1).saturating_add(by)))
 }
 
+/// What leads from a slot of an image.
+fn lead_at(order: Order, bytes: &[u8], slot: u32) -> Option<(&'static str, i64)> {
+    let insn = insn_from(order, from_slot(bytes, slot)?)?;
+    lead_of(insn, slot)
+}
+
+/// The last of so many slots, if a jump leads to none of them.
+fn last_before(slots: usize, to: i64) -> Option<usize> {
+    match usize::try_from(to) {
+        Ok(to) if to < slots => None,
+        _ => Some(slots.saturating_sub(1)),
+    }
+}
+
 /// Where a jump leads that leads to no instruction.
-fn tell_lead<W: Tell>(out: &mut W, slots: usize, slot: u32, verb: &str, to: i64) {
-    write!(out, "E8 at slot {slot}: {verb} slot {to}, ");
-    if to < 0 || to >= i64::try_from(slots).unwrap_or(0) {
-        let last = slots.saturating_sub(1);
-        write!(out, "outside of the program's slots, 0 to {last}\n");
-    } else {
-        write!(out, "which is the second slot of a 64-bit constant\n");
+fn tell_lead<W: Tell>(out: &mut W, slots: usize, to: i64) {
+    match last_before(slots, to) {
+        Some(last) => write!(out, "outside of the program's slots, 0 to {last}\n"),
+        None => out.say("which is the second slot of a 64-bit constant\n"),
     }
 }
 
 /// A jump or call that leads to no instruction.
 fn tell_target<W: Tell>(out: &mut W, order: Order, bytes: &[u8], slot: u32) {
-    let Some(rest) = from_slot(bytes, slot) else {
+    let Some((verb, to)) = lead_at(order, bytes, slot) else {
         return write!(out, "E8 at slot {slot}\n");
     };
-    let Some((verb, to)) = insn_from(order, rest).and_then(|insn| lead_of(insn, slot)) else {
-        return write!(out, "E8 at slot {slot}\n");
-    };
-    tell_lead(out, bytes.len() / 8, slot, verb, to);
-    tell_bytes(out, rest, fields_from(order, rest));
+    write!(out, "E8 at slot {slot}: {verb} slot {to}, ");
+    tell_lead(out, bytes.len() / 8, to);
+    if let Some(rest) = from_slot(bytes, slot) {
+        tell_bytes(out, rest);
+        tell_fields(out, fields_from(order, rest));
+    }
 }
 
 /// Tells a refusal.

@@ -1,6 +1,6 @@
 //! Why a text is no program, in words.
 
-use crate::texts::parted;
+use crate::texts::{Excerpt, parted};
 use bpf_explain_page::{Count, Page, Tell};
 use bpf_insn::{BuildError, Code};
 use bpf_text::{
@@ -9,9 +9,7 @@ use bpf_text::{
 };
 use std::alloc::{AllocError, Global};
 use std::collections::BTreeMap;
-use std::fmt;
 use std::io::{self, Write};
-use std::str::from_utf8;
 
 /// A line without its comment.
 fn code_of(line: &[u8]) -> &[u8] {
@@ -21,17 +19,8 @@ fn code_of(line: &[u8]) -> &[u8] {
 // ---- words
 
 /// A word as it stands, its first 40 bytes at most.
-#[derive(Clone, Copy)]
-struct Word<'a>(&'a [u8]);
-
-impl<'a> fmt::Display for Word<'a> {
-    fn fmt<W: fmt::Write>(&self, f: &mut fmt::Formatter<W>) -> fmt::Result {
-        let shown = self.0.get(..self.0.len().min(40)).unwrap_or(&[]);
-        match from_utf8(shown) {
-            Ok(text) => write!(f, "`{text}`"),
-            Err(_) => write!(f, "a byte that is no ASCII"),
-        }
-    }
+fn quoted(word: &[u8]) -> Excerpt<'_> {
+    Excerpt::of(word, 40, "a byte that is no ASCII")
 }
 
 /// The word or mark in front of a text; empty where there is none.
@@ -77,6 +66,21 @@ fn without_blanks(line: &[u8]) -> &[u8] {
 
 // ---- A1
 
+/// What is at fault in a line from a column on, and why, in two parts.
+#[derive(Clone, Copy)]
+struct Finding<'a> {
+    column: usize,
+    what: Excerpt<'a>,
+    rule: &'static str,
+    more: &'static str,
+}
+
+/// Tells what is at fault in a line.
+fn tell_finding<W: Tell>(out: &mut W, found: Finding<'_>) {
+    let (column, what, rule, more) = (found.column, found.what, found.rule, found.more);
+    write!(out, ", column {column}: {what}{rule}{more}\n");
+}
+
 /// Whether a comment of another language stands here.
 fn is_comment(rest: &[u8]) -> bool {
     rest.starts_with(b"//") || rest.starts_with(b"#")
@@ -94,7 +98,12 @@ fn no_label<'a>(stop: &Stop<'a>) -> Option<&'a [u8]> {
 
 /// Whether the name of a label begins one of some endings.
 fn has_name(endings: &[(Item, &'static str)]) -> bool {
-    endings.iter().any(|(item, _)| matches!(*item, Item::Name))
+    for (item, _) in endings {
+        if let Item::Name = *item {
+            return true;
+        }
+    }
+    false
 }
 
 /// Whether an ending is told beside the one in front of it: of those that begin with one item the first is; where a name may
@@ -108,61 +117,88 @@ fn is_told(item: Item, before: Item, is_name: bool) -> bool {
     }
 }
 
-/// How a line may go on from where it stops.
-fn tell_endings<'a, W: Tell>(alloc: Global, out: &mut W, stop: &Stop<'a>) {
-    let Ok(endings) = endings_of(alloc, stop.fault, &stop.front) else {
-        return;
-    };
-    let is_name = has_name(&endings);
+/// What is told behind the endings that aren't the line's end.
+fn last_words(endings: &[(Item, &'static str)]) -> &'static str {
+    match endings.first() {
+        Some((Item::End, _)) if endings.len() == 1 => "the line must end here\n",
+        Some((Item::End, _)) => ", or end here\n",
+        _ => "\n",
+    }
+}
+
+/// How a line may go on: the endings that are told.
+fn tell_each<W: Tell>(out: &mut W, endings: &[(Item, &'static str)]) {
+    let is_name = has_name(endings);
     let mut comma = "the line may go on so: ";
     let mut before = Item::End;
-    for (item, ending) in &endings {
+    for (item, ending) in endings {
         if is_told(*item, before, is_name) {
             write!(out, "{comma}{ending}");
             comma = ", ";
         }
         before = *item;
     }
-    match endings.first() {
-        Some((Item::End, _)) if endings.len() == 1 => write!(out, "the line must end here\n"),
-        Some((Item::End, _)) => write!(out, ", or end here\n"),
-        _ => write!(out, "\n"),
+    out.say(last_words(endings));
+}
+
+/// How a line may go on from where it stops.
+fn tell_endings<'a, W: Tell>(alloc: Global, out: &mut W, stop: &Stop<'a>) {
+    if let Ok(endings) = endings_of(alloc, stop.fault, &stop.front) {
+        tell_each(out, &endings);
     }
 }
 
 /// Where a line leaves all forms.
-fn tell_place<'a, W: Tell>(alloc: Global, out: &mut W, line: &[u8], stop: &Stop<'a>) {
-    let column = column_of(line, stop.rest);
-    let word = Word(token_of(stop.rest));
-    if stop.rest.is_empty() {
-        write!(out, ", column {column}: the line ends here\n");
+fn place_finding<'s>(line: &[u8], rest: &'s [u8]) -> Finding<'s> {
+    let (what, rule) = if rest.is_empty() {
+        (Excerpt::plain("the line ends here"), "")
     } else {
-        write!(out, ", column {column}: {word} can't stand here\n");
+        (quoted(token_of(rest)), " can't stand here")
+    };
+    Finding {
+        column: column_of(line, rest),
+        what,
+        rule,
+        more: "",
     }
+}
+
+/// Where a line leaves all forms, and how it may go on.
+fn tell_place<'a, W: Tell>(alloc: Global, out: &mut W, line: &[u8], stop: &Stop<'a>) {
+    tell_finding(out, place_finding(line, stop.rest));
     if is_comment(stop.rest) {
-        return write!(out, "a comment begins with `;`\n");
+        out.say("a comment begins with `;`\n");
+    } else {
+        tell_endings(alloc, out, stop);
     }
-    tell_endings(alloc, out, stop);
 }
 
 /// What should be a label.
-fn tell_no_label<W: Tell>(out: &mut W, column: usize, text: &[u8]) {
-    let word = Word(text);
-    write!(
-        out,
-        ", column {column}: {word} is no label: a name has 1 to 64 letters, digits and `_`, and begins with no digit\n"
-    );
+fn label_finding(column: usize, name: &[u8]) -> Finding<'_> {
+    Finding {
+        column,
+        what: quoted(name),
+        rule: " is no label: a name has 1 to 64 letters, digits and `_`, and begins with no digit",
+        more: "",
+    }
 }
 
 // ---- A2
 
+/// The words in front of distances.
+const LEADING: [&[u8]; 3] = [b"goto", b"gotol", b"call"];
+
 /// Whether a number behind a front is the distance of a jump or a call: behind their word, and a sign.
 fn is_distance(front: &[u8]) -> bool {
-    let word = match last_parted(front) {
-        (rest, b"+" | b"-") => last_token(rest),
-        (_, token) => token,
-    };
-    matches!(word, b"goto" | b"gotol" | b"call")
+    let (rest, token) = last_parted(front);
+    let is_signed = matches!(token, [b'+' | b'-']);
+    let word = if is_signed { last_token(rest) } else { token };
+    for leading in &LEADING {
+        if word == *leading {
+            return true;
+        }
+    }
+    false
 }
 
 /// What a number behind a front is, and its range.
@@ -180,64 +216,83 @@ fn range_text(front: &[u8], range: Range) -> &'static str {
 const CONSTANT_RANGE: &str =
     "a constant is -2147483648 to 2147483647, with `ll` behind it 0 to 18446744073709551615";
 
+const OUT_OF_RANGE: &str = " is out of its range: ";
+
+/// A number behind a front, with its sign.
+fn signed<'s>(front: &[u8], number: &'s [u8]) -> Excerpt<'s> {
+    let word = quoted(number);
+    let open = if matches!(last_token(front), [b'-']) {
+        "minus `"
+    } else {
+        "`"
+    };
+    Excerpt { open, ..word }
+}
+
 /// A number behind a front that is out of its range.
-fn tell_excess<'a, W: Tell>(
+fn excess_finding<'s>(
     alloc: Global,
-    out: &mut W,
-    line: &[u8],
-    stop: &Stop<'a>,
-    number: &[u8],
-) {
-    let column = column_of(line, stop.rest);
-    let is_negative = last_token(&stop.front) == b"-".as_slice();
-    let sign = if is_negative { "minus " } else { "" };
-    let number = Word(number);
-    write!(out, ", column {column}: {sign}{number} is out of its range");
-    match range_behind(alloc, &stop.front) {
-        Ok(range) => {
-            let text = range_text(&stop.front, range);
-            write!(out, ": {text}\n");
-        }
-        Err(_) => write!(out, "\n"),
+    column: usize,
+    front: &[u8],
+    number: &'s [u8],
+) -> Finding<'s> {
+    let (rule, more) = match range_behind(alloc, front) {
+        Ok(range) => (OUT_OF_RANGE, range_text(front, range)),
+        Err(_) => (" is out of its range", ""),
+    };
+    Finding {
+        column,
+        what: signed(front, number),
+        rule,
+        more,
+    }
+}
+
+/// A number that is out of the range of constants.
+fn constant_finding(column: usize, what: Excerpt<'_>) -> Finding<'_> {
+    Finding {
+        column,
+        what,
+        rule: OUT_OF_RANGE,
+        more: CONSTANT_RANGE,
     }
 }
 
 /// Which number is out of its range: the next one; or the last one, for the lack of an `ll` or for the one that stands there.
-fn tell_number<'a, W: Tell>(alloc: Global, out: &mut W, line: &[u8], stop: &Stop<'a>) {
+fn number_finding<'s>(alloc: Global, line: &'s [u8], stop: &'s Stop<'_>) -> Finding<'s> {
     let token = token_of(stop.rest);
-    let range = CONSTANT_RANGE;
+    let column = column_of(line, stop.rest);
     if token.is_empty() {
         let number = last_token(&stop.front);
         let column = column_of(without_blanks(line), number);
-        let number = Word(number);
-        write!(
-            out,
-            ", column {column}: {number} is out of its range: {range}\n"
-        );
-    } else if token == b"ll".as_slice() {
-        let column = column_of(line, stop.rest);
-        write!(
-            out,
-            ", column {column}: the number before `ll` is out of its range: {range}\n"
-        );
-    } else {
-        tell_excess(alloc, out, line, stop, token);
+        return constant_finding(column, quoted(number));
     }
+    if let b"ll" = token {
+        return constant_finding(column, Excerpt::plain("the number before `ll`"));
+    }
+    excess_finding(alloc, column, &stop.front, token)
 }
 
 /// A1: where a line leaves all forms, or what in it is no label. A2: which number is out of its range.
+fn tell_stop<'a, W: Tell>(alloc: Global, out: &mut W, line: &[u8], stop: &Stop<'a>) {
+    match (stop.fault, no_label(stop)) {
+        (LineFault::OutOfRange, _) => tell_finding(out, number_finding(alloc, line, stop)),
+        (LineFault::NoForm, Some(name)) => {
+            tell_finding(out, label_finding(column_of(line, stop.rest), name));
+        }
+        (LineFault::NoForm, None) => tell_place(alloc, out, line, stop),
+    }
+}
+
+/// Why a line is refused by itself.
 fn tell_line<W: Tell>(alloc: Global, out: &mut W, text: &[u8], number: usize) {
     let line = code_at(text, number);
-    let Ok(Some(stop)) = line_stop(alloc, line) else {
-        let memory = TextError::Memory;
-        return write!(out, ": {memory}\n");
-    };
-    match (stop.fault, no_label(&stop)) {
-        (LineFault::OutOfRange, _) => tell_number(alloc, out, line, &stop),
-        (LineFault::NoForm, Some(front)) => {
-            tell_no_label(out, column_of(line, stop.rest), front);
+    match line_stop(alloc, line) {
+        Ok(Some(stop)) => tell_stop(alloc, out, line, &stop),
+        _ => {
+            let memory = TextError::Memory;
+            write!(out, ": {memory}\n");
         }
-        (LineFault::NoForm, None) => tell_place(alloc, out, line, &stop),
     }
 }
 
@@ -304,17 +359,17 @@ fn second_label(
 fn tell_second<W: Tell>(alloc: Global, out: &mut W, text: &[u8], number: usize) {
     match second_label(alloc, text, number) {
         Ok(Some((name, above))) => {
-            let word = Word(name);
+            let word = quoted(name);
             write!(out, ": the label {word} is defined at line {above}, too\n");
         }
-        Ok(None) => write!(out, ": a label is defined twice in the line\n"),
-        Err(_) => write!(out, ": a label is defined again\n"),
+        Ok(None) => out.say(": a label is defined twice in the line\n"),
+        Err(_) => out.say(": a label is defined again\n"),
     }
 }
 
 /// A4 and A5: what is wrong with the label that a jump names.
 fn tell_target<W: Tell>(out: &mut W, text: &[u8], number: usize, words: &str) {
-    let word = Word(target_name(code_at(text, number)).unwrap_or(&[]));
+    let word = quoted(target_name(code_at(text, number)).unwrap_or(&[]));
     write!(out, ": the label {word} {words}\n");
 }
 
@@ -323,13 +378,11 @@ fn tell_program<W: Tell>(out: &mut W, error: BuildError) {
     let cause = error.number();
     write!(out, " (E{cause}): ");
     match error {
-        BuildError::Length => write!(
-            out,
-            "a program has 1 to 65536 slots, 2 for each 64-bit constant\n"
-        ),
-        BuildError::Target { .. } => write!(
-            out,
-            "the jump or call leads to no instruction: in front of the program, behind it, or into a 64-bit constant\n"
+        BuildError::Length => {
+            out.say("a program has 1 to 65536 slots, 2 for each 64-bit constant\n");
+        }
+        BuildError::Target { .. } => out.say(
+            "the jump or call leads to no instruction: in front of the program, behind it, or into a 64-bit constant\n",
         ),
         BuildError::NoEncoding { .. } | BuildError::Memory => write!(out, "{error}\n"),
     }
@@ -338,7 +391,7 @@ fn tell_program<W: Tell>(out: &mut W, error: BuildError) {
 /// Tells a refusal.
 fn tell_error<W: Tell>(alloc: Global, out: &mut W, text: &[u8], error: TextError) {
     let (number, line) = (error.number(), error.line());
-    if error == TextError::Memory {
+    if let TextError::Memory = error {
         return write!(out, "A{number}: {error}\n");
     }
     write!(out, "A{number} at line {line}");

@@ -9,10 +9,7 @@ pub struct Count(pub u32, pub &'static str);
 impl fmt::Display for Count {
     fn fmt<W: fmt::Write>(&self, f: &mut fmt::Formatter<W>) -> fmt::Result {
         let (number, thing) = (self.0, self.1);
-        if number == 1 {
-            write!(f, "1 {thing}")
-        } else {
-            write!(f, "{number} {thing}s")
-        }
+        let ending = if number == 1 { "" } else { "s" };
+        write!(f, "{number} {thing}{ending}")
     }
 }

@@ -38,6 +38,11 @@ pub trait Tell {
     /// Tells a text: what `write!` calls. Control characters in it, but for tabs and ends of lines, are told by their bytes.
     fn write_fmt<D: Display + Drop>(&mut self, text: D);
 
+    /// Tells words that are at hand, as `write!` does.
+    fn say(&mut self, words: &str) {
+        self.write_fmt(words);
+    }
+
     /// What follows stands between quotes in DOT, or no longer does.
     fn set_quoted(&mut self, is_quoted: bool);
 

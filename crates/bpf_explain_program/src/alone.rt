@@ -7,18 +7,22 @@ use bpf_insn::{Code, Insn, MAX_SLOTS};
 use std::io::{self, Write};
 
 /// What a lost relocation leaves most often: a call to itself, or a 64-bit constant that is 0.
-fn tell_suspect<W: Tell>(out: &mut W, slot: u32, insn: &Insn) {
-    if let Insn::CallLocal { off: -1 } = *insn {
-        write!(
-            out,
-            "slot {slot} calls itself: mostly a call of another object's function that was never linked\n"
-        );
+fn suspicion_of(insn: &Insn) -> Option<&'static str> {
+    match *insn {
+        Insn::CallLocal { off: -1 } => Some(
+            "calls itself: mostly a call of another object's function that was never linked",
+        ),
+        Insn::LoadImm64 { value: 0, .. } => {
+            Some("loads a 64-bit 0: mostly an address that a lost relocation left out")
+        }
+        _ => None,
     }
-    if let Insn::LoadImm64 { value: 0, .. } = *insn {
-        write!(
-            out,
-            "slot {slot} loads a 64-bit 0: mostly an address that a lost relocation left out\n"
-        );
+}
+
+/// Tells what is suspicious in an instruction.
+fn tell_suspect<W: Tell>(out: &mut W, slot: u32, insn: &Insn) {
+    if let Some(suspicion) = suspicion_of(insn) {
+        write!(out, "slot {slot} {suspicion}\n");
     }
 }
 

@@ -6,7 +6,7 @@ use bpf_state::Condition;
 pub const CONDITIONS: u32 = 13;
 
 /// The conditions that fail, each a bit at its number.
-#[derive(Clone, Copy, PartialEq)]
+#[derive(Clone, Copy)]
 pub struct Flaws {
     held: u16,
 }
@@ -36,6 +36,11 @@ impl Flaws {
     /// Whether a condition fails.
     pub fn has(self, condition: Condition) -> bool {
         self.held & Flaws::of(condition).held != 0
+    }
+
+    /// Whether a condition fails, and no other.
+    pub fn is_only(self, condition: Condition) -> bool {
+        self.held == Flaws::of(condition).held
     }
 
     /// Whether no condition fails.

@@ -38,16 +38,16 @@ pub struct Scene<'a, 'b> {
 
 /// The first lines: how nodes and edges look.
 fn write_style<W: Tell>(out: &mut W) {
-    write!(out, "digraph program {{\n");
-    write!(out, "  node [shape=box, fontname=\"monospace\"];\n");
-    write!(out, "  edge [fontname=\"monospace\"];\n");
+    out.say(
+        "digraph program {\n  node [shape=box, fontname=\"monospace\"];\n  edge [fontname=\"monospace\"];\n",
+    );
 }
 
 /// What the certificate promises, and the checker's answer.
 fn write_answer<W: Tell>(out: &mut W, certificate: &Index, refusal: Option<Refusal>) {
     write_header(out, certificate);
     match refusal {
-        None => write!(out, "accepted\n"),
+        None => out.say("accepted\n"),
         Some(refusal) => {
             let (number, slot) = (refusal.number(), refusal.slot());
             write!(out, "refused: C{number} at slot {slot}\n");
@@ -79,24 +79,21 @@ fn scene_of<'a, 'b, C: Code>(
 
 /// The graph's title begins.
 fn begin_title<W: Tell>(out: &mut W) {
-    write!(
-        out,
-        "  graph [fontname=\"monospace\", labelloc=t, labeljust=l, label=\""
-    );
+    out.say("  graph [fontname=\"monospace\", labelloc=t, labeljust=l, label=\"");
     out.set_quoted(true);
 }
 
 /// The graph's title ends.
 fn end_title<W: Tell>(out: &mut W) {
     out.set_quoted(false);
-    write!(out, "\"];\n");
+    out.say("\"];\n");
 }
 
 /// The blocks and the edges, and the graph's end.
 fn write_scene<'a, 'b, C: Code, W: Tell>(out: &mut W, program: &C, scene: &Scene<'a, 'b>) {
     write_blocks(out, program, scene);
     write_edges(out, program, scene);
-    write!(out, "}}\n");
+    out.say("}\n");
 }
 
 /// Writes the control-flow graph of a program with a certificate as DOT text on a page, with the checker's answer, which is given.
@@ -135,7 +132,10 @@ pub fn tell_sketched_dot<C: Code, W: Tell, D: Display + Drop>(
     write!(page, "{title}\n");
     end_title(page);
     let flaw = certificate.and(flaw);
-    let index = certificate.map(Index::of);
+    let index = match certificate {
+        Some(certificate) => Some(Index::of(certificate)),
+        None => None,
+    };
     write_scene(
         page,
         program,

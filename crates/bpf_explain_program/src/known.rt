@@ -14,13 +14,11 @@ pub struct Name(pub Place);
 
 impl fmt::Display for Name {
     fn fmt<W: fmt::Write>(&self, f: &mut fmt::Formatter<W>) -> fmt::Result {
-        match self.0 {
-            Place::Register(r) => {
-                let number = r as u8;
-                write!(f, "r{number}")
-            }
-            Place::Slot(k) => write!(f, "s{k}"),
-        }
+        let (letter, number) = match self.0 {
+            Place::Register(r) => ("r", r as u8),
+            Place::Slot(k) => ("s", k),
+        };
+        write!(f, "{letter}{number}")
     }
 }
 
@@ -114,7 +112,7 @@ pub struct Known(pub SlotState);
 impl fmt::Display for Known {
     fn fmt<W: fmt::Write>(&self, f: &mut fmt::Formatter<W>) -> fmt::Result {
         match self.0 {
-            SlotState::Bytes(0) => write!(f, "anything"),
+            SlotState::Bytes(0) => f.write_str("anything"),
             SlotState::Bytes(mask) => write!(f, "b{mask}"),
             SlotState::Word(number) => fmt::Display::fmt(&Number(number), f),
             SlotState::Spilled(Pointer { area, lo, hi }) => {
@@ -150,11 +148,8 @@ pub struct Offset(pub i64);
 impl fmt::Display for Offset {
     fn fmt<W: fmt::Write>(&self, f: &mut fmt::Formatter<W>) -> fmt::Result {
         let amount = self.0.unsigned_abs();
-        if self.0 < 0 {
-            write!(f, "- {amount}")
-        } else {
-            write!(f, "+ {amount}")
-        }
+        let sign = if self.0 < 0 { "-" } else { "+" };
+        write!(f, "{sign} {amount}")
     }
 }
 
@@ -173,7 +168,7 @@ fn behind_blank(line: &[u8]) -> &[u8] {
 impl fmt::Display for Written {
     fn fmt<W: fmt::Write>(&self, f: &mut fmt::Formatter<W>) -> fmt::Result {
         if let SlotState::Bytes(0) = self.0 {
-            return write!(f, "nothing");
+            return f.write_str("nothing");
         }
         // The name in front is cut off, so that any will do.
         let line = bpf_cert::entry_text(Place::Register(Reg::R0), self.0);

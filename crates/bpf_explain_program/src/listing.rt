@@ -99,12 +99,12 @@ pub fn write_label<W: Tell>(out: &mut W, label: &Label, has_budgets: bool, room:
     let slot = label.slot;
     write!(out, "at {slot}");
     if has_budgets {
-        write!(out, ": budget ");
+        out.say(": budget ");
         write_budget(out, label);
     }
     label.state.put_into(room);
     write_claims(out, room);
-    write!(out, "\n");
+    out.say("\n");
 }
 
 // ---- instructions
@@ -169,15 +169,15 @@ fn note_written<C: Code, W: Tell>(out: &mut W, sight: &Sight<'_, C>, shown: &mut
 /// What an instruction that a state reaches costs with those before it, and what is known of its places.
 fn write_notes<C: Code, W: Tell>(out: &mut W, sight: &Sight<'_, C>, shown: &mut State) {
     match (&sight.seen, sight.cost()) {
-        (None, _) => write!(out, "; refused"),
+        (None, _) => out.say("; refused"),
         (Some(_), Some(cost)) => write!(out, "; cost {cost}"),
-        (Some(_), None) => write!(out, "; the cost isn't known"),
+        (Some(_), None) => out.say("; the cost isn't known"),
     }
     note_registers(out, &sight.site.insn, &sight.before, shown);
     note_slots(out, &sight.site.insn, &sight.before, shown);
     match &sight.seen {
         Some(seen) if seen.is_alive => note_written(out, sight, shown),
-        Some(_) => write!(out, "; no run goes on from here"),
+        Some(_) => out.say("; no run goes on from here"),
         None => {}
     }
 }
@@ -187,9 +187,9 @@ pub fn write_instruction<C: Code, W: Tell>(out: &mut W, sight: &Sight<'_, C>, sh
     write_padded(out, sight.site.here.slot, &sight.site.insn);
     match sight.here {
         Some(_) => write_notes(out, sight, shown),
-        None => write!(out, "; no state is known here"),
+        None => out.say("; no state is known here"),
     }
-    write!(out, "\n");
+    out.say("\n");
 }
 
 // ---- edges
@@ -200,7 +200,7 @@ fn write_slack<C: Code, W: Tell>(out: &mut W, sight: &Sight<'_, C>, way: Way<'_,
         return;
     };
     let (Some(slack), Some(cost)) = (way.edge.slack, sight.cost()) else {
-        return write!(out, "; the slack isn't known");
+        return out.say("; the slack isn't known");
     };
     let (total, old) = (slack.left, &here.label.budget);
     let (base, there) = (old.base, new.budget.base);
@@ -214,6 +214,11 @@ fn write_slack<C: Code, W: Tell>(out: &mut W, sight: &Sight<'_, C>, way: Way<'_,
     }
 }
 
+/// Whether an edge to the next instruction says no more than that it is there.
+fn is_plain_step(way: Way<'_, '_>, more: PlaceSet) -> bool {
+    way.edge.is_live && way.edge.label.is_none() && more.is_empty()
+}
+
 /// The line of an edge: where it leads, what is known there more, and what is left of the budget. Of one to the next instruction
 /// there is none, if it says no more than that it is there.
 fn write_way<C: Code, W: Tell>(
@@ -222,26 +227,24 @@ fn write_way<C: Code, W: Tell>(
     way: Way<'_, '_>,
     shown: &mut State,
 ) {
-    let (edge, state, condition) = (way.edge, way.state, way.condition);
-    let more = changes(&sight.before, state, places_compared(&sight.site.insn));
+    let more = changes(&sight.before, way.state, places_compared(&sight.site.insn));
     if !way.is_jump {
-        if edge.is_live && edge.label.is_none() && more.is_empty() {
+        if is_plain_step(way, more) {
             return;
         }
-        take_all(shown, state, more);
+        take_all(shown, way.state, more);
     }
-    let to = edge.to;
+    let (to, condition) = (way.edge.to, way.condition);
     write!(out, "       to {to}{condition}");
-    if edge.is_live {
-        note_changes(out, more, state, "is");
-    } else {
-        write!(out, "; no run takes it");
+    if !way.edge.is_live {
+        return out.say("; no run takes it\n");
     }
-    match edge.label {
-        Some(label) if sight.has_budgets && edge.is_live => write_slack(out, sight, way, label),
+    note_changes(out, more, way.state, "is");
+    match way.edge.label {
+        Some(label) if sight.has_budgets => write_slack(out, sight, way, label),
         _ => {}
     }
-    write!(out, "\n");
+    out.say("\n");
 }
 
 /// The line of an EXIT: what is left of the budget.

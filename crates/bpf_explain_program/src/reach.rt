@@ -66,9 +66,9 @@ pub fn reached_from_start<C: Code>(program: &C, flow: &Flow) -> SlotSet {
 
 /// Slots one after the other: the first and the last.
 #[derive(Clone, Copy)]
-struct Range {
-    first: u32,
-    last: u32,
+pub struct Range {
+    pub first: u32,
+    pub last: u32,
 }
 
 impl fmt::Display for Range {

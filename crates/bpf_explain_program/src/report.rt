@@ -4,6 +4,7 @@ use crate::flaws::{CONDITIONS, Flaws};
 use crate::known::Spelled;
 use crate::listing::{write_edges, write_function, write_instruction, write_label};
 use crate::pass::Observer;
+use crate::reach::Range;
 use crate::sight::Sight;
 use crate::source::SourceLines;
 use crate::standing::{label_flaws, last_slot, standing_flaws, start_flaws};
@@ -12,7 +13,7 @@ use crate::words::{
     Handings, Silence, tell, tell_function, tell_handed, tell_label, tell_mixed, tell_silence,
     tell_start,
 };
-use bpf_cert::MAX_FUNCTIONS;
+use bpf_cert::{Function, MAX_FUNCTIONS};
 use bpf_check::{Index, Refusal, Standing, see_start, standing_at};
 use bpf_explain_page::Tell;
 use bpf_insn::{Code, Insn};
@@ -53,8 +54,7 @@ impl View {
 /// Slots at which no state is known, for one reason and without another flaw.
 #[derive(Clone, Copy)]
 struct Quiet {
-    from: u32,
-    to: u32,
+    slots: Range,
     silence: Silence,
 }
 
@@ -123,7 +123,7 @@ impl<'a, 'o, C: Code, W: Tell> Report<'a, 'o, C, W> {
             let text = Spelled(insn);
             write!(self.out, ", {text}");
         }
-        write!(self.out, ": ");
+        self.out.say(": ");
     }
 
     /// Tells a flaw of the instruction at a slot, with the source's line, unless that stands above.
@@ -133,13 +133,13 @@ impl<'a, 'o, C: Code, W: Tell> Report<'a, 'o, C, W> {
             Condition::FallsOff if sight.is_never => tell_silence(self.out, self.silence),
             _ => tell(self.out, sight, condition),
         }
-        if condition == Condition::State(StateFault::UnsetRegister) {
+        if let Condition::State(StateFault::UnsetRegister) = condition {
             self.tell_cause(sight);
         }
         if !self.view.is_listing() {
             write_source(self.out, "; from ", "", &self.lines);
         }
-        write!(self.out, "\n");
+        self.out.say("\n");
     }
 
     /// Tells why nothing is known of a register that is read, if the function was handed a frame pointer in it, or ways meet that
@@ -153,12 +153,12 @@ impl<'a, 'o, C: Code, W: Tell> Report<'a, 'o, C, W> {
         }
         self.causes -= 1;
         tell_mixed(self.out, sight, reg, self.certificate);
-        let handings = match self.handings.take() {
-            Some(handings) => handings,
-            None => Handings::of(self.program, self.certificate),
-        };
-        tell_handed(self.out, sight, reg, &handings);
-        self.handings = Some(handings);
+        if self.handings.is_none() {
+            self.handings = Some(Handings::of(self.program, self.certificate));
+        }
+        if let Some(handings) = &self.handings {
+            tell_handed(self.out, sight, reg, handings);
+        }
     }
 
     /// Tells a flaw of the certificate's beginning, if it has it.
@@ -167,7 +167,7 @@ impl<'a, 'o, C: Code, W: Tell> Report<'a, 'o, C, W> {
         if start_flaws(&seen).has(condition) {
             self.begin(condition, 0, None);
             tell_start(self.out, self.certificate, &seen, condition);
-            write!(self.out, "\n");
+            self.out.say("\n");
         }
     }
 
@@ -176,41 +176,57 @@ impl<'a, 'o, C: Code, W: Tell> Report<'a, 'o, C, W> {
         standing_at(self.program, self.certificate, slot, number, &mut self.room)
     }
 
+    /// Tells a flaw of a function's label at a slot, if it has it.
+    fn tell_label(&mut self, slot: u32, standing: &Standing<'a>, condition: Condition) {
+        let Some(seen) = &standing.label else {
+            return;
+        };
+        if label_flaws(seen).has(condition) {
+            self.begin(condition, slot, None);
+            tell_label(
+                self.out,
+                self.program,
+                self.certificate,
+                standing,
+                condition,
+            );
+            self.out.say("\n");
+        }
+    }
+
+    /// Tells that a function has no label where it begins.
+    fn tell_function(&mut self, slot: u32, function: &Function) {
+        self.begin(Condition::Misshapen, slot, None);
+        tell_function(self.out, function);
+        self.out.say("\n");
+    }
+
     /// Tells a flaw of the functions and labels at a slot.
     fn tell_standing(&mut self, slot: u32, condition: Condition) {
         for number in 0..MAX_FUNCTIONS {
             let Some(standing) = self.standing_at(slot, number) else {
                 break;
             };
-            if condition == Condition::Misshapen && standing.lacks_label {
-                self.begin(condition, slot, None);
-                tell_function(self.out, standing.function);
-                write!(self.out, "\n");
+            if standing.lacks_label && matches!(condition, Condition::Misshapen) {
+                self.tell_function(slot, standing.function);
             }
-            match &standing.label {
-                Some(seen) if label_flaws(seen).has(condition) => {
-                    self.begin(condition, slot, None);
-                    tell_label(
-                        self.out,
-                        self.program,
-                        self.certificate,
-                        &standing,
-                        condition,
-                    );
-                    write!(self.out, "\n");
-                }
-                _ => {}
-            }
+            self.tell_label(slot, &standing, condition);
         }
+    }
+
+    /// Which conditions fail at the start.
+    fn flaws_at_start(&mut self) -> Flaws {
+        let seen = see_start(self.certificate, &mut self.room, &mut Work::new());
+        start_flaws(&seen)
     }
 
     /// Which conditions fail at a slot, but for those of the instruction there.
     fn flaws_at(&mut self, slot: u32) -> Flaws {
-        let mut flaws = Flaws::NONE;
-        if slot == 0 {
-            let seen = see_start(self.certificate, &mut self.room, &mut Work::new());
-            flaws = start_flaws(&seen);
-        }
+        let mut flaws = if slot == 0 {
+            self.flaws_at_start()
+        } else {
+            Flaws::NONE
+        };
         for number in 0..MAX_FUNCTIONS {
             let Some(standing) = self.standing_at(slot, number) else {
                 break;
@@ -225,23 +241,36 @@ impl<'a, 'o, C: Code, W: Tell> Report<'a, 'o, C, W> {
     fn tell_flaws(&mut self, sight: &Sight<'_, C>) {
         let slot = sight.site.here.slot;
         let others = self.flaws_at(slot);
-        let is_silent = sight.is_never && sight.flaws == Flaws::of(Condition::FallsOff);
-        match self.view {
-            View::List if is_silent && others.is_empty() => return self.pass_over(slot),
-            View::Listing if is_silent && others.is_empty() => return,
-            _ if others.is_empty() && sight.flaws.is_empty() => return,
-            _ => self.tell_quiet(),
+        if others.is_empty() {
+            if sight.flaws.is_empty() {
+                return;
+            }
+            let is_silent = sight.is_never && sight.flaws.is_only(Condition::FallsOff);
+            match self.view {
+                View::List if is_silent => return self.pass_over(slot),
+                View::Listing if is_silent => return,
+                _ => {}
+            }
         }
-        for condition in (1..=CONDITIONS).filter_map(Condition::numbered) {
-            if slot == 0 {
-                self.tell_beginning(condition);
+        self.tell_quiet();
+        for number in 1..=CONDITIONS {
+            if let Some(condition) = Condition::numbered(number) {
+                self.tell_flaw(sight, others, condition);
             }
-            if sight.flaws.has(condition) {
-                self.tell_visit(sight, condition);
-            }
-            if others.has(condition) {
-                self.tell_standing(slot, condition);
-            }
+        }
+    }
+
+    /// Tells of a condition that it fails at the start, at an instruction, or at what else stands at its slot, where it does.
+    fn tell_flaw(&mut self, sight: &Sight<'_, C>, others: Flaws, condition: Condition) {
+        let slot = sight.site.here.slot;
+        if slot == 0 {
+            self.tell_beginning(condition);
+        }
+        if sight.flaws.has(condition) {
+            self.tell_visit(sight, condition);
+        }
+        if others.has(condition) {
+            self.tell_standing(slot, condition);
         }
     }
 
@@ -252,9 +281,10 @@ impl<'a, 'o, C: Code, W: Tell> Report<'a, 'o, C, W> {
             return;
         }
         self.tell_quiet();
-        for condition in (1..=CONDITIONS).filter_map(Condition::numbered) {
-            if flaws.has(condition) {
-                self.tell_standing(slot, condition);
+        for number in 1..=CONDITIONS {
+            match Condition::numbered(number) {
+                Some(condition) if flaws.has(condition) => self.tell_standing(slot, condition),
+                _ => {}
             }
         }
     }
@@ -263,28 +293,28 @@ impl<'a, 'o, C: Code, W: Tell> Report<'a, 'o, C, W> {
 
     /// Tells of the slots that were passed over.
     fn tell_quiet(&mut self) {
-        let Some(Quiet { from, to, silence }) = self.quiet.take() else {
+        let Some(Quiet { slots, silence }) = self.quiet else {
             return;
         };
-        if from == to {
-            write!(self.out, "C11 at slot {from}: ");
-        } else {
-            write!(self.out, "C11 at slots {from} to {to}: ");
-        }
+        self.quiet = None;
+        let ending = if slots.first == slots.last { "" } else { "s" };
+        write!(self.out, "C11 at slot{ending} {slots}: ");
         tell_silence(self.out, silence);
-        write!(self.out, "\n");
+        self.out.say("\n");
     }
 
     /// Passes over a slot at which no state is known. Those that were passed over for another reason are told.
     fn pass_over(&mut self, slot: u32) {
         let (silence, known) = (self.silence, self.quiet);
-        let mut from = slot;
+        let mut slots = Range {
+            first: slot,
+            last: slot,
+        };
         match known {
-            Some(quiet) if quiet.silence == silence => from = quiet.from,
+            Some(quiet) if quiet.silence == silence => slots.first = quiet.slots.first,
             _ => self.tell_quiet(),
         }
-        let to = slot;
-        self.quiet = Some(Quiet { from, to, silence });
+        self.quiet = Some(Quiet { slots, silence });
     }
 
     /// Notes why no state goes on, if none does.
@@ -349,29 +379,41 @@ impl<'a, 'o, C: Code, W: Tell> Report<'a, 'o, C, W> {
         write_edges(self.out, sight, &mut self.shown);
     }
 
+    /// An instruction with the whole states before and behind it.
+    fn write_alone(&mut self, sight: &Sight<'_, C>) {
+        write_source(self.out, "; ", "\n", &self.lines);
+        write_whole(self.out, sight);
+    }
+
+    /// Tells a flaw of an instruction, if it is that one's, and it has it.
+    fn tell_if(&mut self, sight: &Sight<'_, C>, flaw: Refusal) {
+        if flaw.slot == sight.site.here.slot && sight.flaws.has(flaw.condition) {
+            self.tell_visit(sight, flaw.condition);
+        }
+    }
+
     /// Tells of an instruction what the view shows.
     fn show(&mut self, sight: &Sight<'_, C>) {
         let slot = sight.site.here.slot;
         let has_new_line = self.lines.go_to(slot);
-        if self.view.is_listing() {
-            self.write_lines(sight, has_new_line);
-        }
         match self.view {
-            View::Slot(wanted) | View::Glimpse(wanted) if wanted == slot => {
-                write_source(self.out, "; ", "\n", &self.lines);
-                write_whole(self.out, sight);
+            View::Listing => {
+                self.write_lines(sight, has_new_line);
+                self.tell_flaws(sight);
             }
-            _ => {}
-        }
-        match self.view {
-            View::Listing | View::List => self.tell_flaws(sight),
-            View::Slot(wanted) if wanted == slot => self.tell_flaws(sight),
-            View::Sketch(Some(flaw)) | View::Reason(flaw) if flaw.slot == slot => {
-                if sight.flaws.has(flaw.condition) {
-                    self.tell_visit(sight, flaw.condition);
-                }
+            View::List => self.tell_flaws(sight),
+            View::Slot(wanted) if wanted == slot => {
+                self.write_alone(sight);
+                self.tell_flaws(sight);
             }
-            View::Slot(_) | View::Sketch(_) | View::Glimpse(_) | View::Reason(_) => {}
+            View::Glimpse(wanted) if wanted == slot => self.write_alone(sight),
+            View::Sketch(Some(flaw)) => {
+                self.write_lines(sight, has_new_line);
+                self.tell_if(sight, flaw);
+            }
+            View::Sketch(None) => self.write_lines(sight, has_new_line),
+            View::Reason(flaw) => self.tell_if(sight, flaw),
+            View::Slot(_) | View::Glimpse(_) => {}
         }
     }
 }

@@ -28,7 +28,7 @@ fn write_state<W: Tell>(out: &mut W, label: &Label, state: &State) {
             if let Some(tag) = tag_at(state, place) {
                 write_tag(out, label, tag);
             }
-            write!(out, "\n");
+            out.say("\n");
         }
     }
 }
@@ -37,11 +37,11 @@ fn write_state<W: Tell>(out: &mut W, label: &Label, state: &State) {
 fn write_behind<C: Code, W: Tell>(out: &mut W, label: &Label, sight: &Sight<'_, C>) {
     for way in sight.ways().into_iter().flatten() {
         let (to, condition) = (way.edge.to, way.condition);
-        if way.edge.is_live {
-            write!(out, "to {to}{condition}:\n");
+        let is_live = way.edge.is_live;
+        let rest = if is_live { "" } else { " no run takes it" };
+        write!(out, "to {to}{condition}:{rest}\n");
+        if is_live {
             write_state(out, label, way.state);
-        } else {
-            write!(out, "to {to}{condition}: no run takes it\n");
         }
     }
 }
@@ -50,12 +50,10 @@ fn write_behind<C: Code, W: Tell>(out: &mut W, label: &Label, sight: &Sight<'_, 
 fn write_before<W: Tell>(out: &mut W, here: Here<'_>, state: &State) {
     let from = here.label.slot;
     match here.cost {
-        Some(cost) => write!(
-            out,
-            "before, at cost {cost} since the label at slot {from}:\n"
-        ),
-        None => write!(out, "before, since the label at slot {from}:\n"),
+        Some(cost) => write!(out, "before, at cost {cost}"),
+        None => out.say("before,"),
     }
+    write!(out, " since the label at slot {from}:\n");
     write_state(out, here.label, state);
 }
 
@@ -64,12 +62,12 @@ pub fn write_whole<C: Code, W: Tell>(out: &mut W, sight: &Sight<'_, C>) {
     let (slot, text) = (sight.site.here.slot, Spelled(sight.site.insn));
     write!(out, "slot {slot}: {text}\n");
     let Some(here) = sight.here else {
-        return write!(out, "no state is known here\n");
+        return out.say("no state is known here\n");
     };
     write_before(out, here, &sight.before);
     match &sight.seen {
         Some(seen) if seen.is_alive => write_behind(out, here.label, sight),
-        Some(_) => write!(out, "no run goes on from here\n"),
+        Some(_) => out.say("no run goes on from here\n"),
         None => {}
     }
 }

@@ -28,7 +28,7 @@ use std::fmt;
 use std::io::{self, Write};
 
 /// Which search is explained.
-#[derive(Clone, Copy, PartialEq)]
+#[derive(Clone, Copy)]
 enum Effort {
     Plain,
     Deep,
@@ -69,9 +69,8 @@ fn write_source<W: Tell>(out: &mut W, lines: &[u8], error: InferError) {
 /// I3: a call is part of a recursion.
 fn write_recursion<W: Tell>(out: &mut W, program: &Program, slot: u32) {
     match program.insn(slot) {
-        Some(Insn::CallLocal { off: -1 }) => write!(
-            out,
-            "`call -1` calls itself: mostly a call of another object's function that was never linked\n"
+        Some(Insn::CallLocal { off: -1 }) => out.say(
+            "`call -1` calls itself: mostly a call of another object's function that was never linked\n",
         ),
         Some(insn) => {
             let text = Spelled(insn);
@@ -86,16 +85,14 @@ fn write_recursion<W: Tell>(out: &mut W, program: &Program, slot: u32) {
 
 /// Tells that the states of a function don't settle.
 fn write_unsettled<W: Tell>(out: &mut W, slot: u32, effort: Effort) {
-    match effort {
-        Effort::Plain => write!(
-            out,
-            "what is known in the function at slot {slot} still changes after 64 rounds\n"
-        ),
-        Effort::Deep => write!(
-            out,
-            "what is known in the function at slot {slot} doesn't settle\n"
-        ),
-    }
+    let fault = match effort {
+        Effort::Plain => "still changes after 64 rounds",
+        Effort::Deep => "doesn't settle",
+    };
+    write!(
+        out,
+        "what is known in the function at slot {slot} {fault}\n"
+    );
 }
 
 /// Tells why there is no budget, where nothing more is known than whether there are states: before there are, a search is
@@ -104,27 +101,19 @@ fn write_unbudgeted<W: Tell>(out: &mut W, slot: u32, has_states: bool) {
     if has_states {
         write_no_budget(out, slot);
     } else {
-        write!(
-            out,
-            "functions call one another more than 8 deep, or there are more than 256\n"
-        );
+        out.say("functions call one another more than 8 deep, or there are more than 256\n");
     }
 }
 
-/// Tells the reason of a refusal.
-fn write_reason<W: Tell>(out: &mut W, program: &Program, stop: &Stop, effort: Effort) {
-    let Stop { error, sketch } = stop;
-    match (*error, &sketch.obstacle) {
-        // At the deep search's labels only what is read is known.
-        (InferError::NoBudget { slot }, Some(Obstacle::NoCounter(trials)))
-            if trials.is_empty() && effort == Effort::Deep => { write_no_budget(out, slot) }
-        (_, Some(obstacle)) => write_obstacle(out, error.slot(), obstacle),
-        (InferError::Unstable { slot }, None) => write_unsettled(out, slot, effort),
-        (InferError::NoBudget { slot }, None) => {
-            write_unbudgeted(out, slot, sketch.certificate.is_some())
+/// Tells the reason of a refusal of which no obstacle is known.
+fn write_bare<W: Tell>(out: &mut W, program: &Program, stop: &Stop, effort: Effort) {
+    match stop.error {
+        InferError::Unstable { slot } => write_unsettled(out, slot, effort),
+        InferError::NoBudget { slot } => {
+            write_unbudgeted(out, slot, stop.sketch.certificate.is_some());
         }
-        (InferError::Recursion { slot }, None) => write_recursion(out, program, slot),
-        (InferError::Fault { slot, condition }, None) => match condition {
+        InferError::Recursion { slot } => write_recursion(out, program, slot),
+        InferError::Fault { slot, condition } => match condition {
             Condition::State(_) => {}
             Condition::FallsOff => tell_unreached(program, out),
             Condition::LeavesFunction => write!(
@@ -132,17 +121,50 @@ fn write_reason<W: Tell>(out: &mut W, program: &Program, stop: &Stop, effort: Ef
                 "slot {slot} jumps out of its function, or goes on into the next one\n"
             ),
         },
-        (InferError::Memory, None) => {}
+        InferError::Memory => {}
+    }
+}
+
+/// Whether an obstacle of the deep search says nothing: at its labels only what is read is known.
+fn is_hollow(error: InferError, obstacle: &Obstacle, effort: Effort) -> bool {
+    match (error, obstacle, effort) {
+        (InferError::NoBudget { .. }, Obstacle::NoCounter(trials), Effort::Deep) => {
+            trials.is_empty()
+        }
+        _ => false,
+    }
+}
+
+/// Tells the reason of a refusal.
+fn write_reason<W: Tell>(out: &mut W, program: &Program, stop: &Stop, effort: Effort) {
+    match &stop.sketch.obstacle {
+        Some(obstacle) if is_hollow(stop.error, obstacle, effort) => {
+            write_no_budget(out, stop.error.slot());
+        }
+        Some(obstacle) => write_obstacle(out, stop.error.slot(), obstacle),
+        None => write_bare(out, program, stop, effort),
+    }
+}
+
+/// Whether the instruction at a slot leads to another one or in front of it.
+fn leads_back(program: &Program, from: u32, slot: u32) -> bool {
+    let Some(insn) = program.at(from) else {
+        return false;
+    };
+    match jump_target(from.min(MAX_SLOTS as u32), insn) {
+        Some(to) => to <= slot,
+        None => false,
     }
 }
 
 /// Whether an instruction at a slot or behind it leads back to the slot or in front of it.
 fn is_in_loop(program: &Program, slot: u32) -> bool {
-    let leads_back = |from: u32| program
-        .at(from)
-        .and_then(|insn| jump_target(from.min(MAX_SLOTS as u32), insn))
-        .is_some_and(|to| to <= slot);
-    (slot..program.slots()).any(leads_back)
+    for from in slot..program.slots() {
+        if leads_back(program, from, slot) {
+            return true;
+        }
+    }
+    false
 }
 
 /// Tells of which round the states are. The plain inferrer ends where an instruction is refused, in whichever round of a loop that is; the deep
@@ -167,12 +189,22 @@ fn write_round<W: Tell>(out: &mut W, program: &Program, stop: &Stop, effort: Eff
 
 /// Whether an instruction leads back or calls a function.
 fn is_round(insn: &Insn) -> bool {
-    matches!(*insn, Insn::CallLocal { .. }) || insn.distance().is_some_and(|off| off < 0)
+    match (*insn, insn.distance()) {
+        (Insn::CallLocal { .. }, _) => true,
+        (_, Some(off)) => off < 0,
+        _ => false,
+    }
 }
 
 /// Whether a program has a loop or calls a function: elsewhere both searches know the same.
 fn goes_round(program: &Program) -> bool {
-    (0..program.slots()).any(|slot| program.at(slot).is_some_and(is_round))
+    for slot in 0..program.slots() {
+        match program.at(slot) {
+            Some(insn) if is_round(insn) => return true,
+            _ => {}
+        }
+    }
+    false
 }
 
 /// Whether the deep search may find what the plain one refuses, as far as the refusal and the program tell.
@@ -242,9 +274,9 @@ fn write_stop<W: Tell>(
     write_states(out, program, stop, shown, lines);
     write_reason(out, program, stop, effort);
     write_round(out, program, stop, effort);
-    let has_states = stop.sketch.certificate.is_some();
-    if effort == Effort::Plain && has_states && may_be_found(program, stop.error) {
-        write!(out, "or try --deep: it searches longer, and finds more\n");
+    let is_plain = matches!(effort, Effort::Plain);
+    if is_plain && stop.sketch.certificate.is_some() && may_be_found(program, stop.error) {
+        out.say("or try --deep: it searches longer, and finds more\n");
     }
 }
 

@@ -38,24 +38,26 @@ fn flaw_at(refusal: Option<Refusal>, slot: u32, insn: &Insn) -> Option<u8> {
 
 /// The first line of the function at a slot.
 fn write_head<W: Tell>(out: &mut W, certificate: Option<&Index>, slot: u32) {
-    match certificate.and_then(|certificate| function_at(certificate, slot)) {
-        Some(function) => write_function(out, function),
-        None => write!(out, "fn {slot}\n"),
+    if let Some(certificate) = certificate {
+        if let Some(function) = function_at(certificate, slot) {
+            return write_function(out, function);
+        }
     }
+    write!(out, "fn {slot}\n");
 }
 
 /// The line of the label at a slot, if one stands there and budgets are told.
 fn write_promise<'a, 'b, W: Tell>(out: &mut W, scene: &Scene<'a, 'b>, slot: u32) {
-    match scene
-        .certificate
-        .and_then(|certificate| label_at(certificate, slot))
-    {
-        Some(label) if scene.has_budgets => {
-            write!(out, "at {slot}: budget ");
-            write_budget(out, label);
-            write!(out, "\n");
-        }
-        _ => {}
+    let Some(certificate) = scene.certificate else {
+        return;
+    };
+    if !scene.has_budgets {
+        return;
+    }
+    if let Some(label) = label_at(certificate, slot) {
+        write!(out, "at {slot}: budget ");
+        write_budget(out, label);
+        out.say("\n");
     }
 }
 
@@ -80,14 +82,14 @@ impl Drawn {
             Look::Unreached => "\", color=gray, fontcolor=gray];\n",
             Look::Refused => "\", color=red, penwidth=2];\n",
         };
-        write!(out, "{rest}");
+        out.say(rest);
     }
 
     /// Ends the function that is being written, if there is one.
     fn end_function<W: Tell>(&mut self, out: &mut W) {
         if self.in_function {
             self.in_function = false;
-            write!(out, "  }}\n");
+            out.say("  }\n");
         }
     }
 
@@ -99,7 +101,7 @@ impl Drawn {
         out.set_quoted(true);
         write_head(out, scene.certificate, slot);
         out.set_quoted(false);
-        write!(out, "\";\n");
+        out.say("\";\n");
     }
 
     /// Begins the block at a slot, with its label.

@@ -7,30 +7,39 @@ use bpf_cert::{Label, Measure, Term};
 use bpf_check::place_of;
 use bpf_explain_page::Tell;
 use bpf_insn::Code;
-use bpf_state::{SlotState, State, Tag};
+use bpf_state::{Place, SlotState, State, Tag};
 
-/// What a place that holds a counter did on the way: `r6 falls by 1 at weight 5`.
+/// How far a counter moved on the way: `r6 falls by 1 at weight 5`.
+fn tell_step<W: Tell>(out: &mut W, name: Name, step: i64, weight: u32) {
+    if step == 0 {
+        return write!(out, ", and {name} stays at weight {weight}");
+    }
+    let (verb, by) = (
+        if step < 0 { "falls" } else { "rises" },
+        step.unsigned_abs(),
+    );
+    write!(out, ", and {name} {verb} by {by} at weight {weight}");
+}
+
+/// The place that a term counted at the label before, if it is another one than a term counts now.
+fn other_counted(old: &Label, term: &Term, tag: Tag) -> Option<Place> {
+    match old.budget.terms.as_slice().get(usize::from(tag.term)) {
+        Some(counted) if place_of(counted) != place_of(term) => Some(place_of(counted)),
+        _ => None,
+    }
+}
+
+/// What a place that holds a counter did on the way.
 fn tell_move<W: Tell>(out: &mut W, old: &Label, term: &Term, tag: Tag) {
-    let name = Name(place_of(term));
-    let weight = term.weight;
-    if let Some(counted) = old.budget.terms.as_slice().get(usize::from(tag.term)) {
-        let before = Name(place_of(counted));
-        if place_of(counted) != place_of(term) {
-            let (slot, by) = (old.slot, Offset(tag.offset));
-            return write!(
-                out,
-                ", and {name} is {before} of slot {slot} {by} at weight {weight}"
-            );
-        }
-    }
-    let by = tag.offset.unsigned_abs();
-    if tag.offset < 0 {
-        write!(out, ", and {name} falls by {by} at weight {weight}");
-    } else if tag.offset > 0 {
-        write!(out, ", and {name} rises by {by} at weight {weight}");
-    } else {
-        write!(out, ", and {name} stays at weight {weight}");
-    }
+    let (name, weight) = (Name(place_of(term)), term.weight);
+    let Some(counted) = other_counted(old, term, tag) else {
+        return tell_step(out, name, tag.offset, weight);
+    };
+    let (before, slot, by) = (Name(counted), old.slot, Offset(tag.offset));
+    write!(
+        out,
+        ", and {name} is {before} of slot {slot} {by} at weight {weight}"
+    );
 }
 
 /// A place that isn't followed from the label before: it counts as the worst that it may hold.
@@ -75,13 +84,9 @@ fn tell_terms<W: Tell>(out: &mut W, old: &Label, new: &Label, state: &State) {
 /// Tells of a way that isn't paid: `the loop back to slot 1 costs 4, the base goes from 2 to 7`.
 fn tell_way<W: Tell>(out: &mut W, way: &str, cost: i128, old: &Label, new: &Label) {
     let (to, before, behind) = (new.slot, old.budget.base, new.budget.base);
-    if before == behind {
-        write!(out, "{way} slot {to} costs {cost}");
-    } else {
-        write!(
-            out,
-            "{way} slot {to} costs {cost}, the base goes from {before} to {behind}"
-        );
+    write!(out, "{way} slot {to} costs {cost}");
+    if before != behind {
+        write!(out, ", the base goes from {before} to {behind}");
     }
 }
 

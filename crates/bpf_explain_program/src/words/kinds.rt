@@ -38,27 +38,27 @@ fn tell_operands<C: Code, W: Tell>(out: &mut W, rule: &str, sight: &Sight<'_, C>
     tell_registers(out, rule, &sight.before, sight.site.insn.registers_read());
 }
 
+/// Why an operand must be a number.
+fn number_rule(insn: &Insn) -> &'static str {
+    match *insn {
+        Insn::Exit => "the result must be a number",
+        Insn::Alu {
+            width: Width::W32,
+            ..
+        } => "an operation at 32 bits takes numbers alone",
+        Insn::Alu {
+            op: AluOp::Or,
+            src: Operand::Reg(_),
+            ..
+        } => "this operation takes numbers alone, also where a compiler adds an index by it",
+        _ => "this operation takes numbers alone",
+    }
+}
+
 /// A register that holds no number, and the other operands of arithmetic.
 fn tell_number_wanted<C: Code, W: Tell>(out: &mut W, sight: &Sight<'_, C>, reg: Reg) {
     let insn = &sight.site.insn;
-    let rule = if matches!(*insn, Insn::Exit) {
-        "the result must be a number"
-    } else if let Insn::Alu {
-        width: Width::W32,
-        ..
-    } = *insn
-    {
-        "an operation at 32 bits takes numbers alone"
-    } else if let Insn::Alu {
-        op: AluOp::Or,
-        src: Operand::Reg(_),
-        ..
-    } = *insn
-    {
-        "this operation takes numbers alone, also where a compiler adds an index by it"
-    } else {
-        "this operation takes numbers alone"
-    };
+    let rule = number_rule(insn);
     if insn.access().is_some() {
         tell_registers(out, rule, &sight.before, [Some(reg), None, None]);
     } else {

@@ -12,10 +12,7 @@ use bpf_state::{Condition, SlotState, State};
 /// C2: a label is at no instruction's first slot.
 fn tell_place<C: Code, W: Tell>(out: &mut W, program: &C, slot: u32) {
     if slot < program.slots() {
-        return write!(
-            out,
-            "the label stands at the second slot of a wide instruction"
-        );
+        return out.say("the label stands at the second slot of a wide instruction");
     }
     let slots = Count(program.slots(), "slot");
     write!(
@@ -52,7 +49,7 @@ fn tell_outside<W: Tell>(out: &mut W, certificate: &Index, function: &Function, 
             let other = owner.first;
             write!(out, "the one at slot {other}");
         }
-        None => write!(out, "front of it"),
+        None => out.say("front of it"),
     }
 }
 
@@ -131,7 +128,7 @@ pub fn tell_start<W: Tell>(
     match (condition, seen.over) {
         (Condition::OverBudget, Some(most)) => tell_over(out, certificate, most),
         (Condition::Misshapen, _) if seen.is_elsewhere => {
-            write!(out, "no function of the certificate begins at slot 0");
+            out.say("no function of the certificate begins at slot 0");
         }
         (Condition::Misshapen, _) => tell_other_start(out, certificate),
         _ => {}

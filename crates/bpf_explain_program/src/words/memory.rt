@@ -41,26 +41,27 @@ fn tell_readable<W: Tell>(out: &mut W, certificate: &Index) {
         return;
     }
     match least {
-        0 => write!(out, ": no byte can be read, as a context may have none"),
-        1 => write!(out, ": only the first byte can be read"),
+        0 => out.say(": no byte can be read, as a context may have none"),
+        1 => out.say(": only the first byte can be read"),
         _ => write!(out, ": only the first {least} bytes can be read"),
     }
-    write!(out, "; comparing r2 doesn't change that");
+    out.say("; comparing r2 doesn't change that");
 }
 
 /// `: `, and the byte that lies outside of the context or the frame.
 fn tell_outside<W: Tell>(out: &mut W, certificate: &Index, reach: Reach) {
-    match reach.outside(certificate.least()) {
-        Some(byte) if reach.in_frame() => {
-            write!(out, ": byte {byte} of a frame from -512 to -1");
-        }
-        Some(byte) if byte < 0 => write!(out, ": byte {byte}, in front of the context"),
-        Some(byte) => {
-            let lengths = Lengths::of(certificate);
-            write!(out, ": byte {byte} of a context of {lengths}");
-            tell_readable(out, certificate);
-        }
-        None => {}
+    let Some(byte) = reach.outside(certificate.least()) else {
+        return;
+    };
+    write!(out, ": byte {byte}");
+    if reach.in_frame() {
+        out.say(" of a frame from -512 to -1");
+    } else if byte < 0 {
+        out.say(", in front of the context");
+    } else {
+        let lengths = Lengths::of(certificate);
+        write!(out, " of a context of {lengths}");
+        tell_readable(out, certificate);
     }
 }
 
@@ -119,6 +120,6 @@ pub fn tell_protected<C: Code, W: Tell>(out: &mut W, sight: &Sight<'_, C>) {
                 "{touch}, {name} is {held}: the context may only be read"
             );
         }
-        _ => write!(out, "writes r10, which stays at the frame's end"),
+        _ => out.say("writes r10, which stays at the frame's end"),
     }
 }

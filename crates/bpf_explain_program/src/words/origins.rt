@@ -18,18 +18,20 @@ const BACK: u32 = 4096;
 /// Tells of a test of another copy of a part: `slot 36 tests r4, which is r3 + 8; r3 itself isn't bounded by it`.
 fn tell_beside<W: Tell>(out: &mut W, test: Use, part: Use) {
     let by = test.sum.offset.saturating_sub(part.sum.offset);
-    let (slot, tested) = (test.slot, register(test.reg));
-    let (name, by) = (register(part.reg), Offset(by));
     let is_short = test.sum.is_short || part.sum.is_short;
-    match (by.0, is_short) {
-        (0, false) => write!(out, "; slot {slot} tests {tested}, a copy of {name}"),
-        (0, true) => write!(out, "; slot {slot} tests {tested}, which is {name}"),
-        _ => write!(out, "; slot {slot} tests {tested}, which is {name} {by}"),
+    let link = if by == 0 && !is_short {
+        "a copy of"
+    } else {
+        "which is"
+    };
+    let (slot, tested, name) = (test.slot, register(test.reg), register(part.reg));
+    write!(out, "; slot {slot} tests {tested}, {link} {name}");
+    if by != 0 {
+        let by = Offset(by);
+        write!(out, " {by}");
     }
-    if is_short {
-        write!(out, " in 32 bits");
-    }
-    write!(out, "; {name} itself isn't bounded by it");
+    let bits = if is_short { " in 32 bits" } else { "" };
+    write!(out, "{bits}; {name} itself isn't bounded by it");
 }
 
 /// Tells of a part that a test of another copy left unbounded. Whether there is one.
@@ -187,8 +189,12 @@ impl Handings {
 
     /// The call that hands a register over to a function.
     fn to(&self, first: u32, reg: Reg) -> Option<u32> {
-        let is_such = |handing: &&Handing| handing.first == first && handing.reg == reg;
-        Some(self.found.iter().find(is_such)?.slot)
+        for handing in self.found.iter() {
+            if handing.first == first && handing.reg == reg {
+                return Some(handing.slot);
+            }
+        }
+        None
     }
 }
 

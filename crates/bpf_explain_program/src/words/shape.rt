@@ -19,7 +19,7 @@ pub enum Silence {
 /// C11: no state reaches an instruction.
 pub fn tell_silence<W: Tell>(out: &mut W, silence: Silence) {
     match silence {
-        Silence::Start => write!(out, "no state goes on here: no label stands at slot 0"),
+        Silence::Start => out.say("no state goes on here: no label stands at slot 0"),
         Silence::Refused(slot) => {
             write!(out, "no state goes on behind the refusal at slot {slot}");
         }
@@ -32,10 +32,7 @@ pub fn tell_silence<W: Tell>(out: &mut W, silence: Silence) {
 
 /// C11: the last instruction can go on.
 pub fn tell_end<W: Tell>(out: &mut W) {
-    write!(
-        out,
-        "goes on past the program's end: the last instruction must be exit, goto or gotol"
-    );
+    out.say("goes on past the program's end: the last instruction must be exit, goto or gotol");
 }
 
 /// C1: no label stands at a jump's target.
