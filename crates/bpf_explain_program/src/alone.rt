@@ -8,15 +8,15 @@ use std::io::{self, Write};
 
 /// What a lost relocation leaves most often: a call to itself, or a 64-bit constant that is 0.
 fn suspicion_of(insn: &Insn) -> Option<&'static str> {
-    match *insn {
-        Insn::CallLocal { off: -1 } => Some(
+    if let Insn::CallLocal { off: -1 } = *insn {
+        return Some(
             "calls itself: mostly a call of another object's function that was never linked",
-        ),
-        Insn::LoadImm64 { value: 0, .. } => {
-            Some("loads a 64-bit 0: mostly an address that a lost relocation left out")
-        }
-        _ => None,
+        );
     }
+    if let Insn::LoadImm64 { value: 0, .. } = *insn {
+        return Some("loads a 64-bit 0: mostly an address that a lost relocation left out");
+    }
+    None
 }
 
 /// Tells what is suspicious in an instruction.

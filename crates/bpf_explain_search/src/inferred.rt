@@ -189,10 +189,12 @@ fn write_round<W: Tell>(out: &mut W, program: &Program, stop: &Stop, effort: Eff
 
 /// Whether an instruction leads back or calls a function.
 fn is_round(insn: &Insn) -> bool {
-    match (*insn, insn.distance()) {
-        (Insn::CallLocal { .. }, _) => true,
-        (_, Some(off)) => off < 0,
-        _ => false,
+    if let Insn::CallLocal { .. } = *insn {
+        return true;
+    }
+    match insn.distance() {
+        Some(off) => off < 0,
+        None => false,
     }
 }
 

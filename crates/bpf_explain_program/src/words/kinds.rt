@@ -40,17 +40,17 @@ fn tell_operands<C: Code, W: Tell>(out: &mut W, rule: &str, sight: &Sight<'_, C>
 
 /// Why an operand must be a number.
 fn number_rule(insn: &Insn) -> &'static str {
-    match *insn {
-        Insn::Exit => "the result must be a number",
-        Insn::Alu {
-            width: Width::W32,
-            ..
-        } => "an operation at 32 bits takes numbers alone",
-        Insn::Alu {
-            op: AluOp::Or,
-            src: Operand::Reg(_),
-            ..
-        } => "this operation takes numbers alone, also where a compiler adds an index by it",
+    if let Insn::Exit = *insn {
+        return "the result must be a number";
+    }
+    let Insn::Alu { width, op, src, .. } = *insn else {
+        return "this operation takes numbers alone";
+    };
+    match (width, op, src) {
+        (Width::W32, _, _) => "an operation at 32 bits takes numbers alone",
+        (_, AluOp::Or, Operand::Reg(_)) => {
+            "this operation takes numbers alone, also where a compiler adds an index by it"
+        }
         _ => "this operation takes numbers alone",
     }
 }
