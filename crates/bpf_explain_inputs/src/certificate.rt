@@ -125,17 +125,17 @@ fn quoted(line: &[u8]) -> Excerpt<'_> {
 
 /// Why a line is refused: what is at fault, and behind a colon the rule that it breaks, in two parts.
 #[derive(Clone, Copy)]
-struct Finding<'a> {
+struct LineFinding<'a> {
     what: Excerpt<'a>,
     colon: &'static str,
     rule: &'static str,
     more: &'static str,
 }
 
-impl<'a> Finding<'a> {
+impl<'a> LineFinding<'a> {
     /// What is at fault, and the rule.
     fn of(what: Excerpt<'a>, rule: (&'static str, &'static str)) -> Self {
-        Finding {
+        LineFinding {
             what,
             colon: ": ",
             rule: rule.0,
@@ -145,7 +145,7 @@ impl<'a> Finding<'a> {
 
     /// Words alone.
     fn told(words: &'static str) -> Self {
-        Finding {
+        LineFinding {
             what: Excerpt::plain(words),
             colon: "",
             rule: "",
@@ -189,18 +189,18 @@ fn syntax_rule(found: LineAt<'_>, before: Kind) -> (&'static str, &'static str) 
 }
 
 /// K1: what was expected of a line.
-fn syntax_finding(found: LineAt<'_>) -> Finding<'_> {
+fn syntax_finding(found: LineAt<'_>) -> LineFinding<'_> {
     let before = kind_of(found.before);
     if is_string_end(before, found.line) {
         let rule = "a certificate's length doesn't count the one that ends a string of C";
-        return Finding::of(Excerpt::plain("a byte 0 behind the last line"), (rule, ""));
+        return LineFinding::of(Excerpt::plain("a byte 0 behind the last line"), (rule, ""));
     }
     let what = if found.is_there {
         quoted(found.line)
     } else {
         Excerpt::plain("the text ends here without `end`")
     };
-    Finding::of(what, syntax_rule(found, before))
+    LineFinding::of(what, syntax_rule(found, before))
 }
 
 // ---- K2
@@ -296,24 +296,24 @@ const _: () = prove!(MAX_DEPTH == 8 && MAX_FUNCTIONS == 256 && MAX_TERMS == 4);
 const _: () = prove!(MAX_BASE == 1099511627776 && MAX_WEIGHT == 1048576 && FARTHEST == 2147483648);
 
 /// K3: the limits of what stands in a line.
-fn limit_finding(line: &[u8]) -> Finding<'_> {
+fn limit_finding(line: &[u8]) -> LineFinding<'_> {
     if line.len() > 256 {
-        Finding::told(LONG_LINE)
+        LineFinding::told(LONG_LINE)
     } else {
-        Finding::of(quoted(line), limits_of(kind_of(line)))
+        LineFinding::of(quoted(line), limits_of(kind_of(line)))
     }
 }
 
 // ---- refusals
 
 /// Why a line is refused.
-fn finding_of<'a>(found: LineAt<'a>, error: CertError) -> Finding<'a> {
+fn finding_of<'a>(found: LineAt<'a>, error: CertError) -> LineFinding<'a> {
     let line = found.line;
     match error {
         CertError::Syntax { .. } => syntax_finding(found),
-        CertError::NotCanonical { .. } => Finding::of(quoted(line), spelling_rule(line)),
+        CertError::NotCanonical { .. } => LineFinding::of(quoted(line), spelling_rule(line)),
         CertError::Limit { .. } => limit_finding(line),
-        CertError::Memory | CertError::Read { .. } => Finding::told(error.text()),
+        CertError::Memory | CertError::Read { .. } => LineFinding::told(error.text()),
     }
 }
 

@@ -68,7 +68,7 @@ fn without_blanks(line: &[u8]) -> &[u8] {
 
 /// What is at fault in a line from a column on, and why, in two parts.
 #[derive(Clone, Copy)]
-struct Finding<'a> {
+struct TextFinding<'a> {
     column: usize,
     what: Excerpt<'a>,
     rule: &'static str,
@@ -76,7 +76,7 @@ struct Finding<'a> {
 }
 
 /// Tells what is at fault in a line.
-fn tell_finding<W: Tell>(out: &mut W, found: Finding<'_>) {
+fn tell_finding<W: Tell>(out: &mut W, found: TextFinding<'_>) {
     let (column, what, rule, more) = (found.column, found.what, found.rule, found.more);
     write!(out, ", column {column}: {what}{rule}{more}\n");
 }
@@ -149,13 +149,13 @@ fn tell_endings<'a, W: Tell>(alloc: Global, out: &mut W, stop: &Stop<'a>) {
 }
 
 /// Where a line leaves all forms.
-fn place_finding<'s>(line: &[u8], rest: &'s [u8]) -> Finding<'s> {
+fn place_finding<'s>(line: &[u8], rest: &'s [u8]) -> TextFinding<'s> {
     let (what, rule) = if rest.is_empty() {
         (Excerpt::plain("the line ends here"), "")
     } else {
         (quoted(token_of(rest)), " can't stand here")
     };
-    Finding {
+    TextFinding {
         column: column_of(line, rest),
         what,
         rule,
@@ -174,8 +174,8 @@ fn tell_place<'a, W: Tell>(alloc: Global, out: &mut W, line: &[u8], stop: &Stop<
 }
 
 /// What should be a label.
-fn label_finding(column: usize, name: &[u8]) -> Finding<'_> {
-    Finding {
+fn label_finding(column: usize, name: &[u8]) -> TextFinding<'_> {
+    TextFinding {
         column,
         what: quoted(name),
         rule: " is no label: a name has 1 to 64 letters, digits and `_`, and begins with no digit",
@@ -235,12 +235,12 @@ fn excess_finding<'s>(
     column: usize,
     front: &[u8],
     number: &'s [u8],
-) -> Finding<'s> {
+) -> TextFinding<'s> {
     let (rule, more) = match range_behind(alloc, front) {
         Ok(range) => (OUT_OF_RANGE, range_text(front, range)),
         Err(_) => (" is out of its range", ""),
     };
-    Finding {
+    TextFinding {
         column,
         what: signed(front, number),
         rule,
@@ -249,8 +249,8 @@ fn excess_finding<'s>(
 }
 
 /// A number that is out of the range of constants.
-fn constant_finding(column: usize, what: Excerpt<'_>) -> Finding<'_> {
-    Finding {
+fn constant_finding(column: usize, what: Excerpt<'_>) -> TextFinding<'_> {
+    TextFinding {
         column,
         what,
         rule: OUT_OF_RANGE,
@@ -259,7 +259,7 @@ fn constant_finding(column: usize, what: Excerpt<'_>) -> Finding<'_> {
 }
 
 /// Which number is out of its range: the next one; or the last one, for the lack of an `ll` or for the one that stands there.
-fn number_finding<'s>(alloc: Global, line: &'s [u8], stop: &'s Stop<'_>) -> Finding<'s> {
+fn number_finding<'s>(alloc: Global, line: &'s [u8], stop: &'s Stop<'_>) -> TextFinding<'s> {
     let token = token_of(stop.rest);
     let column = column_of(line, stop.rest);
     if token.is_empty() {
