@@ -1,10 +1,12 @@
-/* host.c: how often a small filter runs in a second through the library, beside the same filter in C. Usage: host IMAGE CERT RUNS.
- * Prints for each way its name, the number of runs, and the seconds of processor time. */
+/* host.c: how often a small filter runs in a second through the library, beside the same filter in C, by hand and by `bpf to-c`. Built with TEXT, the
+ * name of the file that `bpf to-c --name port` wrote. Usage: host IMAGE CERT RUNS. Prints for each way its name, the number of runs, and the seconds of
+ * processor time. */
 #include <bpf.h>
 #include <stdio.h>
 #include <stdlib.h>
 #include <string.h>
 #include <time.h>
+#include TEXT
 
 /* bench/port.asm in C. Not inlined, so that each run is a call with a frame that the compiler doesn't know. */
 __attribute__((noinline)) static uint64_t native(const uint8_t *frame, size_t len) {
@@ -30,6 +32,10 @@ static size_t read_file(const char *name, void *at, size_t room) {
 /* The ways to run the filter on the frame: each gives what it answers. */
 static uint64_t natively(void) {
     return native(frame, sizeof frame);
+}
+
+static uint64_t compiled(void) {
+    return port(frame, sizeof frame);
 }
 
 static uint64_t checked(void) {
@@ -82,6 +88,7 @@ int main(int argc, char **argv) {
     frame[12] = 8, frame[14] = 0x45, frame[23] = 6, frame[37] = 80;
     if (verifying() != 1 || preparing() != 1 || loading() != 1) return 1;
     time_it("native", natively, 100 * runs);
+    time_it("to-c", compiled, 100 * runs);
     time_it("bpf_run_loaded", loaded, runs);
     time_it("bpf_run_checked", checked, runs);
     time_it("bpf_run", unverified, runs);

@@ -1,13 +1,14 @@
 #!/usr/bin/env bash
-# Times a small filter (bench/port.asm) through the library for hosts beside the same filter in C: calls a second, by the least
-# processor time of rounds in turn. Usage: bench/host.sh [RUNS [ROUNDS]], 100000 and 15 if not said.
+# Times a small filter (bench/port.asm) through the library for hosts beside the same filter in C, by hand and by `bpf to-c`: calls a second, by the
+# least processor time of rounds in turn. Usage: bench/host.sh [RUNS [ROUNDS]], 100000 and 15 if not said.
 set -eu
 runs=${1:-100000} rounds=${2:-15}
 root=$(cd "$(dirname "${BASH_SOURCE[0]}")/.." && pwd)
 dir=$(mktemp -d)
 trap 'rm -rf "$dir"' EXIT
 "$root/install" "$dir" >/dev/null
-"${CC:-cc}" -O2 -I"$dir/include" "$root/bench/host.c" -o "$dir/host" -L"$dir/lib" -lbpf_host
+"$dir/bin/bpf" to-c "$root/bench/port.img" "$root/bench/port.cert" "$dir/port.c" --name port
+"${CC:-cc}" -O2 -I"$dir/include" -I"$dir" -DTEXT='"port.c"' "$root/bench/host.c" -o "$dir/host" -L"$dir/lib" -lbpf_host
 for ((round = 0; round < rounds; round++)); do
     "$dir/host" "$root/bench/port.img" "$root/bench/port.cert" "$runs"
 done >"$dir/times"

@@ -1,6 +1,6 @@
 -- The text of a program: the operations, a function for each part, one that goes from part to part with a frame of its own, and the
 -- function for hosts.
-use Rattle.std.specs.Prelude.{ℕ, zero, suc, ◌+◌, ◌*◌, List, [], ◌∷◌, ◌++◌, Option, Some, None, codes, decimal, flat_map}
+use Rattle.std.specs.Prelude.{ℕ, zero, suc, ◌+◌, ◌*◌, List, [], ◌∷◌, ◌++◌, Option, Some, None, codes, decimal, flat_map, nat_lt, if◌then◌else◌}
 use Rattle.std.specs.List.{concat}
 use Rattle.bpf_c.specs.Statements.{alu_text, neg_text, extension_text, swap_text, wide_text, load_text, store_text, atomic_text}
 use Rattle.bpf_c.specs.Parts.{part_count, part_length, jump_text, branch_text, call_text, entrance_text}
@@ -67,10 +67,14 @@ entrances_text p part = each (way_in_text p part) (slots p.list)
 abbrev pub part_lines_text : List ℕ → Instructions → ℕ → List ℕ
 part_lines_text name p part = lines_text name p (part * PART_SLOTS) (part_length (slots p.list) part)
 
+-- how the function of a part begins, where there are so many: of several none is taken into another
+abbrev pub part_word : ℕ → List ℕ
+part_word count = if nat_lt 1 count then codes "BPF_PART uint32_t " else codes "static uint32_t "
+
 -- the function of a part
 abbrev pub part_text : List ℕ → Instructions → ℕ → List ℕ
 part_text name p part =
-    concat (codes "static uint32_t " ∷ name ∷ codes "_part_" ∷ decimal part ∷ ENTER.now ∷ entrances_text p part ∷ ENTERED.now
+    concat (part_word (part_count p) ∷ name ∷ codes "_part_" ∷ decimal part ∷ ENTER.now ∷ entrances_text p part ∷ ENTERED.now
     ∷ part_lines_text name p part ∷ GO_ON.now ∷ decimal (part + 1) ∷ LEAVE.now ∷ [])
 
 abbrev pub parts_text : List ℕ → Instructions → List ℕ

@@ -2,7 +2,7 @@
 
 /// The lines. None of them has behaviour that C11 leaves undefined, on whatever registers and constants; what a load or a store is
 /// asked to touch is the program's own doing. Signed numbers are nowhere shifted, converted or made to overflow.
-pub const OPERATIONS: [&str; 199] = [
+pub const OPERATIONS: [&str; 208] = [
     "#ifndef BPF_OPERATIONS_1\n",
     "#define BPF_OPERATIONS_1\n",
     "#include <stdint.h>\n",
@@ -200,6 +200,15 @@ pub const OPERATIONS: [&str; 199] = [
     "#define bpf_leave(to, from) do { *site = from; part = to; goto leave; } while (0)\n",
     "#define bpf_call(function, to, from) r0 = function(to, from, r1, r2, r3, r4, r5)\n",
     "#define bpf_exit() do { r[0] = r0; return 64; } while (0)\n",
+    "#endif\n",
+    "\n",
+    "/* A part of a program that has several. It stays a function, since a compiler's time grows faster than a function does. */\n",
+    "#ifndef BPF_PART\n",
+    "#if defined(__GNUC__)\n",
+    "#define BPF_PART static __attribute__((noinline))\n",
+    "#else\n",
+    "#define BPF_PART static\n",
+    "#endif\n",
     "#endif\n",
     "\n",
 ];

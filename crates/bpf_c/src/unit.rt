@@ -5,7 +5,7 @@ ghost use Rattle.std.specs.Io.KnownBytes.{Appends};
 ghost use Rattle.bpf_insn.specs.Limits.{max_slots};
 ghost use Rattle.bpf_insn.specs.Written.{AppendsBeginning};
 ghost use Rattle.bpf_c.specs.Parts.{part_count, part_length};
-ghost use Rattle.bpf_c.specs.Unit.{operations_text, define_text, defines_text, declarations_text, part_lines_text, part_text, parts_text, case_text, cases_text, frame_text, host_text, unit_text};
+ghost use Rattle.bpf_c.specs.Unit.{operations_text, define_text, defines_text, declarations_text, part_lines_text, part_word, part_text, parts_text, case_text, cases_text, frame_text, host_text, unit_text};
 ghost use Rattle.bpf_c.specs.code.Says.{Says};
 
 use crate::body::{put_entrances, put_lines};
@@ -116,12 +116,24 @@ fn put_part_lines<C: Code, W: Write>(
     put_lines(page, out, name, program, part * PART_SLOTS, count);
 }
 
+/// How the function of a part begins. Where a program has several, no compiler is to take one into another.
+fn part_word<C: Code>(program: &C) -> &'static str
+    ensures { result.now ≡ part_word (part_count (C.program program.now)) }
+{
+    if part_count(program) > 1 {
+        "BPF_PART uint32_t "
+    } else {
+        "static uint32_t "
+    }
+}
+
+/// The function of a part.
 fn put_part<C: Code, W: Write>(page: &mut Page, out: &mut W, name: &str, program: &C, part: u32)
     requires inside { part < part_count (C.program program.now) }
     requires few { part < 64 }
     ensures { Says (W.contents out.old) page.old (part_text name.now (C.program program.now) part) (W.contents out.new) page.new }
 {
-    page.put(out, "static uint32_t ");
+    page.put(out, part_word(program));
     page.put(out, name);
     page.put(out, "_part_");
     page.number(out, part);
