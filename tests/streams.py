@@ -1,13 +1,15 @@
 """streams.py BPF EXAMPLES SHIM: the command where a stream takes so many bytes and then fails, and what it shows on a terminal.
 
 Where standard output takes so many bytes, 7 a write, what goes out is a beginning of the whole text: of each command that prints it is
-tried with each length, of long texts and a long image at the edges of their pieces. Where it fails, that is told on standard error;
+tried with each length, of long texts, a long image and many answers at the edges of their pieces. Where it fails, that is told on standard error;
 where that fails as well, the status is all that is left. A context on the command line has up to 4,096 bytes.
+Contexts that come line by line are answered before another one is waited for, in whatever pieces they come.
 A deep search shows its line on a terminal by a clock that goes on at each look, and shows nothing elsewhere."""
 import errno
 import os
 import pathlib
 import re
+import select
 import subprocess
 import sys
 import tempfile
@@ -36,6 +38,7 @@ FILES = {
     'refused.img': b'\xb7\x10\0\0\0\0\0\0',
     'refused.asm': b'r0 = 0\nr1 = r11\n',
     'refused.cert': b'bpfcert 3 0 2\n',
+    'many': b'none\n\n' * 1_000,
 }
 # the words, and the status where nothing fails
 CALLS = [
@@ -66,7 +69,11 @@ LINES = [
     ('explain smallest.img', b'an image of 2 slots\n'),
     ('run smallest.img none --steps 2', b'done 0 steps 2\n'),
 ]
-LONG_CALLS = ['explain long.img long.cert', 'explain long.img long.cert --dot', 'list long.img', 'asm long.asm -']
+LONG_CALLS = ['explain long.img long.cert', 'explain long.img long.cert --dot', 'list long.img', 'asm long.asm -',
+              'run-checked smallest.img smallest.cert --contexts many', 'run smallest.img --contexts many --steps 9']
+# what comes on standard input, piece by piece, and how many answers are out before the next piece is there
+PIECES = [(b'none\n', 1), (b'no', 0), (b'ne\nnone\n\n', 3), (b'none\n' * 2_000 + b'n', 2_000), (b'one', 0)]
+IN_TURN = [('run-checked smallest.img smallest.cert --contexts -', b'done 0\n'), ('run smallest.img --contexts - --steps 9', b'done 0 steps 2\n')]
 # the words, the status, and the one where standard error fails
 SILENT = [('groups nowhere', 3, 3), ('run smallest.img zz --steps 9', 2, 3), ('groups', 2, 2)]
 # the context, the status, and what is said on the two streams
@@ -148,6 +155,29 @@ def try_silent():
 def try_contexts():
     for context, *right in CONTEXTS:
         require(f'run with a context of {len(context)} digits', answer(f'run last-byte.img {context} --steps 9'), tuple(right))
+
+
+def take(stream, count):
+    """So many bytes of a stream; fewer where no more come for ten seconds."""
+    got = b''
+    while len(got) < count and select.select([stream], [], [], 10)[0]:
+        piece = os.read(stream.fileno(), count - len(got))
+        if not piece:
+            break
+        got += piece
+    return got
+
+
+def try_in_turn():
+    """Each answer is out before another line is waited for; the last line is answered at the end."""
+    for words, said in IN_TURN:
+        with subprocess.Popen([BPF, *words.split()], stdin=subprocess.PIPE, stdout=subprocess.PIPE, bufsize=0) as child:
+            for piece, count in PIECES:
+                child.stdin.write(piece)
+                require(f'{words}: answers to {piece[:20]}', take(child.stdout, count * len(said)), count * said)
+            child.stdin.close()
+            require(f'{words}: the last answer', child.stdout.read(), said)
+        require(words, child.returncode, 0)
 
 
 # ---- the line on a terminal
@@ -233,6 +263,7 @@ def try_all():
     make_files()
     try_silent()
     try_contexts()
+    try_in_turn()
     looks = try_terminal()
     rooms = all_rooms()
     with ThreadPoolExecutor(os.cpu_count()) as pool:

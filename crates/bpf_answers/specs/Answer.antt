@@ -241,7 +241,3 @@ pub record Says (answer : Answer) (status : ℕ) (old new : Option (List ℕ)) :
 -- standard output has what it had, or a beginning of an answer of which this holds
 abbrev pub Unfinished : (Answer → Type 0) → Option (List ℕ) → Option (List ℕ) → Type 0
 Unfinished says before after = Keeps before after ⊎ ((answer : Answer) × AppendsBeginning before after (text_of answer) × says answer)
-
--- an answer of which this holds was printed, with its status
-abbrev pub Answered : (Answer → Type 0) → Option (List ℕ) → Option (List ℕ) → ℕ → Type 0
-Answered says old new status = (answer : Answer) × Says answer status old new × says answer

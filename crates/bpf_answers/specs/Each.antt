@@ -1,12 +1,21 @@
 -- The answers to the contexts at a name, one a line.
 use Rattle.std.specs.Prelude.{◌≡◌, ◌⊎◌, ◌++◌, ℕ, List, [], ◌∷◌, Option, Some, None, IfSome}
 use Rattle.std.specs.Io.KnownBytes.{Appends, Keeps}
+use Rattle.bpf_insn.specs.Written.{AppendsBeginning, Gathers}
 use Rattle.bpf_places.specs.Opened.{Opening}
-use Rattle.bpf_answers.specs.Answer.{Answer, Unfinished}
+use Rattle.bpf_answers.specs.Answer.{Answer, Unfinished, status_of, text_of}
 use Rattle.bpf_answers.specs.Lines.{AllAnswered, BegunLines, RefusedLine, texts_of}
 use Rattle.bpf_answers.specs.Told.{OutputFails}
 use Rattle.bpf_answers.specs.declared.failure.Failure.{Failure}
 use Rattle.bpf_answers.specs.declared.failure.Failure.TheVariants.{CannotRead, BadLine}
+
+-- an answer of which this holds was put behind what waits, with its status
+abbrev pub IsPut : (Answer → Type 0) → List ℕ → List ℕ → Option (List ℕ) → Option (List ℕ) → ℕ → Type 0
+IsPut says waits rest before after status = (answer : Answer) × (status ≡ status_of answer) × Gathers before after waits rest (text_of answer) × says answer
+
+-- of what waited and an answer of which this holds a beginning went out
+abbrev pub PutInPart : (Answer → Type 0) → List ℕ → Option (List ℕ) → Option (List ℕ) → Type 0
+PutInPart says waits before after = (answer : Answer) × AppendsBeginning before after (waits ++ text_of answer) × says answer
 
 -- What fails of lines: the reader, a line, or the output. What was answered before stands.
 abbrev pub LinesFail : (List ℕ → Answer → Type 0) → Option (List ℕ) → Option (List ℕ) → Option (List ℕ) → List ℕ → Failure → Type 0

@@ -1,8 +1,8 @@
 //! What a command answers: its status, and its text on standard output.
 
-ghost use Rattle.std.specs.Prelude.{◌≡◌, false, IfOk, IfErr, OnOk, OnErr};
+ghost use Rattle.std.specs.Prelude.{◌≡◌, ◌++◌, false, IfOk, IfErr, OnOk, OnErr};
 ghost use Rattle.std.specs.Io.KnownBytes.{Appends};
-ghost use Rattle.bpf_insn.specs.Written.{AppendsBeginning};
+ghost use Rattle.bpf_insn.specs.Written.{AppendsBeginning, Gathers};
 ghost use Rattle.bpf_answers.specs.Answer.{Says, is_written, status_of, status_of_run, text_of};
 ghost use Rattle.bpf_answers.specs.Told.{OutputFails};
 
@@ -11,7 +11,7 @@ use crate::certified::Certification;
 use crate::counted::Counted;
 use crate::failure::{DONE, Failure, REFUSED};
 use crate::lines;
-use crate::pieces::write_at;
+use crate::pieces::{put_at, write_at};
 use crate::refusal::{write_refusal, write_refusal_at};
 use bpf_cert::CertError;
 use bpf_check::Refusal;
@@ -20,6 +20,7 @@ use bpf_follows_law::Bounds;
 use bpf_follows_notes::NotesError;
 use bpf_harden_notes::HardenError;
 use bpf_infer_error::InferError;
+use bpf_insn::written::Pending;
 use bpf_insn::{DecodeError, Groups, Program};
 use bpf_machine::Outcome;
 use bpf_pcap::CaptureRefusal;
@@ -188,6 +189,22 @@ impl Answer {
             Answer::Annotates(annotated) => annotated.write(out),
             Answer::Written => Ok(()),
             Answer::WrittenFor(untouched) => write_at(out, "untouched ", u64::from(*untouched)),
+        }
+    }
+
+    /// Puts the text of the answer behind those that wait. A number with which a run ends goes out with others; for any other answer what waits
+    /// goes out first. A fault of the writer ends it; what went out is then a beginning of what waited and of the text. Takes no memory.
+    pub fn put<W: Write>(&self, pending: &mut Pending, out: &mut W) -> io::Result<()>
+        ensures ok { OnOk result (Gathers (W.contents out.old) (W.contents out.new) pending.old pending.new (text_of self.now)) }
+        ensures err { OnErr result (AppendsBeginning (W.contents out.old) (W.contents out.new) (pending.old ++ text_of self.now)) }
+    {
+        match self {
+            Answer::Ends(value) => put_at(pending, out, "done ", *value),
+            Answer::Ran(outcome) => lines::put_run(pending, out, *outcome),
+            _ => {
+                pending.flush(out)?;
+                self.write(out)
+            }
         }
     }
 }

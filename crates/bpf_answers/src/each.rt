@@ -1,19 +1,21 @@
 //! Contexts at a name, one a line, and the answer to each.
 
-ghost use Rattle.std.specs.Prelude.{◌≡◌, ◌≤◌, IfOk, IfErr, length};
+ghost use Rattle.std.specs.Prelude.{◌≡◌, ◌≤◌, IfOk, IfErr, [], length};
 ghost use Rattle.bpf_insn.specs.Limits.{max_context};
-ghost use Rattle.bpf_answers.specs.Answer.{Answered, Unfinished};
+ghost use Rattle.bpf_insn.specs.Written.{AppendsBeginning, Gathers};
 ghost use Rattle.bpf_answers.specs.Told.{OutputFails};
 ghost use Rattle.bpf_answers.specs.Lines.{AllAnswered, Spelled, Turns, max_line};
 ghost use Rattle.bpf_answers.specs.Loaded.{Tried};
-ghost use Rattle.bpf_answers.specs.Each.{AnswersAt, FailsAt, LeftAt, LinesFail, LinesLeft};
+ghost use Rattle.bpf_answers.specs.Each.{AnswersAt, FailsAt, IsPut, LeftAt, LinesFail, LinesLeft, PutInPart};
 
-use crate::answer::{Answer, print};
+use crate::answer::Answer;
 use crate::context::ContextError;
 use crate::failure::{DONE, Failure};
+use crate::held::HeldLines;
 use arrayvec::ArrayVec;
 use bpf_insn::MAX_CONTEXT;
-use bpf_lines::{LineReader, Stop};
+use bpf_insn::written::Pending;
+use bpf_lines::Stop;
 use bpf_places::{PlaceError, Places};
 use std::io::{Read, Write};
 
@@ -65,7 +67,7 @@ fn put_context(line: &[u8], buffer: &mut [u8]) -> Turn
 
 /// Takes the next line, and puts its context at the front of the buffer.
 fn next_context<R: Read + Drop>(
-    lines: &mut LineReader<R>,
+    lines: &mut HeldLines<R>,
     line: &mut ArrayVec<u8, MAX_LINE>,
     buffer: &mut [u8],
 ) -> Turn
@@ -83,23 +85,57 @@ fn next_context<R: Read + Drop>(
     }
 }
 
-/// Prints the answer to a context, and gives its status. Where that fails, standard output has at most a beginning of it.
+/// Puts the answer to a context behind those that wait, and gives its status. Where that fails, standard output has at most a beginning of them.
 fn answer_context<'a, Q: Runner, W: Write>(
+    pending: &mut Pending,
     out: &mut W,
     runner: &Q,
     context: &[u8],
 ) -> Result<u8, Failure<'a>>
     requires { length context.now ≤ max_context }
-    ensures ok { IfOk result (Answered (Q.says runner.now context.now) (W.contents out.old) (W.contents out.new)) }
+    ensures ok { IfOk result (IsPut (Q.says runner.now context.now) pending.old pending.new (W.contents out.old) (W.contents out.new)) }
     ensures err { IfErr result OutputFails }
-    ensures begun { IfErr result (λ _. Unfinished (Q.says runner.now context.now) (W.contents out.old) (W.contents out.new)) }
+    ensures begun { IfErr result (λ _. PutInPart (Q.says runner.now context.now) pending.old (W.contents out.old) (W.contents out.new)) }
 {
-    print(out, &runner.answer(context))
+    let answer = runner.answer(context);
+    match answer.put(pending, out) {
+        Ok(()) => Ok(answer.status()),
+        Err(_) => Err(Failure::CannotWrite("standard output")),
+    }
 }
 
-/// Answers each context of the lines, until one is refused.
+/// Prints the answers that wait.
+fn send<'a, W: Write>(pending: &mut Pending, out: &mut W) -> Result<(), Failure<'a>>
+    ensures ok { IfOk result (λ _. Gathers (W.contents out.old) (W.contents out.new) pending.old [] []) }
+    ensures err { IfErr result OutputFails }
+    ensures begun { IfErr result (λ _. AppendsBeginning (W.contents out.old) (W.contents out.new) pending.old) }
+    ensures none_waits { IfOk result (λ _. pending.new ≡ []) }
+{
+    match pending.flush(out) {
+        Ok(()) => Ok(()),
+        Err(_) => Err(Failure::CannotWrite("standard output")),
+    }
+}
+
+/// Prints the answers that wait, where the next line isn't there yet.
+fn send_before_a_read<'a, R: Read + Drop, W: Write>(
+    lines: &HeldLines<R>,
+    pending: &mut Pending,
+    out: &mut W,
+) -> Result<(), Failure<'a>>
+    ensures ok { IfOk result (λ _. Gathers (W.contents out.old) (W.contents out.new) pending.old pending.new []) }
+    ensures err { IfErr result OutputFails }
+    ensures begun { IfErr result (λ _. AppendsBeginning (W.contents out.old) (W.contents out.new) pending.old) }
+{
+    if lines.has_line() {
+        return Ok(());
+    }
+    send(pending, out)
+}
+
+/// Answers each context of the lines, until one is refused. Each answer is printed before a line is waited for.
 fn answer_lines<'a, R: Read + Drop, Q: Runner, W: Write>(
-    lines: &mut LineReader<R>,
+    lines: &mut HeldLines<R>,
     out: &mut W,
     runner: &Q,
     name: &'a str,
@@ -110,18 +146,27 @@ fn answer_lines<'a, R: Read + Drop, Q: Runner, W: Write>(
 {
     let mut line: ArrayVec<u8, MAX_LINE> = ArrayVec::new();
     let mut buffer = [0; MAX_CONTEXT];
+    let mut pending = Pending::new();
     let mut status = DONE;
     'answers: for before in 0..u64::MAX {
+        send_before_a_read(lines, &mut pending, out)?;
         match next_context(lines, &mut line, &mut buffer) {
             Turn::Context(count) => {
-                status = status.max(answer_context(out, runner, &buffer[..count])?);
+                status = status.max(answer_context(&mut pending, out, runner, &buffer[..count])?);
             }
-            Turn::End => return Ok(status),
+            Turn::End => {
+                send(&mut pending, out)?;
+                return Ok(status);
+            }
             Turn::Refused(error) => {
+                send(&mut pending, out)?;
                 let line = before + 1;
                 return Err(Failure::BadLine { error, line });
             }
-            Turn::Failed => return Err(Failure::CannotRead(name)),
+            Turn::Failed => {
+                send(&mut pending, out)?;
+                return Err(Failure::CannotRead(name));
+            }
         }
     }
     // No text has as many lines as that.
@@ -147,6 +192,6 @@ pub fn answered<'a, P: Places, Q: Runner, W: Write>(
         Err(PlaceError::Refused) => return Err(Failure::CannotRead(name)),
         Err(PlaceError::Memory) => return Err(Failure::NoMemory),
     };
-    let mut lines = LineReader::new(reader);
+    let mut lines = HeldLines::new(reader);
     answer_lines(&mut lines, out, runner, name)
 }

@@ -12,6 +12,7 @@ mod context;
 mod counted;
 mod each;
 mod failure;
+mod held;
 mod image;
 mod lines;
 mod notes;

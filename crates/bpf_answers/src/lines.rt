@@ -3,7 +3,7 @@
 ghost use Rattle.std.specs.Prelude.{◌≡◌, ◌++◌, OnOk, OnErr, Some, [], ◌∷◌, codes, decimal};
 ghost use Rattle.std.specs.List.{concat};
 ghost use Rattle.std.specs.Io.KnownBytes.{Appends};
-ghost use Rattle.bpf_insn.specs.Written.{AppendsBeginning};
+ghost use Rattle.bpf_insn.specs.Written.{AppendsBeginning, Gathers};
 ghost use Rattle.bpf_answers.specs.Answer.{capture_line, certified_line, follows_end, follows_line, groups_line, infer_refusal_line, no_context_line, padded_word, proved_end, run_line, text_of, text_refusal_line, work_line, yes_line};
 ghost use Rattle.bpf_answers.specs.declared.answer.Answer.TheVariants.{Yes};
 ghost use Rattle.bpf_text.specs.declared.error.TextError.TheVariants.{Program as InProgram};
@@ -11,10 +11,10 @@ ghost use Rattle.bpf_infer_error.specs.declared.error.InferError.TheVariants.{Fa
 
 use crate::certified::{Certification, Rewriting};
 use crate::counted::Counted;
-use crate::pieces::{write_at, write_pieces};
+use crate::pieces::{put_pieces, write_at, write_pieces};
 use bpf_follows_law::Bounds;
 use bpf_infer_error::{Condition, InferError};
-use bpf_insn::written::write_bytes;
+use bpf_insn::written::{Pending, write_bytes};
 use bpf_insn::{BuildError, Groups};
 use bpf_machine::Outcome;
 use bpf_pcap::CaptureRefusal;
@@ -332,10 +332,10 @@ pub fn write_no_context<W: Write>(
     }
 }
 
-/// How a run ended: `done 0 steps 23`, `fault F1 at slot 2 steps 4`, `out of fuel`.
-pub fn write_run<W: Write>(out: &mut W, outcome: Outcome) -> io::Result<()>
-    ensures ok { OnOk result (Appends (W.contents out.old) (W.contents out.new) (run_line outcome)) }
-    ensures err { OnErr result (AppendsBeginning (W.contents out.old) (W.contents out.new) (run_line outcome)) }
+/// Puts how a run ended behind what waits: `done 0 steps 23`, `fault F1 at slot 2 steps 4`, `out of fuel`.
+pub fn put_run<W: Write>(pending: &mut Pending, out: &mut W, outcome: Outcome) -> io::Result<()>
+    ensures ok { OnOk result (Gathers (W.contents out.old) (W.contents out.new) pending.old pending.new (run_line outcome)) }
+    ensures err { OnErr result (AppendsBeginning (W.contents out.old) (W.contents out.new) (pending.old ++ run_line outcome)) }
 {
     let mut first = Buffer::new();
     let mut second = Buffer::new();
@@ -344,7 +344,7 @@ pub fn write_run<W: Write>(out: &mut W, outcome: Outcome) -> io::Result<()>
         Outcome::Done { value, steps } => {
             let value = first.format(value);
             let steps = second.format(steps);
-            write_pieces(out, &["done ", value, " steps ", steps, "\n"])
+            put_pieces(pending, out, &["done ", value, " steps ", steps, "\n"])
         }
         Outcome::Fault {
             slot,
@@ -354,13 +354,24 @@ pub fn write_run<W: Write>(out: &mut W, outcome: Outcome) -> io::Result<()>
             let number = first.format(reason.number());
             let slot = second.format(slot);
             let steps = third.format(steps);
-            write_pieces(
+            put_pieces(
+                pending,
                 out,
                 &["fault F", number, " at slot ", slot, " steps ", steps, "\n"],
             )
         }
-        Outcome::OutOfFuel => write_bytes(out, "out of fuel\n".as_bytes()),
+        Outcome::OutOfFuel => pending.put(out, "out of fuel\n".as_bytes()),
     }
+}
+
+/// Writes how a run ended.
+pub fn write_run<W: Write>(out: &mut W, outcome: Outcome) -> io::Result<()>
+    ensures ok { OnOk result (Appends (W.contents out.old) (W.contents out.new) (run_line outcome)) }
+    ensures err { OnErr result (AppendsBeginning (W.contents out.old) (W.contents out.new) (run_line outcome)) }
+{
+    let mut pending = Pending::new();
+    put_run(&mut pending, out, outcome)?;
+    pending.flush(out)
 }
 
 /// The names of groups in their order, joined by a space.
