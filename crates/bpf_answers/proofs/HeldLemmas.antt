@@ -35,6 +35,7 @@ line_taken old r buffer line at end k inside same parts = subst (λ o. Consumes 
     left =
         let whole : end - at ≡ (k + 1) + (end - (at + (k + 1))) = omega arith in
         ap (λ n. drop (k + 1) (take n (drop at buffer))) whole ∙ drop-take (k + 1) (end - (at + (k + 1))) (drop at buffer) ∙ ap (take (end - (at + (k + 1)))) (drop-drop (k + 1) at buffer)
+
     taken : (r : Option (List ℕ)) → Consumes (unread r buffer at end) (unread r buffer (at + (k + 1)) end) (line ++ 10 ∷ [])
     taken None = tt
     taken (Some ys) =

@@ -280,7 +280,7 @@ cut (a ∷ answers) begun left e = behind (either (text_of a) (texts_of answers)
           first = a ∷ h.first;
           rest = h.rest;
           part = h.part;
-          whole = ap (λ as. a ∷ as) h.whole;
+          whole = ap (λ more. a ∷ more) h.whole;
           begun_is = is ∙ ap (λ t. text_of a ++ t) h.begun_is ∙ sym (append_assoc (text_of a) (texts_of h.first) h.part);
           next = h.next;
         }
