@@ -85,6 +85,25 @@ CONVERTERS = {
     "a word is taken for its neighbour": ["bpf_classic/auxiliary_at-exchanges-tag-and-presence", "bpf_convert/word_insn-reads-a-word-too-early"],
 }
 
+# The mistakes of checkers of notes on plain addresses.
+PLAIN = {
+    "an offset that may be below 0 is compared without its sign": ["bpf_kept/turned_test-compares-offsets-without-their-sign"],
+    "the low half of a pointer is taken for a number": ["bpf_kept/low_result-takes-a-low-half-for-a-number"],
+    "the high half is taken for the low one": ["bpf_kept/is_high-takes-the-high-half-for-the-low"],
+    "where the context lies is forgotten in a difference": ["bpf_kept/minus-forgets-where-the-context-is"],
+    "two pointers are added": ["bpf_kept/sum_base-adds-two-pointers"],
+    "a number is guarded as an offset": ["bpf_kept/of_context-guards-a-number"],
+    "a guard lets a store into another frame": ["bpf_kept/is_tested_by-lets-a-store-into-another-frame"],
+    "a range test leads to a trap though no access follows": ["bpf_kept/is_ahead-takes-the-end-for-an-access", "bpf_kept/are_accessed-guards-what-no-access-ends-at"],
+    "an offset into the frame is taken for a pointer": ["bpf_kept/is_made_good-takes-an-offset-into-the-frame-for-a-pointer"],
+    "what is known by an overwritten register is kept": ["bpf_kept/put_gives-keeps-what-is-overwritten"],
+    "a trap's exit stands for an old one": ["bpf_kept/is_kept-takes-the-exit-of-a-trap-for-an-old-one"],
+    "the new program alone stores": ["bpf_kept/extra-lets-a-store-of-the-new-program-alone"],
+    "an edge leads elsewhere": ["bpf_kept/suits-takes-any-old-slot", "bpf_kept/leads-needs-no-target"],
+    "the start asks for nothing": ["bpf_kept/matches-takes-any-start", "bpf_kept/all_hold-leaves-the-first-slot-out"],
+    "a certificate is of another length": ["bpf_kept/is_for-takes-a-certificate-of-another-length"],
+}
+
 # Each command, as bpf_words names it, and each call of the library for hosts, as bpf.h does.
 COMMANDS = {
     "asm": ["bpf_command_core/asm-empties-OUT-and-says-no-memory"],
@@ -254,7 +273,7 @@ def edits():
 
 def faults_of_lists(names):
     """What is wrong with the lists above, where these edits are there."""
-    listed = {name: why for table in (KNOWN, CONVERTERS, COMMANDS, CALLS) for why, them in table.items() for name in them}
+    listed = {name: why for table in (KNOWN, CONVERTERS, PLAIN, COMMANDS, CALLS) for why, them in table.items() for name in them}
     faults = [f"{name} is gone, and was tried for: {why}" for name, why in listed.items() if name not in names]
     header = set(re.findall(r"\b(bpf_host_\w+)\(", (ROOT / "include" / "bpf.h").read_text(encoding="utf-8")))
     for what, there, told in [("call of bpf.h", header, {*CALLS, *WITHOUT}), ("command", commands(), {*COMMANDS})]:

@@ -1,0 +1,9 @@
+mod InsideLemmas
+mod ReadLemmas
+mod AheadLemmas
+mod StandLemmas
+mod FaultLemmas
+mod ShownLemmas
+mod NumberLemmas
+mod RuleLemmas
+mod Further

@@ -1,0 +1,40 @@
+-- Numbers of the rules, as the code has them.
+use Rattle.std.proofs.Common.{ℕ, ◌<◌, ◌^◌, arith}
+use Rattle.std.specs.Prelude.{ℤ, pos, negsuc, ◌+ℤ◌, ◌-ℤ◌, ◌≤ℤ◌, FitsSigned}
+use Rattle.std.specs.Int.{w16, w64, w128}
+use Rattle.std.proofs.lemmas.Int.{ints}
+
+-- ---- numbers of 16, 32 and 64 bits, in 128
+
+near_16 : (z : ℤ) → FitsSigned w16 z → (negsuc (2 ^ 15) ≤ℤ z) × (z ≤ℤ pos (2 ^ 15))
+near_16 (pos n) f = let k = f.sfits in (omega (arith, ints), omega (arith, ints))
+near_16 (negsuc n) f = let k = f.sfits in (omega (arith, ints), omega (arith, ints))
+
+near_64 : (z : ℤ) → FitsSigned w64 z → (negsuc (2 ^ 63) ≤ℤ z) × (z ≤ℤ pos (2 ^ 63))
+near_64 (pos n) f = let k = f.sfits in (omega (arith, ints), omega (arith, ints))
+near_64 (negsuc n) f = let k = f.sfits in (omega (arith, ints), omega (arith, ints))
+
+fits_128 : (z : ℤ) → negsuc (2 ^ 100) ≤ℤ z → z ≤ℤ pos (2 ^ 100) → FitsSigned w128 z
+fits_128 (pos n) l m = record { sfits = omega (arith, ints) }
+fits_128 (negsuc n) l m = record { sfits = omega (arith, ints) }
+
+pub end_fits : (off : ℤ) (n : ℕ) → FitsSigned w16 off → n < 2 ^ 8 → FitsSigned w128 (off +ℤ pos n)
+end_fits off n fits small =
+    let h = near_16 off fits in
+    let low = h.0 in
+    let high = h.1 in
+    fits_128 (off +ℤ pos n) (omega (arith, ints)) (omega (arith, ints))
+
+pub moved_fits : (size : ℕ) (z : ℤ) → size < 2 ^ 32 → FitsSigned w64 z → FitsSigned w128 (pos size +ℤ z)
+moved_fits size z small fits =
+    let h = near_64 z fits in
+    let low = h.0 in
+    let high = h.1 in
+    fits_128 (pos size +ℤ z) (omega (arith, ints)) (omega (arith, ints))
+
+pub needed_fits : (size limit : ℕ) (z : ℤ) → size < 2 ^ 32 → limit < 2 ^ 64 → FitsSigned w64 z → FitsSigned w128 ((pos size +ℤ z) -ℤ pos limit)
+needed_fits size limit z small most fits =
+    let h = near_64 z fits in
+    let low = h.0 in
+    let high = h.1 in
+    fits_128 ((pos size +ℤ z) -ℤ pos limit) (omega (arith, ints)) (omega (arith, ints))

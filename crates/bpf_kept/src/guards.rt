@@ -1,0 +1,212 @@
+//! Guards: extra tests that never lead to their trap, since an access of the old program surely follows.
+
+ghost use Rattle.std.specs.Prelude.{◌≡◌, ◌==◌, ◌+◌, ◌%◌, pos, ◌+ℤ◌, ◌-ℤ◌, false};
+ghost use Rattle.std.specs.Option.{option_map_or};
+ghost use Rattle.bpf_insn.specs.Arithmetic.{extended};
+ghost use Rattle.bpf_insn.specs.Effects.{register_written};
+ghost use Rattle.bpf_insn.specs.Instruction.{byte_count, register_number};
+ghost use Rattle.std.specs.Int.{cast_signed, w64};
+ghost use Rattle.std.specs.List.{list_any};
+ghost use Rattle.bpf_semantics.specs.Flat.{addresses};
+ghost use Rattle.bpf_kept_law.specs.Far.{middle};
+ghost use Rattle.bpf_kept.specs.Fronts.{front};
+ghost use Rattle.bpf_kept_law.specs.Guards.{if_by, accesses_by, is_passed, is_met, is_ahead, are_accessed, is_tested_by, is_tested, guarded, passes};
+
+use crate::code::insn_at;
+use crate::facts::{is_register, same_register};
+use crate::terms::MIDDLE;
+use bpf_insn::{Access, Code, Cond, FRAME_BYTES, Insn, Operand, Reg, Size, Width, extended};
+use bpf_kept_law::{Fact, Need, Term};
+
+/// How many instructions are looked at.
+const FARTHEST_AHEAD: u32 = 33;
+
+/// In front of which old instruction a guard stands, and how many bytes a context has.
+#[derive(Clone, Copy)]
+pub struct GuardSite {
+    pub slot: u32,
+    pub length: u32,
+}
+
+// ---- accesses that surely follow
+
+/// Where an access ends.
+fn end_of(off: i16, size: Size) -> i128
+    ensures { result ≡ (off +ℤ pos (byte_count size)) }
+{
+    i128::from(off) + i128::from(size.bytes())
+}
+
+/// Whether an access is as a guard needs it.
+fn is_met(need: Need, access: Access) -> bool
+    ensures { result ≡ is_met need access }
+{
+    match need {
+        Need::Below { offset } => i64::from(access.off) <= offset,
+        Need::Above { offset } => offset <= end_of(access.off, access.size),
+    }
+}
+
+/// Whether it is, and goes by a register.
+fn is_met_by(r: Reg, need: Need, access: Access) -> bool
+    ensures { result ≡ list_any (is_met need) (if_by r access) }
+{
+    same_register(access.base, r) && is_met(need, access)
+}
+
+/// Whether an instruction makes such an access by a register.
+fn meets(insn: &Insn, r: Reg, need: Need) -> bool
+    ensures { result ≡ list_any (is_met need) (accesses_by r insn.now) }
+{
+    match insn.access() {
+        Some(access) => is_met_by(r, need, access),
+        None => false,
+    }
+}
+
+/// Whether an instruction writes the register.
+fn writes(insn: &Insn, r: Reg) -> bool
+    ensures { result ≡ option_map_or (λ w. register_number w == register_number r) (register_written insn.now) false }
+{
+    match insn.register_written() {
+        Some(written) => same_register(written, r),
+        None => false,
+    }
+}
+
+/// Whether the instruction behind surely follows, with the same in the register.
+fn is_passed(insn: &Insn, r: Reg) -> bool
+    ensures { result ≡ is_passed r insn.now }
+{
+    insn.is_straight() && !writes(insn, r)
+}
+
+/// Whether such an access surely follows from a slot on.
+fn is_ahead<C: Code>(old: &C, slot: u32, r: Reg, need: Need) -> bool
+    ensures { result ≡ is_ahead (C.program old.now) r slot need }
+{
+    let mut slot = slot;
+    let mut left = FARTHEST_AHEAD;
+    'ahead: while left > 0 {
+        left -= 1;
+        let insn = match insn_at(old, slot) {
+            Some(insn) => insn,
+            None => return false,
+        };
+        if meets(&insn, r, need) {
+            return true;
+        }
+        if !is_passed(&insn, r) {
+            return false;
+        }
+        slot += insn.slots();
+    }
+    false
+}
+
+// ---- the rule
+
+/// Where an access has to end, so that a number passes that is moved so from its offset.
+fn needed_end(size: u32, moved: i64, limit: u64) -> i128
+    ensures { result ≡ ((pos size +ℤ moved) -ℤ pos limit) }
+{
+    i128::from(size) + i128::from(moved) - i128::from(limit)
+}
+
+/// What a guard tests: a number by how much a pointer's offset is moved, in a region of so many bytes, and the greatest that passes.
+#[derive(Clone, Copy)]
+struct Tested {
+    size: u32,
+    limit: u64,
+    moved: i64,
+}
+
+/// Whether accesses follow that keep the number within the limit.
+fn are_accessed<C: Code>(old: &C, site: GuardSite, tested: Tested, r: Reg) -> bool
+    ensures { result ≡ are_accessed (front (C.program old.now) site.slot site.length) tested.size tested.limit tested.moved r }
+{
+    let below = Need::Below {
+        offset: tested.moved,
+    };
+    let above = Need::Above {
+        offset: needed_end(tested.size, tested.moved, tested.limit),
+    };
+    is_ahead(old, site.slot, r, below) && is_ahead(old, site.slot, r, above)
+}
+
+/// An offset into the context, with its sign.
+fn of_context(moved: u64) -> i64
+    ensures { result ≡ cast_signed w64 ((moved + middle) % addresses) }
+{
+    moved.wrapping_add(MIDDLE).cast_signed()
+}
+
+/// An offset into the frame, with its sign.
+fn of_frame(moved: u64) -> i64
+    ensures { result ≡ cast_signed w64 (moved % addresses) }
+{
+    moved.cast_signed()
+}
+
+/// Whether a number passes that is so far from a pointer of the old program.
+fn is_tested_by<C: Code>(old: &C, site: GuardSite, limit: u64, t: Term, r: Reg) -> bool
+    ensures { result ≡ is_tested_by (front (C.program old.now) site.slot site.length) limit t r }
+{
+    let context = Tested {
+        size: site.length,
+        limit,
+        moved: of_context(t.moved),
+    };
+    let frame = Tested {
+        size: FRAME_BYTES as u32,
+        limit,
+        moved: of_frame(t.moved),
+    };
+    (t.frames == 0 && are_accessed(old, site, context, r))
+        || (t.frames == 1 && are_accessed(old, site, frame, r))
+}
+
+/// Whether a number passes of which a fact is known.
+fn is_tested<C: Code>(old: &C, site: GuardSite, limit: u64, fact: Fact) -> bool
+    ensures { result ≡ is_tested (front (C.program old.now) site.slot site.length) limit fact }
+{
+    match (fact.by, fact.base) {
+        (Some(t), Some(r)) => is_tested_by(old, site, limit, t, r),
+        _ => false,
+    }
+}
+
+/// Whether a register passes by a fact of it.
+fn guarded<C: Code>(old: &C, site: GuardSite, dst: Reg, limit: u64, fact: Fact) -> bool
+    ensures { result ≡ guarded (front (C.program old.now) site.slot site.length) dst limit fact }
+{
+    is_register(dst, fact.of) && is_tested(old, site, limit, fact)
+}
+
+/// Whether a register is known to be no greater than a constant.
+fn is_below<C: Code>(old: &C, site: GuardSite, facts: &[Fact], dst: Reg, imm: i32) -> bool
+    ensures { result ≡ list_any (guarded (front (C.program old.now) site.slot site.length) dst (extended imm)) facts.now }
+{
+    let limit = extended(imm);
+    facts
+        .iter()
+        .any(|fact| guarded(old, site, dst, limit, *fact))
+}
+
+/// Whether an instruction is a guard that passes.
+#[tactic(auto, unfolding(bpf_kept_law::specs::Guards::passes))]
+pub fn passes<C: Code>(old: &C, site: GuardSite, facts: &[Fact], insn: &Insn) -> bool
+    ensures { result ≡ passes (front (C.program old.now) site.slot site.length) facts.now insn.now }
+{
+    let Insn::JumpIf {
+        cond: Cond::Gt,
+        width: Width::W64,
+        dst,
+        src: Operand::Imm(imm),
+        off: _off,
+    } = *insn
+    else {
+        return false;
+    };
+    is_below(old, site, facts, dst, imm)
+}

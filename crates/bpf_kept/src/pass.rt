@@ -1,0 +1,137 @@
+//! Whether a new program keeps the meaning of an old one on plain addresses: a pass over the new program's slots decides whether the notes are a
+//! simulation relation (Milner), and the law says what that means for runs.
+
+ghost use Rattle.std.specs.Prelude.{◌≡◌, ◌↔◌, ◌≤◌, ℕ, IsOk, IfErr, IsTrue, length as list_length};
+ghost use Rattle.bpf_insn.specs.Limits.{max_slots};
+ghost use Rattle.bpf_kept_law.specs.declared.notes.Change.TheVariants.{Kept};
+ghost use Rattle.bpf_safety.specs.Certified.{Certified};
+ghost use Rattle.bpf_kept_law.specs.Meaning.{NeverStuck};
+ghost use Rattle.bpf_kept_law.specs.Matching.{most_at_start, start_facts, arrives, HoldsAt, Matches};
+ghost use Rattle.bpf_kept.specs.Shown.{Keeps};
+ghost use Rattle.bpf_kept.specs.NoteFaults.{IsFor, IsNoteFault, IsFaultBeside, IsLowest, IsAt};
+
+use crate::edges::{Arrival, arrives, start_facts};
+use crate::note_fault::NoteFault;
+use crate::stands::{NewSlot, holds_at};
+use bpf_cert::Certificate;
+use bpf_insn::{Code, Order};
+use bpf_kept_law::{
+    Change, Note, certified_keeps_flat_meaning, flat_meaning_is_exact, flat_meaning_is_far,
+    matching_keeps_flat_meaning,
+};
+
+/// The greatest number of extra instructions at the start.
+const MOST_AT_START: u32 = 256;
+
+/// Whether what is noted of each new slot holds. The lowest slot where it doesn't is told.
+fn all_hold<O: Code, N: Code>(
+    old: &O,
+    new: &N,
+    notes: &[Option<Note>],
+    length: u32,
+) -> Result<(), NoteFault>
+    requires few { list_length notes.now ≤ max_slots }
+    ensures exact { IsOk result ↔ ((slot : ℕ) → HoldsAt (O.program old.now) (N.program new.now) notes.now length slot) }
+    ensures err { IfErr result (IsAt (IsLowest (O.program old.now) (N.program new.now) notes.now length)) }
+{
+    for slot in 0..notes.len() as u32 {
+        if !holds_at(old, new, notes, NewSlot { slot, length }) {
+            return Err(NoteFault::At { slot });
+        }
+    }
+    Ok(())
+}
+
+/// Whether two byte orders are the same.
+fn same_order(a: Order, b: Order) -> bool
+    ensures { IsTrue result ↔ (a ≡ b) }
+{
+    a == b
+}
+
+/// Whether what is noted of the first slot asks for no more than what holds at the start.
+fn starts(notes: &[Option<Note>]) -> bool
+    ensures { result ≡ arrives notes.now start_facts Kept 0 most_at_start 0 }
+{
+    let arrival = Arrival {
+        slot: 0,
+        most: MOST_AT_START,
+        new_slot: 0,
+    };
+    arrives(notes, &start_facts(), Change::Kept, arrival)
+}
+
+/// Whether the notes match.
+fn matches<O: Code, N: Code>(
+    old: &O,
+    new: &N,
+    notes: &[Option<Note>],
+    length: u32,
+) -> Result<(), NoteFault>
+    ensures exact { IsOk result ↔ Matches (O.program old.now) (N.program new.now) notes.now length }
+    ensures err { IfErr result (IsNoteFault (O.program old.now) (N.program new.now) notes.now length) }
+{
+    if !same_order(new.order(), old.order()) {
+        return Err(NoteFault::Order);
+    }
+    if notes.len() > new.slots() as usize {
+        return Err(NoteFault::TooMany);
+    }
+    if !starts(notes) {
+        return Err(NoteFault::Start);
+    }
+    all_hold(old, new, notes, length)
+}
+
+/// Whether the new program is shown to keep the meaning of the old one, which is one function: on each context of so many bytes on which the old
+/// one ends with a number on plain addresses, with frames near and wide, the new one ends with that number, if it is never stuck. So it is wherever
+/// memory lies far, and on the exact machine. The notes, one for each slot of the new program that is used, are looked at and not trusted. It takes
+/// one pass, and no memory. Else it is told what fails first.
+pub fn follows<O: Code, N: Code>(
+    old: &O,
+    new: &N,
+    notes: &[Option<Note>],
+    length: u32,
+) -> Result<(), NoteFault>
+    ensures keeps { IsOk result → NeverStuck (N.program new.now) length → Keeps (O.program old.now) (N.program new.now) notes.now length }
+    ensures exact { IsOk result ↔ Matches (O.program old.now) (N.program new.now) notes.now length }
+    ensures err { IfErr result (IsNoteFault (O.program old.now) (N.program new.now) notes.now length) }
+{
+    let _slots = old.slots();
+    let _new_slots = new.slots();
+    matching_keeps_flat_meaning();
+    flat_meaning_is_far();
+    flat_meaning_is_exact();
+    matches(old, new, notes, length)
+}
+
+/// Whether a certificate is for contexts of so many bytes.
+fn is_for(certificate: &Certificate, length: u32) -> bool
+    ensures { IsTrue result ↔ IsFor certificate.now length }
+{
+    certificate.least() <= length && length <= certificate.most()
+}
+
+/// The same of a new program with a certificate for contexts of so many bytes: where that certifies it, it is never stuck.
+pub fn follows_certified<O: Code, N: Code>(
+    old: &O,
+    new: &N,
+    notes: &[Option<Note>],
+    certificate: &Certificate,
+    length: u32,
+) -> Result<(), NoteFault>
+    ensures keeps { IsOk result → Certified (N.program new.now) certificate.now → Keeps (O.program old.now) (N.program new.now) notes.now length }
+    ensures exact { IsOk result ↔ (IsFor certificate.now length × Matches (O.program old.now) (N.program new.now) notes.now length) }
+    ensures err { IfErr result (IsFaultBeside certificate.now (O.program old.now) (N.program new.now) notes.now length) }
+{
+    certificate.valid();
+    let _slots = old.slots();
+    let _new_slots = new.slots();
+    certified_keeps_flat_meaning();
+    flat_meaning_is_far();
+    flat_meaning_is_exact();
+    if !is_for(certificate, length) {
+        return Err(NoteFault::Length);
+    }
+    matches(old, new, notes, length)
+}
