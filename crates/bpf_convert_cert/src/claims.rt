@@ -1,152 +1,135 @@
-//! The certificate by templates: the same state at each label but for what the instruction there has set, and the longest way as its
-//! budget, with one more turn for each that is left.
+//! The certificate by templates: a label at each leader of a block, with what is known there, and the longest way as its budget, with one
+//! more turn for each that is left.
 
-use crate::flow::{labelled, longest_turn, longest_ways, mark};
-use crate::states::{at_start, in_entry, in_template};
+ghost use Rattle.std.specs.Prelude.{◌≡◌, ◌&&◌, false, map, get_or, IfOk, IfErr};
+ghost use Rattle.bpf_insn.specs.Image.{IsProgram};
+ghost use Rattle.bpf_cert.specs.Limits.{IsCertificate};
+ghost use Rattle.bpf_cert.specs.View.{label_view};
+ghost use Rattle.bpf_cert.specs.declared.error.CertError.TheVariants.{Memory};
+ghost use Rattle.bpf_convert_cert.specs.Survey.{IsFound};
+ghost use Rattle.bpf_convert_cert.specs.Parts.{opens};
+ghost use Rattle.bpf_convert_cert.specs.Claim.{IsConversion, base_at, terms_at, turn_terms, label_in, labels_of, claim};
+
+use crate::found::Survey;
+use crate::parts::{Stretch, begun, opens, part_at};
+use crate::states::known_at;
 use arrayvec::ArrayVec;
 use bpf_cert::{Budget, CertError, Certificate, Function, Label, Measure, Place, Term};
-use bpf_classic::Classic;
-use bpf_convert::Converted;
-use bpf_insn::Reg;
+use bpf_convert::{Converted, Layout};
+use bpf_insn::{Code, Reg};
 use bpf_num::{Num, WordDomain};
-use bpf_state::State;
 use std::alloc::Global;
 
-/// The last instruction whose template begins at the slot or in front of it, among those from `at` on.
-fn template_at(starts: &[u16], at: usize, slot: u32) -> usize {
-    let mut last = at;
-    while last < starts.len() && u32::from(starts[last]) <= slot {
-        last += 1;
-    }
-    last
-}
-
-/// Whether the exit that answers 0 stands at a slot.
-fn is_trap(converted: &Converted, slot: u32) -> bool {
-    converted.layout().trap && slot.saturating_add(2) == converted.program().slots()
-}
-
-/// What is known at a slot; the templates of so many instructions begin there or in front of it.
-fn state_at(converted: &Converted, begun: usize, slot: u32) -> State {
-    let layout = converted.layout();
-    if is_trap(converted, slot) {
-        return State::blank();
-    }
-    if begun == 0 {
-        return in_entry(layout, slot);
-    }
-    match converted.list().get(begun - 1) {
-        Some(a) => in_template(converted, a, slot),
-        None => in_entry(layout, slot),
-    }
-}
-
-/// The longest ways from each slot, to the end or to where they jump back, and from where a jump back leads.
-#[derive(Drop)]
-struct Ways {
-    steps: Vec<u32>,
-    turn: u32,
-}
-
-impl Ways {
-    fn of(alloc: Global, converted: &Converted) -> Result<Ways, CertError> {
-        match longest_ways(alloc, converted.program()) {
-            Ok(steps) => {
-                let turn = longest_turn(converted.program(), &steps);
-                Ok(Ways { steps, turn })
-            }
-            Err(_) => Err(CertError::Memory),
-        }
-    }
-
-    fn from(&self, slot: u32) -> u64 {
-        match self.steps.get(slot as usize) {
-            Some(count) => u64::from(*count),
-            None => 0,
-        }
-    }
-
-    /// From the start on, with all turns.
-    fn whole(&self, converted: &Converted, slot: u32) -> u64 {
-        let turns = u64::from(self.turn) * u64::from(converted.layout().turns);
-        self.from(slot).saturating_add(turns)
-    }
-}
-
-/// How many instructions are done at most from a slot on.
-fn budget_at(converted: &Converted, ways: &Ways, begun: usize, slot: u32) -> Budget {
+/// A turn for each that is left, where there are loops.
+fn turn_terms(loops: bool, turn: u32) -> ArrayVec<Term, 4>
+    ensures { result.items ≡ turn_terms loops turn }
+{
     let mut terms = ArrayVec::new();
-    if begun == 0 {
-        return Budget {
-            base: ways.whole(converted, slot),
-            terms,
-        };
-    }
-    if converted.layout().loops && !is_trap(converted, slot) {
+    if loops && turn > 0 {
         terms.push(Term {
-            weight: ways.turn,
+            weight: turn,
             measure: Measure::Down(Place::Register(Reg::R5)),
         });
     }
-    Budget {
-        base: ways.from(slot),
-        terms,
+    terms
+}
+
+/// The longest way from a slot, with all turns from the entry.
+fn base_at(found: &Survey, layout: &Layout, part: Stretch, slot: u32) -> u64
+    ensures { result ≡ base_at layout.now found.now.steps.items found.now.turn part slot }
+{
+    let steps = match found.steps.get(slot as usize) {
+        Some(count) => u64::from(*count),
+        None => 0,
+    };
+    match part {
+        Stretch::Entry => steps + u64::from(layout.turns) * u64::from(found.turn),
+        Stretch::Template { .. } | Stretch::Trap { .. } => steps,
     }
 }
 
-/// The label at a slot, with the longest way from there as its budget.
-fn label_at(
+fn terms_at(layout: &Layout, turn: u32, part: Stretch) -> ArrayVec<Term, 4>
+    ensures { result.items ≡ terms_at layout.now turn part }
+{
+    match part {
+        Stretch::Template { .. } => turn_terms(layout.loops, turn),
+        Stretch::Entry | Stretch::Trap { .. } => ArrayVec::new(),
+    }
+}
+
+/// Whether a slot is a leader where a label can stand.
+fn wants_label(found: &Survey, layout: &Layout, part: Stretch, slot: u32) -> bool
+    ensures { result ≡ (get_or found.now.leaders.items slot false && opens layout.now part slot) }
+{
+    match found.leaders.get(slot as usize) {
+        Some(leader) => *leader && opens(layout, part, slot),
+        None => false,
+    }
+}
+
+/// The label at a slot of a part.
+fn label_in(
     alloc: Global,
     converted: &Converted,
-    begun: usize,
+    found: &Survey,
+    part: Stretch,
     slot: u32,
-    ways: &Ways,
-) -> Result<Label, CertError> {
-    let state = if slot == 0 {
-        at_start(converted.layout())
-    } else {
-        state_at(converted, begun, slot)
+) -> Result<Label, CertError>
+    requires { IsFound converted.now.program.list found.now }
+    ensures ok { IfOk result (λ label. label_view label ≡ label_in converted.now.layout converted.now.marked converted.now.program.list part slot) }
+    ensures err { IfErr result (λ e. e ≡ Memory) }
+{
+    let layout = converted.layout();
+    let state = known_at(layout, converted.list(), part, slot);
+    let budget = Budget {
+        base: base_at(found, layout, part, slot),
+        terms: terms_at(layout, found.turn, part),
     };
-    Label::new(alloc, slot, &state, budget_at(converted, ways, begun, slot))
+    Label::new(alloc, slot, &state, budget)
 }
 
-/// Where the jumps back of a filter lead stand labels, also where no run reaches the jump.
-fn mark_heads(converted: &Converted, wanted: &mut Vec<bool>) {
-    for at in 0..converted.list().len() {
-        if let Classic::Back { k } = converted.list()[at].insn {
-            let head = (at + 1).saturating_sub(k as usize);
-            if let Some(start) = converted.starts().get(head) {
-                mark(wanted, u32::from(*start));
-            }
-        }
-    }
-}
-
-fn labels(alloc: Global, converted: &Converted, ways: &Ways) -> Result<Vec<Label>, CertError> {
-    let mut wanted = match labelled(alloc, converted.program()) {
-        Ok(wanted) => wanted,
-        Err(_) => return Err(CertError::Memory),
-    };
-    mark_heads(converted, &mut wanted);
+/// The labels, by their slots.
+fn labels(alloc: Global, converted: &Converted, found: &Survey) -> Result<Vec<Label>, CertError>
+    requires conversion { IsConversion converted.now }
+    requires found { IsFound converted.now.program.list found.now }
+    ensures ok { IfOk result (λ labels. map label_view labels.items ≡ labels_of converted.now.layout converted.now.marked converted.now.program.list) }
+    ensures err { IfErr result (λ e. e ≡ Memory) }
+{
     let mut labels = Vec::new(alloc);
-    let mut begun = 0;
+    let mut templates = 0;
     for slot in 0..converted.program().slots() {
-        begun = template_at(converted.starts(), begun, slot);
-        if matches!(wanted.get(slot as usize), Some(true)) {
-            let label = label_at(alloc, converted, begun, slot, ways)?;
-            if labels.push(label).is_err() {
-                return Err(CertError::Memory);
-            }
+        templates = begun(converted.starts(), templates, slot);
+        let part = part_at(converted, templates, slot);
+        if !wants_label(found, converted.layout(), part, slot) {
+            continue;
+        }
+        let label = label_in(alloc, converted, found, part, slot)?;
+        if labels.push(label).is_err() {
+            return Err(CertError::Memory);
         }
     }
     Ok(labels)
 }
 
+/// A program is valid.
+fn valid<C: Code>(program: &C)
+    ensures { IsProgram (C.program program.now).list }
+{
+    let _slots = program.slots();
+}
+
 /// The certificate of a converted filter, for contexts of its length alone. Its bound is the longest way through the program, with as
-/// many jumps back as there may be.
-pub fn certificate(alloc: Global, converted: &Converted) -> Result<Certificate, CertError> {
-    let ways = Ways::of(alloc, converted)?;
-    let labels = labels(alloc, converted, &ways)?;
+/// many jumps back as there may be. `Memory` if memory runs out.
+pub fn certificate(alloc: Global, converted: &Converted) -> Result<Certificate, CertError>
+    requires { IsConversion converted.now }
+    ensures ok { IfOk result (λ c. c ≡ claim converted.now) }
+    ensures certificate { IfOk result (λ c. IsCertificate c) }
+    ensures err { IfErr result (λ e. e ≡ Memory) }
+{
+    let Ok(found) = Survey::of(alloc, converted.program()) else {
+        return Err(CertError::Memory);
+    };
+    let labels = labels(alloc, converted, &found)?;
     let mut functions = Vec::new(alloc);
     let function = Function {
         first: 0,
@@ -157,7 +140,8 @@ pub fn certificate(alloc: Global, converted: &Converted) -> Result<Certificate, 
     if functions.push(function).is_err() {
         return Err(CertError::Memory);
     }
-    let bound = ways.whole(converted, 0).min(u64::from(u32::MAX)) as u32;
-    let length = converted.layout().length;
-    Certificate::new(2, length, length, bound, functions)
+    let layout = converted.layout();
+    valid(converted.program());
+    let bound = base_at(&found, layout, Stretch::Entry, 0).min(u64::from(u32::MAX)) as u32;
+    Certificate::new(2, layout.length, layout.length, bound, functions)
 }

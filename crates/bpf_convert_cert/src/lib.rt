@@ -2,7 +2,10 @@
 #![tactic(auto)]
 
 mod claims;
-mod flow;
+pub mod found;
+mod leaders;
+pub mod parts;
 mod states;
+mod ways;
 
 pub use claims::certificate;

@@ -2,137 +2,170 @@
 //! cells hold numbers where they are surely set, r4 behind the test of an index leads to bytes that are there, and r5 is how often a run may still
 //! jump back.
 
+ghost use Rattle.std.specs.Prelude.{◌≡◌, ◌≤◌};
 ghost use Rattle.bpf_state.specs.State.{IsRegister};
+ghost use Rattle.bpf_convert_cert.specs.Known.{between, with_cells, room_known, entry_room, number_if, index_known, may_turn, turns_known, cell_known, cells_known, entry_known, template_known, known_at};
 
+use crate::parts::Stretch;
 use bpf_classic::Classic;
-use bpf_convert::{Annotated, Converted, Form, Layout};
-use bpf_insn::{AluOp, Cond, Insn, Operand, Reg, Width};
+use bpf_convert::layout::bytes;
+use bpf_convert::{Annotated, Form, Layout};
+use bpf_insn::Reg;
 use bpf_num::{KnownBits, Num, Signed, Unsigned, WordDomain};
 use bpf_state::{Area, Pointer, RegState, SlotState, State};
 
-/// A number from `least` to `most`.
+/// A number from `least` to `most`; the checker finds what its bits and its sign are.
 fn between(least: u32, most: u32) -> RegState
-    ensures { IsRegister result }
+    requires { least ≤ most }
+    ensures value { result ≡ between least most }
+    ensures ordered { IsRegister result }
 {
-    let least = least.min(most);
     let range = Unsigned::new(u64::from(least), u64::from(most));
-    match Num::of(KnownBits::top(), range, Signed::top()).tighten() {
-        Some(n) => RegState::Num(n),
-        None => RegState::Any,
-    }
+    RegState::Num(Num::of(KnownBits::top(), range, Signed::top()))
 }
 
-fn set_room(state: &mut State, layout: &Layout) {
+/// How many bytes of the packet are there.
+fn room_known(layout: &Layout) -> RegState
+    ensures value { result ≡ room_known layout.now }
+    ensures ordered { IsRegister result }
+{
+    between(layout.known_first(), layout.room())
+}
+
+/// The same in the entry: a block's length isn't known before it is loaded, nor where it is above what a block can hold.
+fn entry_room(layout: &Layout, slot: u32) -> RegState
+    ensures value { result ≡ entry_room layout.now slot }
+    ensures ordered { IsRegister result }
+{
     match layout.form {
-        Form::Blocks | Form::Extended => state.set_reg(Reg::R2, between(0, layout.room())),
-        Form::Plain => state.set_reg(Reg::R2, between(layout.room(), layout.room())),
-        Form::Seccomp => {}
+        Form::Blocks | Form::Extended => {
+            if slot == 0 || slot == 2 {
+                return RegState::Any;
+            }
+        }
+        Form::Plain | Form::Seccomp => {}
     }
+    room_known(layout)
 }
 
-/// At the entry: the context's start, and its length where that is what a packet has.
-pub fn at_start(layout: &Layout) -> State {
-    let mut state = State::blank();
-    state.set_reg(Reg::R1, RegState::Ptr(Pointer::start_of(Area::Context)));
-    if matches!(layout.form, Form::Plain) {
-        set_room(&mut state, layout);
+/// A number, where it is set.
+fn number_if(set: bool) -> RegState
+    ensures value { result ≡ number_if set }
+    ensures ordered { IsRegister result }
+{
+    if set {
+        return RegState::Num(Num::top());
     }
-    state
+    RegState::Any
 }
 
-/// Inside of the entry: the length of a block may have been cut already.
-pub fn in_entry(layout: &Layout, slot: u32) -> State {
-    let mut state = State::blank();
-    state.set_reg(Reg::R1, RegState::Ptr(Pointer::start_of(Area::Context)));
-    if slot != 2 || !matches!(layout.form, Form::Blocks | Form::Extended) {
-        set_room(&mut state, layout);
-    }
-    state
-}
-
-/// Whether the slot is behind the test of an index, and the least that r4 is then.
-fn index_end(converted: &Converted, slot: u32) -> Option<u32> {
-    if slot < 2 {
-        return None;
-    }
-    let program = converted.program();
-    let Some(
-        Insn::JumpIf {
-            cond: Cond::Gt,
-            width: Width::W64,
-            dst: Reg::R4,
-            src: _,
-            off: _,
-        },
-    ) = program.at(slot - 1)
-    else {
-        return None;
-    };
-    match program.at(slot - 2) {
-        Some(
-            Insn::Alu {
-                op: AluOp::Add,
-                width: Width::W64,
-                dst: Reg::R4,
-                src: Operand::Imm(end),
-            },
-        ) => u32::try_from(*end).ok(),
-        _ => None,
+/// Behind the test of an index, the end of the bytes that are loaded.
+fn index_known(layout: &Layout, insn: &Classic, offset: u32) -> RegState
+    ensures value { result ≡ index_known layout.now insn.now offset }
+    ensures ordered { IsRegister result }
+{
+    match *insn {
+        Classic::Index { size, k } => {
+            if offset != 3 {
+                return RegState::Any;
+            }
+            let room = layout.room();
+            let end = u64::from(k) + u64::from(bytes(size));
+            between(end.min(u64::from(room)) as u32, room)
+        }
+        Classic::Constant { .. } | Classic::Length { .. } | Classic::Cell { .. } => RegState::Any,
+        Classic::Store { .. } | Classic::At { .. } | Classic::Header { .. } => RegState::Any,
+        Classic::Extension { .. } | Classic::Alu { .. } | Classic::Neg => RegState::Any,
+        Classic::Jump { .. } | Classic::Back { .. } | Classic::JumpIf { .. } => RegState::Any,
+        Classic::Return { .. } | Classic::ReturnA | Classic::Tax | Classic::Txa => RegState::Any,
     }
 }
 
 /// Whether the slot is behind the test that a run may jump back once more.
-fn may_turn(converted: &Converted, slot: u32) -> bool {
-    if slot == 0 {
-        return false;
+fn may_turn(insn: &Classic, offset: u32) -> bool
+    ensures { result ≡ may_turn insn.now offset }
+{
+    match *insn {
+        Classic::Back { .. } => offset == 1,
+        Classic::Constant { .. } | Classic::Length { .. } | Classic::Cell { .. } => false,
+        Classic::Store { .. } | Classic::At { .. } | Classic::Index { .. } => false,
+        Classic::Header { .. } | Classic::Extension { .. } | Classic::Alu { .. } => false,
+        Classic::Neg | Classic::Jump { .. } | Classic::JumpIf { .. } => false,
+        Classic::Return { .. } | Classic::ReturnA | Classic::Tax | Classic::Txa => false,
     }
-    matches!(
-        converted.program().at(slot - 1),
-        Some(Insn::JumpIf {
-            cond: Cond::Eq,
-            width: Width::W64,
-            dst: Reg::R5,
-            ..
-        })
-    )
 }
 
-fn set_turns(state: &mut State, converted: &Converted, slot: u32) {
-    let turns = u32::from(converted.layout().turns);
-    let left = if may_turn(converted, slot) {
-        between(1, turns.max(1))
-    } else {
-        between(0, turns)
-    };
-    state.set_reg(Reg::R5, left);
+/// How often a run may still jump back.
+fn turns_known(layout: &Layout, insn: &Classic, offset: u32) -> RegState
+    ensures value { result ≡ turns_known layout.now insn.now offset }
+    ensures ordered { IsRegister result }
+{
+    if !layout.loops {
+        return RegState::Any;
+    }
+    let turns = u32::from(layout.turns);
+    if may_turn(insn, offset) {
+        return between(1, turns.max(1));
+    }
+    between(0, turns)
 }
 
-fn set_cells(state: &mut State, list: &[Annotated]) {
-    for a in list {
-        if let Classic::Cell { cell, .. } = a.insn {
-            if a.reached && cell < 16 {
-                state.set_slot(cell as u8 + 1, SlotState::Word(Num::top()));
+/// A cell that may be loaded is set.
+fn set_cell(state: &mut State, a: &Annotated)
+    ensures { state.new ≡ with_cells (cell_known a.now.reached a.now.insn state.old.slots) state.old }
+{
+    match a.insn {
+        Classic::Cell { cell, .. } => {
+            if a.reached {
+                state.set_slot((cell % 16) as u8 + 1, SlotState::Word(Num::top()));
             }
         }
+        Classic::Constant { .. } | Classic::Length { .. } | Classic::Store { .. } => {}
+        Classic::At { .. } | Classic::Index { .. } | Classic::Header { .. } => {}
+        Classic::Extension { .. } | Classic::Alu { .. } | Classic::Neg => {}
+        Classic::Jump { .. } | Classic::Back { .. } | Classic::JumpIf { .. } => {}
+        Classic::Return { .. } | Classic::ReturnA | Classic::Tax | Classic::Txa => {}
     }
 }
 
-/// In the template of an instruction.
-pub fn in_template(converted: &Converted, a: &Annotated, slot: u32) -> State {
-    let layout = converted.layout();
-    let mut state = in_entry(layout, 0);
-    if a.a {
-        state.set_reg(Reg::R0, RegState::Num(Num::top()));
+fn set_cells(state: &mut State, list: &[Annotated])
+    ensures { state.new ≡ with_cells (cells_known list.now state.old.slots) state.old }
+{
+    for a in list {
+        set_cell(state, a);
     }
-    if a.x {
-        state.set_reg(Reg::R3, RegState::Num(Num::top()));
-    }
-    if let Some(end) = index_end(converted, slot) {
-        state.set_reg(Reg::R4, between(end, layout.room()));
-    }
-    if layout.loops {
-        set_turns(&mut state, converted, slot);
-    }
-    set_cells(&mut state, converted.list());
+}
+
+fn entry_known(layout: &Layout, slot: u32) -> State
+    ensures { result ≡ entry_known layout.now slot }
+{
+    let mut state = State::blank();
+    state.set_reg(Reg::R1, RegState::Ptr(Pointer::start_of(Area::Context)));
+    state.set_reg(Reg::R2, entry_room(layout, slot));
     state
+}
+
+fn template_known(layout: &Layout, list: &[Annotated], a: &Annotated, offset: u32) -> State
+    ensures { result ≡ template_known layout.now list.now a.now offset }
+{
+    let mut state = State::blank();
+    state.set_reg(Reg::R0, number_if(a.a));
+    state.set_reg(Reg::R1, RegState::Ptr(Pointer::start_of(Area::Context)));
+    state.set_reg(Reg::R2, room_known(layout));
+    state.set_reg(Reg::R3, number_if(a.x));
+    state.set_reg(Reg::R4, index_known(layout, &a.insn, offset));
+    state.set_reg(Reg::R5, turns_known(layout, &a.insn, offset));
+    set_cells(&mut state, list);
+    state
+}
+
+/// What is known at a slot.
+pub fn known_at(layout: &Layout, list: &[Annotated], part: Stretch, slot: u32) -> State
+    ensures { result ≡ known_at layout.now list.now part slot }
+{
+    match part {
+        Stretch::Entry => entry_known(layout, slot),
+        Stretch::Template { a, offset } => template_known(layout, list, &a, offset),
+        Stretch::Trap { .. } => State::blank(),
+    }
 }

@@ -1,5 +1,5 @@
 -- What is made of the instructions of a filter.
-use Rattle.std.specs.Prelude.{◌≡◌, ℕ, List, filter_map, ⊤}
+use Rattle.std.specs.Prelude.{◌≡◌, List, filter_map, ⊤}
 use Rattle.bpf_check.specs.CheckedProgram.{IsCertifiedBy}
 use Rattle.bpf_classic.specs.Auxiliary.{instruction_in}
 use Rattle.bpf_classic.specs.Valid.{IsFilter, IsRefused}
@@ -7,7 +7,6 @@ use Rattle.bpf_classic.specs.declared.instruction.Classic.{Classic}
 use Rattle.bpf_classic.specs.declared.raw.Raw.{Raw}
 use Rattle.bpf_classic.specs.declared.refusal.Kind.{Kind}
 use Rattle.bpf_classic.specs.declared.refusal.Kind.TheVariants.{Packets, Seccomp as ForSeccomp, Extended as WithExtensions}
-use Rattle.bpf_classic.specs.declared.refusal.Refusal.TheVariants as refusals
 use Rattle.bpf_convert.specs.Meaning.{HasStarts, KeepsAnswers, insns}
 use Rattle.bpf_convert.specs.declared.layout.Form.{Form}
 use Rattle.bpf_convert.specs.declared.layout.Form.TheVariants.{Blocks, Plain, Seccomp, Extended}

@@ -4,6 +4,7 @@ ghost use Rattle.std.specs.Prelude.{◌≡◌, ◌≤◌, ◌⊎◌, IfOk, IfErr
 ghost use Rattle.bpf_insn.specs.Limits.{max_context};
 ghost use Rattle.bpf_check.specs.CheckedProgram.{IsCertifiedBy};
 ghost use Rattle.bpf_convert.specs.Meaning.{HasStarts, KeepsAnswers, insns};
+ghost use Rattle.bpf_convert_cert.specs.Claim.{IsConversion};
 ghost use Rattle.bpf_convert_checked.specs.Made.{IsMade, IsRefusedFor, kind_of};
 ghost use Rattle.bpf_convert_checked.specs.declared.error.ConvertError.TheVariants.{Memory, Uncertified};
 
@@ -34,18 +35,16 @@ pub fn kind_of(form: Form) -> Kind
     }
 }
 
-/// The certificate of a filter's program, if the checker takes it and it is for contexts of this length.
-fn certified(alloc: Global, converted: &Converted, length: u32) -> Result<Certificate, ConvertError>
+/// The certificate of a filter's program, if the checker takes it.
+fn certified(alloc: Global, converted: &Converted) -> Result<Certificate, ConvertError>
+    requires { IsConversion converted.now }
     ensures certified { IfOk result (λ c. IsCertifiedBy converted.now.program c) }
-    ensures length { IfOk result (λ c. (c.least ≡ length) × (c.most ≡ length)) }
+    ensures length { IfOk result (λ c. (c.least ≡ converted.now.layout.length) × (c.most ≡ converted.now.layout.length)) }
     ensures err { IfErr result (λ e. (e ≡ Memory) ⊎ (e ≡ Uncertified)) }
 {
     let Ok(certificate) = certificate(alloc, converted) else {
         return Err(ConvertError::Memory);
     };
-    if certificate.least() != length || certificate.most() != length {
-        return Err(ConvertError::Uncertified);
-    }
     match check(converted.program(), &certificate) {
         Ok(_checked) => {}
         Err(_refusal) => return Err(ConvertError::Uncertified),
@@ -62,6 +61,7 @@ fn program_of(alloc: Global, filter: &Filter, wanted: Wanted) -> Result<Converte
     ensures layout { IfOk result (λ c. (c.layout.form ≡ wanted.form) × (c.layout.length ≡ wanted.length) × (c.layout.order ≡ wanted.order)) }
     ensures turns { IfOk result (λ c. c.layout.turns ≡ wanted.turns) }
     ensures order { IfOk result (λ c. c.program.order ≡ wanted.order) }
+    ensures conversion { IfOk result IsConversion }
     ensures err { IfErr result (λ e. (e ≡ Memory) ⊎ (e ≡ Uncertified)) }
 {
     match convert(alloc, filter, wanted) {
@@ -84,7 +84,7 @@ pub fn converted(alloc: Global, raws: &[Raw], wanted: Wanted) -> Result<Made, Co
         Err(refusal) => return Err(ConvertError::Filter(refusal)),
     };
     let converted = program_of(alloc, &filter, wanted)?;
-    let certificate = certified(alloc, &converted, wanted.length)?;
+    let certificate = certified(alloc, &converted)?;
     Ok(Made {
         converted,
         certificate,

@@ -7,8 +7,9 @@
 //! certificate, and then what the program ends with on each packet; else the number of the refusal, as `B5 at 3`.
 #![tactic(auto)]
 
-ghost use Rattle.std.specs.Prelude.{◌≤◌, IfSome, length};
+ghost use Rattle.std.specs.Prelude.{◌≤◌, IfOk, IfSome, length};
 ghost use Rattle.bpf_insn.specs.Limits.{max_context};
+ghost use Rattle.bpf_convert_cert.specs.Claim.{IsConversion};
 
 use bpf_check::check;
 use bpf_classic::{Filter, Kind, Raw, Refusal};
@@ -110,7 +111,9 @@ fn raws_of_word(alloc: Global, word: &str) -> Result<Vec<Raw>, Stop> {
 }
 
 /// The program of a case.
-fn converted(alloc: Global, case: Case<'_>) -> Result<Converted, Stop> {
+fn converted(alloc: Global, case: Case<'_>) -> Result<Converted, Stop>
+    ensures { IfOk result IsConversion }
+{
     let raws = raws_of_word(alloc, case.filter)?;
     let kind = match case.form {
         Form::Seccomp => Kind::Seccomp,
@@ -152,7 +155,9 @@ fn tell_stop(out: &mut impl Write, stop: Stop) -> io::Result<()> {
 }
 
 /// Writes whether the checker takes the certificate.
-fn tell_checked(alloc: Global, out: &mut impl Write, converted: &Converted) -> io::Result<()> {
+fn tell_checked(alloc: Global, out: &mut impl Write, converted: &Converted) -> io::Result<()>
+    requires { IsConversion converted.now }
+{
     let Ok(certificate) = certificate(alloc, converted) else {
         return write!(out, "no certificate");
     };

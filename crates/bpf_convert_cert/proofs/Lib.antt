@@ -1,0 +1,6 @@
+pub mod LongestLemmas
+pub mod LeaderLemmas
+pub mod PartLemmas
+pub mod StateLemmas
+pub mod LabelLemmas
+pub mod LimitLemmas

@@ -1,5 +1,0 @@
-use Rattle.std.proofs.Common.{length, ◌-◌}
-use Rattle.bpf_convert_cert.proofs.claims.template_at.Given as goal
-
-abbrev pub decreases-loop-last : goal.decreases-loop-last
-decreases-loop-last l = length l.starts - l.last

@@ -1,0 +1,11 @@
+-- Definitions, in the order in which they read best.
+-- where a slot lies
+pub mod Parts
+-- what is known there
+pub mod Known
+-- which slots want a label
+pub mod Leaders
+-- the certificate
+pub mod Claim
+-- what is found out about a program before its labels are made
+pub mod Survey
