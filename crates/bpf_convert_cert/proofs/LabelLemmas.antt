@@ -9,7 +9,7 @@ use Rattle.bpf_cert.specs.declared.certificate.Label.{Label}
 use Rattle.bpf_insn.specs.Instruction.{slots}
 use Rattle.bpf_convert.specs.Meaning.{Conversion}
 use Rattle.bpf_convert_cert.specs.Claim.{IsConversion, wants_label, label_of, label_if, labels_of}
-use Rattle.bpf_convert_cert.specs.Survey.{AreBegun}
+use Rattle.bpf_convert_cert.specs.Outline.{AreBegun}
 use Rattle.bpf_convert_cert.proofs.LongestLemmas.{slots_are}
 use Rattle.bpf_convert_cert.proofs.PartLemmas.{narrow, none_begun, begun_later}
 

@@ -5,7 +5,7 @@ use Rattle.std.proofs.lemmas.Bool.{cases_eq, eq-eqb, ne_eqb}
 use Rattle.std.proofs.lemmas.List.{get_or-set_same, get_or-set_other}
 use Rattle.bpf_insn.specs.declared.instruction.Insn.{Insn}
 use Rattle.bpf_convert_cert.specs.Leaders.{jump_to, behind_end, is_slot, makes_leader}
-use Rattle.bpf_convert_cert.specs.Survey.{AreLed}
+use Rattle.bpf_convert_cert.specs.Outline.{AreLed}
 
 -- a slot is marked
 pub marked_at : (wanted : List Bool) (slot to : ℕ) → to < length wanted → get_or (slice_set wanted slot true) to false ≡ ((slot == to) || get_or wanted to false)

@@ -13,7 +13,7 @@ use Rattle.bpf_insn.specs.declared.instruction.Cond.{Cond}
 use Rattle.bpf_insn.specs.declared.instruction.Insn.{Insn}
 use Rattle.bpf_insn.specs.declared.instruction.Insn.TheVariants.{Alu, Neg, MovSx, End, LoadImm64, Load, LoadSx, Store, StoreImm, Atomic, Ja, JaLong, JumpIf, CallLocal, Exit}
 use Rattle.bpf_convert.specs.Longest.{longest_of, longest_ways, longest_back, longest_turn}
-use Rattle.bpf_convert_cert.specs.Survey.{IsNarrow, longest_if, way_ahead, way_back, back_if}
+use Rattle.bpf_convert_cert.specs.Outline.{IsNarrow, longest_if, way_ahead, way_back, back_if}
 
 -- ---- jumps forward and back
 

@@ -14,7 +14,7 @@ use Rattle.bpf_convert.proofs.Places.{code_length}
 use Rattle.bpf_convert.proofs.Tables.{entry_few, total_few}
 use Rattle.bpf_convert_cert.specs.Parts.{part_behind, part_at}
 use Rattle.bpf_convert_cert.specs.Claim.{IsConversion}
-use Rattle.bpf_convert_cert.specs.Survey.{IsNarrow, AreBegun}
+use Rattle.bpf_convert_cert.specs.Outline.{IsNarrow, AreBegun}
 use Rattle.bpf_convert_cert.specs.declared.parts.Stretch.TheVariants.{Entry, Template, Trap}
 use Rattle.bpf_convert_cert.proofs.LongestLemmas.{slots_are}
 

@@ -8,4 +8,4 @@ pub mod Leaders
 -- the certificate
 pub mod Claim
 -- what is found out about a program before its labels are made
-pub mod Survey
+pub mod Outline

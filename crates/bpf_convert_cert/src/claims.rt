@@ -6,11 +6,11 @@ ghost use Rattle.bpf_insn.specs.Image.{IsProgram};
 ghost use Rattle.bpf_cert.specs.Limits.{IsCertificate};
 ghost use Rattle.bpf_cert.specs.View.{label_view};
 ghost use Rattle.bpf_cert.specs.declared.error.CertError.TheVariants.{Memory};
-ghost use Rattle.bpf_convert_cert.specs.Survey.{IsFound};
+ghost use Rattle.bpf_convert_cert.specs.Outline.{IsFound};
 ghost use Rattle.bpf_convert_cert.specs.Parts.{opens};
 ghost use Rattle.bpf_convert_cert.specs.Claim.{IsConversion, base_at, terms_at, turn_terms, label_in, labels_of, claim};
 
-use crate::found::Survey;
+use crate::found::Outline;
 use crate::parts::{Stretch, begun, opens, part_at};
 use crate::states::known_at;
 use arrayvec::ArrayVec;
@@ -35,7 +35,7 @@ fn turn_terms(loops: bool, turn: u32) -> ArrayVec<Term, 4>
 }
 
 /// The longest way from a slot, with all turns from the entry.
-fn base_at(found: &Survey, layout: &Layout, part: Stretch, slot: u32) -> u64
+fn base_at(found: &Outline, layout: &Layout, part: Stretch, slot: u32) -> u64
     ensures { result ≡ base_at layout.now found.now.steps.items found.now.turn part slot }
 {
     let steps = match found.steps.get(slot as usize) {
@@ -58,7 +58,7 @@ fn terms_at(layout: &Layout, turn: u32, part: Stretch) -> ArrayVec<Term, 4>
 }
 
 /// Whether a slot is a leader where a label can stand.
-fn wants_label(found: &Survey, layout: &Layout, part: Stretch, slot: u32) -> bool
+fn wants_label(found: &Outline, layout: &Layout, part: Stretch, slot: u32) -> bool
     ensures { result ≡ (get_or found.now.leaders.items slot false && opens layout.now part slot) }
 {
     match found.leaders.get(slot as usize) {
@@ -71,7 +71,7 @@ fn wants_label(found: &Survey, layout: &Layout, part: Stretch, slot: u32) -> boo
 fn label_in(
     alloc: Global,
     converted: &Converted,
-    found: &Survey,
+    found: &Outline,
     part: Stretch,
     slot: u32,
 ) -> Result<Label, CertError>
@@ -89,7 +89,7 @@ fn label_in(
 }
 
 /// The labels, by their slots.
-fn labels(alloc: Global, converted: &Converted, found: &Survey) -> Result<Vec<Label>, CertError>
+fn labels(alloc: Global, converted: &Converted, found: &Outline) -> Result<Vec<Label>, CertError>
     requires conversion { IsConversion converted.now }
     requires found { IsFound converted.now.program.list found.now }
     ensures ok { IfOk result (λ labels. map label_view labels.items ≡ labels_of converted.now.layout converted.now.marked converted.now.program.list) }
@@ -126,7 +126,7 @@ pub fn certificate(alloc: Global, converted: &Converted) -> Result<Certificate, 
     ensures certificate { IfOk result (λ c. IsCertificate c) }
     ensures err { IfErr result (λ e. e ≡ Memory) }
 {
-    let Ok(found) = Survey::of(alloc, converted.program()) else {
+    let Ok(found) = Outline::of(alloc, converted.program()) else {
         return Err(CertError::Memory);
     };
     let labels = labels(alloc, converted, &found)?;

@@ -4,7 +4,7 @@
 ghost use Rattle.std.specs.Prelude.{◌≡◌, ◌<◌, ◌≤◌, ◌||◌, ℕ, false, length, get_or, option_copied, IfOk};
 ghost use Rattle.bpf_insn.specs.Limits.{max_slots};
 ghost use Rattle.bpf_convert_cert.specs.Leaders.{jump_to, behind_end, is_slot, makes_leader};
-ghost use Rattle.bpf_convert_cert.specs.Survey.{IsNarrow, AreLed};
+ghost use Rattle.bpf_convert_cert.specs.Outline.{IsNarrow, AreLed};
 
 use bpf_insn::{Insn, Program, target};
 use std::alloc::{AllocError, Global};

@@ -4,7 +4,7 @@ ghost use Rattle.std.specs.Prelude.{◌≡◌, ◌<◌, length, slice_index};
 ghost use Rattle.bpf_insn.specs.Instruction.{slots};
 ghost use Rattle.bpf_convert_cert.specs.Parts.{part_at, tests_first, opens_at, entry_opens, opens};
 ghost use Rattle.bpf_convert_cert.specs.Claim.{IsConversion};
-ghost use Rattle.bpf_convert_cert.specs.Survey.{AreBegun};
+ghost use Rattle.bpf_convert_cert.specs.Outline.{AreBegun};
 
 use bpf_classic::Classic;
 use bpf_convert::layout::need;

@@ -3,7 +3,7 @@
 ghost use Rattle.std.specs.Prelude.{◌≡◌, ◌+◌, ◌<◌, ◌≤◌, ℕ, get_or, option_copied, IfOk};
 ghost use Rattle.bpf_insn.specs.Limits.{max_slots};
 ghost use Rattle.bpf_convert.specs.Longest.{longest_ways, longest_turn};
-ghost use Rattle.bpf_convert_cert.specs.Survey.{IsNarrow, longest_if, way_ahead, way_back, back_if};
+ghost use Rattle.bpf_convert_cert.specs.Outline.{IsNarrow, longest_if, way_ahead, way_back, back_if};
 
 use bpf_insn::{Insn, Program};
 use std::alloc::{AllocError, Global};

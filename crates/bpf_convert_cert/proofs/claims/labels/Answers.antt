@@ -3,7 +3,7 @@ use Rattle.std.specs.Prelude.{◌&&◌}
 use Rattle.bpf_insn.specs.Instruction.{slots}
 use Rattle.bpf_convert_cert.specs.Parts.{opens, part_at}
 use Rattle.bpf_convert_cert.specs.Claim.{wants_label, label_in}
-use Rattle.bpf_convert_cert.specs.Survey.{AreBegun}
+use Rattle.bpf_convert_cert.specs.Outline.{AreBegun}
 use Rattle.bpf_convert_cert.proofs.LongestLemmas.{slots_are}
 use Rattle.bpf_convert_cert.proofs.PartLemmas.{narrow}
 use Rattle.bpf_convert_cert.proofs.LabelLemmas.{LabelsTo, labels_same, labels_more, labels_all}

@@ -1,4 +1,4 @@
-use Rattle.bpf_convert_cert.specs.Survey.{AreLed}
+use Rattle.bpf_convert_cert.specs.Outline.{AreLed}
 use Rattle.bpf_convert_cert.proofs.leaders.leaders.Given as goal
 
 -- the leaders by the instructions so far

@@ -1,5 +1,5 @@
 use Rattle.std.proofs.Common.{length, ◌-◌}
-use Rattle.bpf_convert_cert.specs.Survey.{AreBegun}
+use Rattle.bpf_convert_cert.specs.Outline.{AreBegun}
 use Rattle.bpf_convert_cert.proofs.parts.begun.Given as goal
 
 -- so many have begun

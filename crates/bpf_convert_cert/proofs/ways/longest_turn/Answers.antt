@@ -1,7 +1,7 @@
 use Rattle.std.proofs.Common.{rules, ◌≡◌, ◌<◌, ◌+◌, length, drop, ap, ◌∙◌, arith}
 use Rattle.std.specs.Prelude.{max, slice_get, option_copied}
 use Rattle.bpf_convert.specs.Longest.{longest_turn}
-use Rattle.bpf_convert_cert.specs.Survey.{back_if}
+use Rattle.bpf_convert_cert.specs.Outline.{back_if}
 use Rattle.bpf_convert_cert.proofs.LongestLemmas.{insn_is, slots_are, turn_more}
 use Rattle.bpf_convert_cert.proofs.ways.longest_turn.Goals as goal
 

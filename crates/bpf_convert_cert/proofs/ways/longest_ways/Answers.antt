@@ -2,7 +2,7 @@ use Rattle.std.proofs.Common.{◌≡◌, ◌+◌, ◌-◌, ◌<◌, ◌≤◌, l
 use Rattle.std.specs.Prelude.{slice_get, slice_set, option_copied}
 use Rattle.std.proofs.lemmas.List.{take_rest}
 use Rattle.bpf_insn.specs.Limits.{max_slots}
-use Rattle.bpf_convert_cert.specs.Survey.{longest_if}
+use Rattle.bpf_convert_cert.specs.Outline.{longest_if}
 use Rattle.bpf_convert_cert.proofs.LongestLemmas.{WaysFrom, insn_is, slots_are, behind_few, ways_more}
 use Rattle.bpf_convert_cert.proofs.ways.longest_ways.Goals as goal
 

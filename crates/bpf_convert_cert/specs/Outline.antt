@@ -5,7 +5,7 @@ use Rattle.bpf_insn.specs.Limits.{max_slots}
 use Rattle.bpf_insn.specs.declared.instruction.Insn.{Insn}
 use Rattle.bpf_convert.specs.Longest.{longest_of, longest_ways, longest_back, turn}
 use Rattle.bpf_convert_cert.specs.Leaders.{is_led_to}
-use Rattle.bpf_convert_cert.specs.declared.found.Survey.{Survey}
+use Rattle.bpf_convert_cert.specs.declared.found.Outline.{Outline}
 
 -- each instruction has one slot, and a program has room for them
 pub record IsNarrow (list : List Insn) : Type 0 where
@@ -48,7 +48,7 @@ pub record AreBegun (starts : List ℕ) (n slot : ℕ) : Type 0 where
 
 -- ---- all of it
 
-pub record IsFound (list : List Insn) (f : Survey) : Type 0 where
+pub record IsFound (list : List Insn) (f : Outline) : Type 0 where
   pub steps : f.steps.items ≡ longest_ways list
   pub turn_is : f.turn ≡ turn list
   pub leaders : AreLed list (length list) f.leaders.items
