@@ -1,5 +1,5 @@
 -- What comes to stand at the names of a conversion, with a listing and without.
-use Rattle.std.proofs.Common.{◌≡◌, ℕ, Bool, false, List, Option, Some, None, sym, subst, inl, inr}
+use Rattle.std.proofs.Common.{◌≡◌, ℕ, Bool, false, List, Option, Some, None, Result, Ok, Err, IfErr, sym, subst, inl, inr}
 use Rattle.std.specs.Borrow.{Bor}
 use Rattle.bpf_insn.specs.Instruction.{Instructions}
 use Rattle.bpf_insn.specs.Image.{image}
@@ -12,7 +12,7 @@ use Rattle.bpf_answers.specs.Both.{Put}
 use Rattle.bpf_answers.specs.Both.Put.{Neither, FirstAlone}
 use Rattle.bpf_answers.specs.declared.failure.Failure.{Failure}
 use Rattle.bpf_answers.specs.declared.failure.Failure.TheVariants.{CannotWrite}
-use Rattle.bpf_command_convert.specs.Converted.{BesideFails, IsOfListing, NotAll, PairFails, Stand, pair_of}
+use Rattle.bpf_command_convert.specs.Converted.{BesideFails, IsOfListing, ListedPairFails, NotAll, PairFails, Stand, pair_of}
 use Rattle.bpf_command_convert.specs.Standing.{Standing, Beside, alone, beside, paired, placed, placing}
 use Rattle.bpf_command_convert.specs.Standing.Standing.{Nothing, ImageAlone, Unlisted}
 
@@ -49,10 +49,10 @@ beside_stands creates ends contents old c raws made name lines which new some sa
 is_listing : (listing : Option (Bor (List ℕ))) (name : Bor (List ℕ)) (f : Failure) → listing ≡ Some name → f ≡ CannotWrite name → IsOfListing listing f
 is_listing listing name f some is = subst (λ l. IsOfListing l f) (sym some) is
 
-pub beside_fails : {S W : Type 0} (creates : S → List ℕ → Option W → S → Type 0) (ends : S → W → Bool → S → Type 0) (contents : W → Option (List ℕ))
+beside_fails : {S W : Type 0} (creates : S → List ℕ → Option W → S → Type 0) (ends : S → W → Bool → S → Type 0) (contents : W → Option (List ℕ))
     (old : S) (c : Converting) (raws : List Raw) (made : Made) (name : Bor (List ℕ)) (lines : List ℕ) (new : S) (f : Failure) → c.listing ≡ Some name
     → lines ≡ listed made.converted raws
-    → BesideFails c name (λ which. beside creates ends contents (pair_of creates ends contents c made) name.now lines old which new) f
+    → ListedPairFails creates ends contents c made name lines old new f
     → NotAll (placing creates ends contents) old c raws made new f
 beside_fails creates ends contents old c raws made name lines new f some same (inl (inl is, stands)) =
     inr (inl (inl is, beside_stands creates ends contents old c raws made name lines Nothing new some same stands))
@@ -66,6 +66,14 @@ beside_fails creates ends contents old c raws made name lines new f some same (i
     inr (inr (inl (is, beside_stands creates ends contents old c raws made name lines ImageAlone new some same stands)))
 beside_fails creates ends contents old c raws made name lines new f some same (inr (inr (is, stands))) =
     inr (inr (inr (is_listing c.listing name f some is, beside_stands creates ends contents old c raws made name lines Unlisted new some same stands)))
+
+pub beside_unput : {S W A : Type 0} (result : Result A Failure) (creates : S → List ℕ → Option W → S → Type 0) (ends : S → W → Bool → S → Type 0) (contents : W → Option (List ℕ))
+    (old : S) (c : Converting) (raws : List Raw) (made : Made) (name : Bor (List ℕ)) (lines : List ℕ) (new : S) → c.listing ≡ Some name
+    → lines ≡ listed made.converted raws → IfErr result (ListedPairFails creates ends contents c made name lines old new)
+    → IfErr result (NotAll (placing creates ends contents) old c raws made new)
+beside_unput (Ok x) creates ends contents old c raws made name lines new some same fails = tt
+beside_unput (Err f) creates ends contents old c raws made name lines new some same fails =
+    beside_fails creates ends contents old c raws made name lines new f some same fails
 
 -- ---- a pair within
 
