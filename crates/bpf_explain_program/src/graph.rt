@@ -15,6 +15,7 @@ use crate::graph::flow::flow_of;
 use crate::graph::plan::Plan;
 pub use crate::graph::plan::call_target;
 use crate::listing::write_header;
+use crate::program::write_refused;
 use crate::reach::reached_from_start;
 use bpf_cert::Certificate;
 use bpf_check::{Index, Refusal};
@@ -48,10 +49,7 @@ fn write_answer<W: Tell>(out: &mut W, certificate: &Index, refusal: Option<Refus
     write_header(out, certificate);
     match refusal {
         None => out.say("accepted\n"),
-        Some(refusal) => {
-            let (number, slot) = (refusal.number(), refusal.slot());
-            write!(out, "refused: C{number} at slot {slot}\n");
-        }
+        Some(refusal) => write_refused(out, refusal),
     }
 }
 

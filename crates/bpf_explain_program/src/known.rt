@@ -47,29 +47,53 @@ fn says_more_bits(n: Num) -> bool {
 /// A constant, with its signed value behind it where that is negative.
 fn write_constant<W: fmt::Write>(f: &mut fmt::Formatter<W>, value: u64) -> fmt::Result {
     let signed = value.cast_signed();
-    if signed < 0 {
-        write!(f, "{value} ({signed})")
+    if signed >= 0 {
+        return fmt::Display::fmt(&value, f);
+    }
+    write!(f, "{value} ({signed})")
+}
+
+/// A part of what is known of a number: its letter, and two numbers with what stands between them.
+type Part = (&'static str, i128, &'static str, i128);
+
+/// The unsigned bounds, if they say something.
+fn unsigned_part(n: Num) -> Option<Part> {
+    let (lo, hi) = (n.unsigned().lo(), n.unsigned().hi());
+    if lo == 0 && hi == u64::MAX {
+        None
     } else {
-        write!(f, "{value}")
+        Some(("u", i128::from(lo), "..", i128::from(hi)))
+    }
+}
+
+/// The signed bounds, if they say more than the unsigned ones do.
+fn signed_part(n: Num) -> Option<Part> {
+    if says_more_signed(n) {
+        let (lo, hi) = (n.signed().lo(), n.signed().hi());
+        Some(("s", i128::from(lo), "..", i128::from(hi)))
+    } else {
+        None
+    }
+}
+
+/// The bits, if they say more than the bounds do.
+fn bits_part(n: Num) -> Option<Part> {
+    if says_more_bits(n) {
+        let (value, mask) = (n.bits().value(), n.bits().mask());
+        Some(("k", i128::from(value), "/", i128::from(mask)))
+    } else {
+        None
     }
 }
 
 /// The parts of a number with what stands between them.
 fn write_parts<W: fmt::Write>(f: &mut fmt::Formatter<W>, n: Num) -> fmt::Result {
     let mut comma = "";
-    let (lo, hi) = (n.unsigned().lo(), n.unsigned().hi());
-    if lo != 0 || hi != u64::MAX {
-        write!(f, "u{lo}..{hi}")?;
-        comma = ",";
-    }
-    if says_more_signed(n) {
-        let (lo, hi) = (n.signed().lo(), n.signed().hi());
-        write!(f, "{comma}s{lo}..{hi}")?;
-        comma = ",";
-    }
-    if says_more_bits(n) {
-        let (value, mask) = (n.bits().value(), n.bits().mask());
-        return write!(f, "{comma}k{value}/{mask}");
+    for part in [unsigned_part(n), signed_part(n), bits_part(n)] {
+        if let Some((letter, first, between, second)) = part {
+            write!(f, "{comma}{letter}{first}{between}{second}")?;
+            comma = ",";
+        }
     }
     f.write_str(if comma.is_empty() { "any number" } else { "" })
 }

@@ -166,19 +166,26 @@ fn note_written<C: Code, W: Tell>(out: &mut W, sight: &Sight<'_, C>, shown: &mut
     note_changes(out, changed, after, "becomes");
 }
 
-/// What an instruction that a state reaches costs with those before it, and what is known of its places.
-fn write_notes<C: Code, W: Tell>(out: &mut W, sight: &Sight<'_, C>, shown: &mut State) {
-    match (&sight.seen, sight.cost()) {
-        (None, _) => out.say("; refused"),
-        (Some(_), Some(cost)) => write!(out, "; cost {cost}"),
-        (Some(_), None) => out.say("; the cost isn't known"),
+/// What an instruction that a state reaches costs with those before it.
+fn write_cost<C: Code, W: Tell>(out: &mut W, sight: &Sight<'_, C>) {
+    if sight.seen.is_none() {
+        return out.say("; refused");
     }
+    match sight.cost() {
+        Some(cost) => write!(out, "; cost {cost}"),
+        None => out.say("; the cost isn't known"),
+    }
+}
+
+/// The cost of an instruction that a state reaches, and what is known of its places.
+fn write_notes<C: Code, W: Tell>(out: &mut W, sight: &Sight<'_, C>, shown: &mut State) {
+    write_cost(out, sight);
     note_registers(out, &sight.site.insn, &sight.before, shown);
     note_slots(out, &sight.site.insn, &sight.before, shown);
-    match &sight.seen {
-        Some(seen) if seen.is_alive => note_written(out, sight, shown),
-        Some(_) => out.say("; no run goes on from here"),
-        None => {}
+    if sight.goes_on() {
+        note_written(out, sight, shown);
+    } else if sight.seen.is_some() {
+        out.say("; no run goes on from here");
     }
 }
 

@@ -28,6 +28,18 @@ fn tell_all<C: Code, W: Tell>(
     report.end(end);
 }
 
+/// The last line of a program that is accepted.
+fn write_accepted<W: Tell>(out: &mut W, certificate: &Index) {
+    let (lengths, steps) = (Lengths::of(certificate), steps_of(certificate));
+    write!(out, "accepted: at most {steps} on contexts of {lengths}\n");
+}
+
+/// The line of a refusal.
+pub fn write_refused<W: Tell>(out: &mut W, refusal: Refusal) {
+    let (number, slot) = (refusal.number(), refusal.slot());
+    write!(out, "refused: C{number} at slot {slot}\n");
+}
+
 /// The last lines: the answer, and all flaws.
 fn write_answer<C: Code, W: Tell>(
     program: &C,
@@ -39,12 +51,10 @@ fn write_answer<C: Code, W: Tell>(
     match refusal {
         None => {
             tell_unreached(program, out);
-            let (lengths, steps) = (Lengths::of(certificate), steps_of(certificate));
-            write!(out, "accepted: at most {steps} on contexts of {lengths}\n");
+            write_accepted(out, certificate);
         }
         Some(refusal) => {
-            let (number, slot) = (refusal.number(), refusal.slot());
-            write!(out, "refused: C{number} at slot {slot}\n");
+            write_refused(out, refusal);
             tell_all(program, certificate, View::List, lines, out);
         }
     }

@@ -85,6 +85,14 @@ impl<'a, C: Code> Sight<'a, C> {
         self.seen = Some(seen);
     }
 
+    /// Whether a run may go on from the instruction, as far as is seen of it.
+    pub fn goes_on(&self) -> bool {
+        match &self.seen {
+            Some(seen) => seen.is_alive,
+            None => false,
+        }
+    }
+
     /// The cost since the last label, this instruction counted, if it is known.
     pub fn cost(&self) -> Option<i128> {
         self.seen.as_ref()?.cost

@@ -65,9 +65,9 @@ pub fn write_whole<C: Code, W: Tell>(out: &mut W, sight: &Sight<'_, C>) {
         return out.say("no state is known here\n");
     };
     write_before(out, here, &sight.before);
-    match &sight.seen {
-        Some(seen) if seen.is_alive => write_behind(out, here.label, sight),
-        Some(_) => out.say("no run goes on from here\n"),
-        None => {}
+    if sight.goes_on() {
+        write_behind(out, here.label, sight);
+    } else if sight.seen.is_some() {
+        out.say("no run goes on from here\n");
     }
 }

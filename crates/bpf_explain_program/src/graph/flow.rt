@@ -1,7 +1,7 @@
 //! Which instructions and edges runs take, as far as the checker's pass knows.
 
 use crate::pass::{Observer, pass_over};
-use crate::sight::Sight;
+use crate::sight::{Sight, Way};
 use bpf_check::Index;
 use bpf_infer_base::SlotSet;
 use bpf_insn::Code;
@@ -35,6 +35,17 @@ impl Flow {
         Flow::filled(u64::MAX)
     }
 
+    /// Takes note of a way from the instruction at a slot.
+    fn note(&mut self, slot: u32, way: Way<'_, '_>) {
+        if way.edge.is_live {
+            if way.is_jump {
+                self.jumps.add(slot);
+            } else {
+                self.nexts.add(slot);
+            }
+        }
+    }
+
     /// Whether the jump at a slot may be taken, as far as is known.
     pub fn may_jump(&self, slot: u32) -> bool {
         self.jumps.has(slot) || self.unknown.has(slot)
@@ -56,11 +67,7 @@ impl<C: Code> Observer<C> for Flow {
             self.unknown.add(slot);
         }
         for way in sight.ways().into_iter().flatten() {
-            match (way.edge.is_live, way.is_jump) {
-                (true, true) => self.jumps.add(slot),
-                (true, false) => self.nexts.add(slot),
-                (false, _) => {}
-            }
+            self.note(slot, way);
         }
         true
     }
