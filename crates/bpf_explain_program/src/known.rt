@@ -54,10 +54,10 @@ fn write_constant<W: fmt::Write>(f: &mut fmt::Formatter<W>, value: u64) -> fmt::
 }
 
 /// A part of what is known of a number: its letter, and two numbers with what stands between them.
-type Part = (&'static str, i128, &'static str, i128);
+type NumPart = (&'static str, i128, &'static str, i128);
 
 /// The unsigned bounds, if they say something.
-fn unsigned_part(n: Num) -> Option<Part> {
+fn unsigned_part(n: Num) -> Option<NumPart> {
     let (lo, hi) = (n.unsigned().lo(), n.unsigned().hi());
     if lo == 0 && hi == u64::MAX {
         None
@@ -67,7 +67,7 @@ fn unsigned_part(n: Num) -> Option<Part> {
 }
 
 /// The signed bounds, if they say more than the unsigned ones do.
-fn signed_part(n: Num) -> Option<Part> {
+fn signed_part(n: Num) -> Option<NumPart> {
     if says_more_signed(n) {
         let (lo, hi) = (n.signed().lo(), n.signed().hi());
         Some(("s", i128::from(lo), "..", i128::from(hi)))
@@ -77,7 +77,7 @@ fn signed_part(n: Num) -> Option<Part> {
 }
 
 /// The bits, if they say more than the bounds do.
-fn bits_part(n: Num) -> Option<Part> {
+fn bits_part(n: Num) -> Option<NumPart> {
     if says_more_bits(n) {
         let (value, mask) = (n.bits().value(), n.bits().mask());
         Some(("k", i128::from(value), "/", i128::from(mask)))
