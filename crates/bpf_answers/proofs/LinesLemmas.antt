@@ -270,12 +270,12 @@ record Cut (answers : List Answer) (begun : List ℕ) : Type 0 where
 cut : (answers : List Answer) (begun left : List ℕ) → texts_of answers ≡ begun ++ left → Cut answers begun
 cut [] [] left e = record { first = []; rest = []; part = []; whole = refl; begun_is = refl; next = refl }
 cut [] (x ∷ begun) left e = cc
-cut (a ∷ answers) begun left e = behind (either (text_of a) (texts_of answers) begun left e)
+cut (a ∷ answers) begun left e = behind (λ m more. cut answers m left more) (either (text_of a) (texts_of answers) begun left e)
   where
-    behind : ((m : List ℕ) × (text_of a ≡ begun ++ m)) ⊎ ((m : List ℕ) × (begun ≡ text_of a ++ m) × (texts_of answers ≡ m ++ left)) → Cut (a ∷ answers) begun
-    behind (inl (m, is)) = record { first = []; rest = a ∷ answers; part = begun; whole = refl; begun_is = refl; next = (m, is) }
-    behind (inr (m, is, more)) =
-        let h = cut answers m left more in
+    behind : ((m : List ℕ) → texts_of answers ≡ m ++ left → Cut answers m) → ((m : List ℕ) × (text_of a ≡ begun ++ m)) ⊎ ((m : List ℕ) × (begun ≡ text_of a ++ m) × (texts_of answers ≡ m ++ left)) → Cut (a ∷ answers) begun
+    behind later (inl (m, is)) = record { first = []; rest = a ∷ answers; part = begun; whole = refl; begun_is = refl; next = (m, is) }
+    behind later (inr (m, is, more)) =
+        let h = later m more in
         record {
           first = a ∷ h.first;
           rest = h.rest;
@@ -300,7 +300,7 @@ begun_front says (Some text) answers first rest e h =
     record { lines = k.0; after = k.1 ++ h.after; lines_are = h.lines_are ∙ ap (λ ls. ls ++ h.after) k.2 ∙ append_assoc k.0 k.1 h.after; said = k.3 }
 
 -- known bytes and a text behind them
-grown : Option (List ℕ) → List ℕ → Option (List ℕ)
+abbrev grown : Option (List ℕ) → List ℕ → Option (List ℕ)
 grown None text = None
 grown (Some xs) text = Some (xs ++ text)
 

@@ -105,12 +105,14 @@ impl<R: Read + Drop> HeldLines<R> {
     {
         let held = &self.buffer[self.at..self.end];
         match memchr(b'\n', held) {
-            Some(count) if count <= MOST => {
-                let _fits = line.try_extend_from_slice(&held[..count]);
-                self.at += count + 1;
-                Stop::LineEnd
-            }
-            _ => self.read_line(line),
+            Some(count) => match line.try_extend_from_slice(&held[..count]) {
+                Ok(()) => {
+                    self.at += count + 1;
+                    Stop::LineEnd
+                }
+                Err(_) => self.read_line(line),
+            },
+            None => self.read_line(line),
         }
     }
 }
