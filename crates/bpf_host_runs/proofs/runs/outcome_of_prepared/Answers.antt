@@ -5,8 +5,8 @@ use Rattle.bpf_check.specs.Verdicts.{program_in}
 use Rattle.bpf_machine.specs.Answers.{IsRun}
 use Rattle.bpf_host_runs.proofs.runs.outcome_of_prepared.Goals as goal
 
-pub outcome_of-requires-image : goal.outcome_of-requires-image
-outcome_of-requires-image c =
+pub outcome_of-requires-clause-image : goal.outcome_of-requires-clause-image
+outcome_of-requires-clause-image c =
     let f = c.in_ok-found.found in
     let known = c.in_ok-found.ensures.known.0 refl in
     let holds = c.requires.program known.0 known.1 in
