@@ -136,13 +136,15 @@ fn certificate_of(alloc: Global, least: u32, most: u32) -> io::Result<Option<Cer
 impl Session {
     /// Notes something of a new slot.
     fn note(&mut self, slot: u32, note: Option<Note>) -> io::Result<()> {
-        if slot >= NOTES {
-            return Ok(());
-        }
-        while self.notes.len() <= slot as usize {
+        for _ in 0..NOTES {
+            if self.notes.len() > slot as usize {
+                break;
+            }
             self.notes.push(None)?;
         }
-        self.notes[slot as usize] = note;
+        if let Some(place) = self.notes.get_mut(slot as usize) {
+            *place = note;
+        }
         Ok(())
     }
 
