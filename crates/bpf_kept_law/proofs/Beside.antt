@@ -1,48 +1,62 @@
 -- The old program's two runs and the new program's, side by side: what is known in front of an old instruction, and how extra ones keep it.
-use Rattle.std.proofs.Common.{◌≡◌, ℕ, suc, ◌+◌, ◌*◌, ◌^◌, ◌<◌, ◌≤◌, ◌==◌, refl, sym, ap, ◌∙◌, subst, arith, Bool, true, false, [], ◌∷◌, length, Option, Some, None, cond}
-use Rattle.std.specs.Prelude.{ℤ, option_and_then, nat_le, ◌&&◌}
+use Rattle.std.proofs.Common.{◌≡◌, ℕ, zero, suc, ◌+◌, ◌*◌, ◌%◌, ◌^◌, ◌<◌, ◌≤◌, ◌==◌, inl, inr, refl, sym, ap, ◌∙◌, subst, arith, Bool, true, false, List, [], ◌∷◌, length, Option, Some, None, cond}
+use Rattle.std.specs.Prelude.{ℤ, pos, not, option_and_then, nat_le, ltb, ◌&&◌, ◌||◌}
 use Rattle.std.specs.List.{AllByRecursion, list_all, list_any}
 use Rattle.std.specs.Option.{option_map_or}
-use Rattle.std.proofs.lemmas.Bool.{and_parts, eqb-true, leb-true, false≢true}
-use Rattle.std.proofs.lemmas.Option.{same_Some, option_and_then_some}
-use Rattle.bpf_insn.specs.Arithmetic.{extended}
-use Rattle.bpf_insn.specs.Effects.{is_frame_pointer}
+use Rattle.std.proofs.lemmas.Bool.{and_parts, or_cases, cond_both, cond-true, cond-false, le-ltb, eqb-true, eq-eqb, leb-true, false≢true}
+use Rattle.std.proofs.lemmas.Option.{none-some, same_Some}
+use Rattle.bpf_insn.specs.Arithmetic.{extended, jumps}
+use Rattle.bpf_insn.specs.Effects.{Access, is_frame_pointer}
+use Rattle.bpf_insn.specs.Limits.{frame_bytes}
 use Rattle.bpf_insn.specs.Image.{HasEncoding}
-use Rattle.bpf_insn.specs.Instruction.{Instructions, register_number, slot_count, insn_at}
+use Rattle.bpf_insn.specs.Instruction.{Instructions, register_number, byte_count, slot_count, insn_at}
 use Rattle.bpf_insn.specs.declared.instruction.Reg.{Reg}
 use Rattle.bpf_insn.specs.declared.instruction.Operand.TheVariants.{Imm}
 use Rattle.bpf_insn.specs.declared.instruction.Width.TheVariants.{W64}
-use Rattle.bpf_insn.specs.declared.instruction.Cond.TheVariants.{Gt}
+use Rattle.bpf_insn.specs.declared.instruction.Cond.TheVariants.{Eq, Gt}
 use Rattle.bpf_insn.specs.declared.instruction.Insn.{Insn}
-use Rattle.bpf_insn.specs.declared.instruction.Insn.TheVariants.{JumpIf, Exit}
+use Rattle.bpf_insn.specs.declared.instruction.Insn.TheVariants.{LoadImm64, JumpIf, CallLocal, Exit}
 use Rattle.bpf_semantics.specs.State.{State, start}
 use Rattle.bpf_semantics.specs.Step.{Step}
 use Rattle.bpf_semantics.specs.Run.{Steps}
-use Rattle.bpf_semantics.specs.Flat.{FlatState, addresses, frame_start, flat_register, flat_next, flat_does}
+use Rattle.bpf_semantics.specs.Memory.{Location}
+use Rattle.bpf_semantics.specs.Memory.Location.{InContext, InFrame}
+use Rattle.bpf_semantics.specs.Flat.{Placement, FlatState, IsAmong, addresses, address, frame_start, flat_register, flat_next, flat_does}
 use Rattle.bpf_semantics.specs.Placement.{IsPlacement, Fits}
 use Rattle.bpf_semantics.specs.declared.value.Value.TheVariants.{Number}
 use Rattle.bpf_semantics.proofs.FlatBase.{stands as stands_in}
+use Rattle.bpf_semantics.proofs.FlatAccess.{size_some}
+use Rattle.bpf_semantics.proofs.FlatLoad.{place_address, place_fits}
 use Rattle.bpf_semantics.proofs.NumberLemmas.{modulo_below}
-use Rattle.bpf_semantics.proofs.StateLemmas.{encoding_at}
+use Rattle.bpf_semantics.proofs.StateLemmas.{IsGood, encoding_at, option_map_some}
 use Rattle.bpf_kept_law.specs.Far.{near, wide}
 use Rattle.bpf_kept_law.specs.Zero.{zero_start, zero_does, zero_step, zero_after, IsZeroState}
-use Rattle.bpf_kept_law.specs.Meaning.{most_for_one}
+use Rattle.bpf_kept_law.specs.Meaning.{counted, turns_to, turns_in_call, most_for_one}
+use Rattle.bpf_kept_law.specs.declared.notes.Holder.{Holder}
+use Rattle.bpf_kept_law.specs.declared.notes.Holder.TheVariants.{Register}
+use Rattle.bpf_kept_law.specs.declared.notes.TurnsLeft.{TurnsLeft}
 use Rattle.bpf_kept_law.specs.declared.notes.Fact.{Fact}
 use Rattle.bpf_kept_law.specs.declared.notes.Note.{Note}
 use Rattle.bpf_kept_law.specs.declared.notes.Change.{Change}
 use Rattle.bpf_kept_law.specs.declared.notes.Change.TheVariants.{Kept, Made}
-use Rattle.bpf_kept_law.specs.Terms.{Facts, DiffersBy, Holds, AllHold, value_in}
-use Rattle.bpf_kept_law.specs.Rules.{is_register, put_into, holds_behind}
+use Rattle.bpf_kept_law.specs.Terms.{Facts, Values, DiffersBy, Holds, AllHold, value_in}
+use Rattle.bpf_kept_law.specs.Rules.{Known, is_register, holds_behind, are_told}
+use Rattle.bpf_kept_law.specs.Counters.{Counts, AllCount, counts_behind, all_count_behind, has_turn}
 use Rattle.bpf_kept_law.specs.Guards.{Front, guarded, is_tested, passes, accesses_ahead, farthest_ahead}
-use Rattle.bpf_kept_law.specs.Matching.{note_at, most_at_start, suits, arrives, makes, extra, adds, IsExtra}
+use Rattle.bpf_kept_law.specs.Matching.{note_at, most_at_start, said, hands_frame, left_alone, known_at, suits, arrives, made_in, makes, extra, adds, IsExtra}
 use Rattle.bpf_kept_law.proofs.FarLaw.{far_is_placement}
 use Rattle.bpf_kept_law.proofs.ZeroLaw.{zero_step_is_step}
-use Rattle.bpf_kept_law.proofs.HoldsLaw.{any_holds, register_value}
-use Rattle.bpf_kept_law.proofs.PutLaw.{put_value, put_does, AtOnce, end_left}
-use Rattle.bpf_kept_law.proofs.ExtraLaw.{kept_hold, made_hold}
+use Rattle.bpf_kept_law.proofs.HoldsLaw.{any_holds, all_of, held}
+use Rattle.bpf_kept_law.proofs.FrameLaw.{Leaves}
+use Rattle.bpf_kept_law.proofs.PutLaw.{AtOnce}
+use Rattle.bpf_kept_law.proofs.CountLaw.{Advances, stands_still, kept_counts, extra_counts, test_is}
+use Rattle.bpf_kept_law.proofs.EdgeLaw.{Behind, settled}
+use Rattle.bpf_kept_law.proofs.StoreLaw.{at_same, kept_still, made_alone}
+use Rattle.bpf_kept_law.proofs.Isolated.{AreAlone, is_inner, does_alone, goes_to_context}
 use Rattle.bpf_kept_law.proofs.AheadLaw.{Inside, goes_on, all_inside}
 use Rattle.bpf_kept_law.proofs.GuardLaw.{guard_passes}
-use Rattle.bpf_kept_law.proofs.Simulation.{none_first, program, put_next, not_exit, no_returns, no_waiting, guard_number, guard_is, guard_does, test_turns, does_there, steps_on, fits_on}
+use Rattle.bpf_kept_law.proofs.Simulation.{program, not_exit, no_returns, no_waiting, guard_number, guard_is, guard_does, answers, test_falls, test_turns, does_there, steps_on, fits_on, answers_same, new_state, new_placed}
+use Rattle.bpf_kept_law.proofs.Accesses.{goes}
 use Rattle.bpf_kept_law.proofs.Setting.{Setting}
 
 module _ (given : Setting) where
@@ -81,26 +95,67 @@ module _ (given : Setting) where
     pub wide_outer : fw.returns ≡ []
     pub slots_same : fw.slot ≡ fn.slot
 
+  -- how many turns the call has made before a state, by the slots of instructions
+  abbrev pub made_before : ℕ → ℕ → ℕ
+  made_before zero head = 0
+  made_before (suc j) head = turns_in_call (near false) old (zero_start (near false) context) head 0 j
+
+  -- no instruction of the new program puts a pointer into the frame elsewhere
+  abbrev pub is_isolated : Bool
+  is_isolated = list_all (λ i. not (hands_frame i)) js
+
   -- the new program's state, and how it lies in flat states at both
-  pub record NewAt (facts : Facts) (n : ℕ) (s : State) (fn fw gn gw : FlatState) : Type 0 where
+  pub record NewAt (known : Known) (j n : ℕ) (s : State) (fn fw gn gw : FlatState) : Type 0 where
     pub run : Steps new n (start context) s
     pub alone : s.waiting ≡ []
-    pub near_at : AtOnce near_own facts fn gn
-    pub wide_at : AtOnce wide_own facts fw gw
+    pub near_at : AtOnce order near_own known fn gn
+    pub wide_at : AtOnce order wide_own known fw gw
     pub near_fits : Fits order (near false) s gn
     pub wide_fits : Fits order (wide false) s gw
+    pub counted : AllCount known.turns (made_before j) (value_in order near_own gn) known.counters
+    pub isolated : is_isolated ≡ true → AreAlone s
+
+  -- the same, behind a change
+  pub record Arriving (known : Known) (change : Change) (step : Option ℕ) (j n : ℕ) (s : State) (fn fw gn gw : FlatState) : Type 0 where
+    pub run : Steps new n (start context) s
+    pub alone : s.waiting ≡ []
+    pub near_behind : Behind order near_own known change fn gn
+    pub wide_behind : Behind order wide_own known change fw gw
+    pub near_fits : Fits order (near false) s gn
+    pub wide_fits : Fits order (wide false) s gw
+    pub counts : (want : Option TurnsLeft) → counts_behind known change step want ≡ true → Counts bounds.turns (made_before j) (value_in order near_own gn) want
+    pub isolated : is_isolated ≡ true → AreAlone s
 
   -- ---- one instruction of the new program
+
+  holds_at_insn : (test : Insn → Bool) (is : List Insn) → list_all test is ≡ true → (slot : ℕ) (i : Insn) → insn_at is slot ≡ Some i → test i ≡ true
+  holds_at_insn test [] h slot i e = absurd (none-some _ e)
+  holds_at_insn test (LoadImm64 dst value ∷ is) h zero i e = let p = and_parts (test (LoadImm64 dst value)) (list_all test is) h in subst (λ i. test i ≡ true) (same_Some _ _ e) p.0
+  holds_at_insn test (LoadImm64 dst value ∷ is) h (suc zero) i e = absurd (none-some _ e)
+  holds_at_insn test (LoadImm64 dst value ∷ is) h (suc (suc slot)) i e = let p = and_parts (test (LoadImm64 dst value)) (list_all test is) h in holds_at_insn test is p.1 slot i e
+  holds_at_insn test (j ∷ is) h zero i e = let p = and_parts (test j) (list_all test is) h in subst (λ i. test i ≡ true) (same_Some _ _ e) p.0
+  holds_at_insn test (j ∷ is) h (suc slot) i e = let p = and_parts (test j) (list_all test is) h in holds_at_insn test is p.1 slot i e
+
+  not_true : (b : Bool) → not b ≡ true → b ≡ false
+  not_true true e = absurd (false≢true e)
+  not_true false e = refl
+
+  inner_is : (m : Insn) (g h : FlatState) → flat_does order m g ≡ Some h → is_inner m ≡ true
+  unfolding flat_does
+  inner_is (CallLocal off) g h e = absurd (none-some _ e)
+  inner_is Exit g h e = absurd (none-some _ e)
+  inner_is m g h e = refl
 
   pub record NewNext (n : ℕ) (hn hw : FlatState) (t : State) : Type 0 where
     pub run : Steps new (suc n) (start context) t
     pub alone : t.waiting ≡ []
     pub near_fits : Fits order (near false) t hn
     pub wide_fits : Fits order (wide false) t hw
+    pub isolated : is_isolated ≡ true → AreAlone t
 
-  pub new_next : (facts : Facts) (n : ℕ) (s : State) (fn fw gn gw hn hw : FlatState) (m : Insn) → NewAt facts n s fn fw gn gw → insn_at js s.top.slot ≡ Some m → flat_does order m gn ≡ Some hn → flat_does order m gw ≡ Some hw → hn.returns ≡ gn.returns
+  pub new_next : (known : Known) (j n : ℕ) (s : State) (fn fw gn gw hn hw : FlatState) (m : Insn) → NewAt known j n s fn fw gn gw → insn_at js s.top.slot ≡ Some m → flat_does order m gn ≡ Some hn → flat_does order m gw ≡ Some hw → hn.returns ≡ gn.returns
       → (t : State) × Step new s t × NewNext n hn hw t
-  new_next facts n s fn fw gn gw hn hw m at there en ew same =
+  new_next known j n s fn fw gn gw hn hw m at there en ew same =
       let x = steps_on order js new_valid context bytes short never n s m at.run there (not_exit order m gn hn en) in
       let nf = fits_on order js new_valid context bytes short never (near false) n s x.0 m gn hn near_placed at.run at.near_fits there x.1 en in
       let wf = fits_on order js new_valid context bytes short never (wide false) n s x.0 m gw hw wide_placed at.run at.wide_fits there x.1 ew in (
@@ -111,59 +166,106 @@ module _ (given : Setting) where
           alone = no_waiting (near false) x.0.waiting hn.returns nf.returns_fit (same ∙ no_returns (near false) s.waiting gn.returns at.near_fits.returns_fit at.alone);
           near_fits = nf;
           wide_fits = wf;
+          isolated = λ e. does_alone order m s x.0 (inner_is m gn hn en) (not_true (hands_frame m) (holds_at_insn (λ i. not (hands_frame i)) js e s.top.slot m there)) (does_there order js new_valid context bytes short never s x.0 m there x.1) (at.isolated e);
         },
       )
 
-  -- behind an extra instruction the new program has what a change leaves of the facts
-  pub record Extended (facts : Facts) (change : Change) (n : ℕ) (m : Insn) (s : State) (fn fw : FlatState) : Type 0 where
+  -- ---- accesses by other registers than r10
+
+  touched_left : (left j : ℕ) (f g : FlatState) (a b : Access) → left ≤ frame_bytes → IsAmong near_own left ((address f a.base a.offset + j) % addresses) → IsAmong near_own frame_bytes ((address f a.base a.offset + j) % addresses)
+  touched_left left j f g a b le among = let p0 = among.0 in let p1 = among.1 in (omega arith, omega arith)
+
+  -- where the new program has no pointer into the frame but r10, they go to the context
+  isolated_leaves : (place : Placement) (known : Known) (j n : ℕ) (s : State) (fn fw gn gw f g : FlatState) (i m : Insn) → IsPlacement (length context) place → Fits order place s g → NewAt known j n s fn fw gn gw → insn_at js s.top.slot ≡ Some m → (m ≡ Exit → ⊥) → is_isolated ≡ true → Leaves (frame_start place 0) frame_bytes i m f g
+  isolated_leaves place known j n s fn fw gn gw f g i m placed fits at there other e a b k ea eb na nb same lt lt' among =
+      let x = steps_on order js new_valid context bytes short never n s m at.run there other in
+      let d = does_there order js new_valid context bytes short never s x.0 m there x.1 in
+      let o = goes order m b s x.0 d eb in
+      let c = goes_to_context s (byte_count b.size) b.offset b.base o.base o.location (at.isolated e) nb o.base_is o.location_is in
+      let placed' = new_placed order js new_valid context bytes short never place n s at.run placed in
+      let is = new_state order js new_valid context bytes short never n s at.run in
+      let fit = place_fits place s (byte_count b.size) b.offset o.base (flat_register g b.base) o.location (size_some b.size) placed' is.few_frames (stands_in fits b.base o.base o.base_is) o.location_is in
+      apart place (length s.context) (byte_count b.size) c.0 k s o.location placed' c.1 lt' fit.good (subst (λ z. IsAmong (frame_start place 0) frame_bytes ((z + k) % addresses)) (sym same ∙ fit.address_is) among)
+    where
+      apart : (place : Placement) (len size c k : ℕ) (s : State) (l : Location) → IsPlacement (length s.context) place → l ≡ InContext c → k < size → IsGood s size l → IsAmong (frame_start place 0) frame_bytes ((place_address place l + k) % addresses) → ⊥
+      apart place len size c k s (InFrame m first) placed el lt good among = different c m first el
+        where
+          is_context : Location → Bool
+          is_context (InContext i) = true
+          is_context (InFrame m first) = false
+
+          different : (c m first : ℕ) → InFrame m first ≡ InContext c → ⊥
+          different c m first e = false≢true (ap is_context e)
+      apart place len size c k s (InContext d) placed el lt good among =
+          let inside = placed.context_inside in
+          let small : (place.context + d + k) % addresses ≡ place.context + d + k = omega arith in
+          placed.context_apart 0 (omega arith) (place.context + d + k) (omega arith, omega arith) (subst (λ z. IsAmong (frame_start place 0) frame_bytes z) small among)
+
+  pub near_leaves : (known : Known) (j n : ℕ) (s : State) (fn fw gn gw : FlatState) (i m : Insn) → OldAt j fn fw → NewAt known j n s fn fw gn gw → insn_at is fn.slot ≡ Some i → insn_at js s.top.slot ≡ Some m → (m ≡ Exit → ⊥) → Leaves near_own (left_alone new bounds.untouched) i m fn gn
+  unfolding left_alone
+  near_leaves known j n s fn fw gn gw i m o at here there other =
+      cond_both is_isolated frame_bytes bounds.untouched (λ left. Leaves near_own left i m fn gn)
+      (λ e. isolated_leaves (near false) known j n s fn fw gn gw fn gn i m near_placed at.near_fits at there other e)
+      (λ e a b k ea eb na nb same lt lt' among. near_ends.leaves j fn o.near_before o.near_run i a k 0 here ea (λ ten. false≢true (sym na ∙ eq-eqb (register_number a.base) 10 ten)) lt (omega arith) among)
+
+  pub wide_leaves : (known : Known) (j n : ℕ) (s : State) (fn fw gn gw : FlatState) (i m : Insn) → OldAt j fn fw → NewAt known j n s fn fw gn gw → insn_at is fw.slot ≡ Some i → insn_at js s.top.slot ≡ Some m → (m ≡ Exit → ⊥) → Leaves wide_own (left_alone new bounds.untouched) i m fw gw
+  unfolding left_alone
+  wide_leaves known j n s fn fw gn gw i m o at here there other =
+      cond_both is_isolated frame_bytes bounds.untouched (λ left. Leaves wide_own left i m fw gw)
+      (λ e. isolated_leaves (wide false) known j n s fn fw gn gw fw gw i m wide_placed at.wide_fits at there other e)
+      (λ e a b k ea eb na nb same lt lt' among. wide_ends.leaves j fw o.wide_before o.wide_run i a k 0 here ea (λ ten. false≢true (sym na ∙ eq-eqb (register_number a.base) 10 ten)) lt (omega arith) among)
+
+  -- ---- extra instructions by themselves
+
+  pub record Extended (known : Known) (change : Change) (j n : ℕ) (m : Insn) (s : State) (fn fw : FlatState) : Type 0 where
     pub state : State
     pub hn : FlatState
     pub hw : FlatState
-    pub new_at : (wants : Facts) → list_all (holds_behind facts change) wants ≡ true → NewAt wants (suc n) state fn fw hn hw
+    pub arriving : Arriving known change None j (suc n) state fn fw hn hw
     pub at : state.top.slot ≡ s.top.slot + slot_count m
 
-  pub new_kept : (facts wants : Facts) (n : ℕ) (s : State) (fn fw gn gw : FlatState) → NewAt facts n s fn fw gn gw → list_all (holds_behind facts Kept) wants ≡ true → NewAt wants n s fn fw gn gw
-  new_kept facts wants n s fn fw gn gw at e =
-      record {
-        run = at.run;
-        alone = at.alone;
-        near_at = record { high = at.near_at.high; flat = at.near_at.flat; new_flat = at.near_at.new_flat; memory_same = at.near_at.memory_same; pointers = at.near_at.pointers; all = kept_hold near_own fn facts wants gn.registers at.near_at.high at.near_at.all e };
-        wide_at = record { high = at.wide_at.high; flat = at.wide_at.flat; new_flat = at.wide_at.new_flat; memory_same = at.wide_at.memory_same; pointers = at.wide_at.pointers; all = kept_hold wide_own fw facts wants gw.registers at.wide_at.high at.wide_at.all e };
-        near_fits = at.near_fits;
-        wide_fits = at.wide_fits;
-      }
-
-  put_extra : (facts : Facts) (n : ℕ) (s : State) (fn fw gn gw : FlatState) (m : Insn) (r : Reg) → NewAt facts n s fn fw gn gw → insn_at js s.top.slot ≡ Some m → put_into m ≡ Some r → is_frame_pointer r ≡ false → Extended facts (Made r m) n m s fn fw
-  put_extra facts n s fn fw gn gw m r at there into other =
-      let hn : FlatState = put_next order m r gn in
-      let hw : FlatState = put_next order m r gw in
-      let x = new_next facts n s fn fw gn gw hn hw m at there (put_does order m r gn into) (put_does order m r gw into) refl in
+  made_extra : (known : Known) (j n : ℕ) (s : State) (fn fw gn gw : FlatState) (m : Insn) (h : Holder) → known.turns ≡ bounds.turns → NewAt known j n s fn fw gn gw → insn_at js s.top.slot ≡ Some m → made_in m ≡ Some h → Extended known (Made h m) j n m s fn fw
+  made_extra known j n s fn fw gn gw m h turns at there into =
       let enc : HasEncoding m = encoding_at js new_valid.encoding s.top.slot m there in
+      let a = made_alone order near_own known m h fn gn at.near_at enc into in
+      let b = made_alone order wide_own known m h fw gw at.wide_at enc into in
+      let x = new_next known j n s fn fw gn gw a.new b.new m at there a.new_does b.new_does a.new_returns in
       record {
         state = x.0;
-        hn = hn;
-        hw = hw;
-        new_at = λ wants e. record {
+        hn = a.new;
+        hw = b.new;
+        arriving = record {
           run = x.2.run;
           alone = x.2.alone;
-          near_at = record {
-            high = at.near_at.high;
-            flat = at.near_at.flat;
-            new_flat = x.2.near_fits.flat;
-            memory_same = at.near_at.memory_same;
-            pointers = (at.near_at.pointers.0, end_left near_own gn.registers r (put_value order m gn) other at.near_at.pointers.1);
-            all = made_hold order near_own fn gn facts wants r m at.near_at.high enc at.near_at.new_flat.eleven at.near_at.pointers.1 at.near_at.all e;
-          };
-          wide_at = record {
-            high = at.wide_at.high;
-            flat = at.wide_at.flat;
-            new_flat = x.2.wide_fits.flat;
-            memory_same = at.wide_at.memory_same;
-            pointers = (at.wide_at.pointers.0, end_left wide_own gw.registers r (put_value order m gw) other at.wide_at.pointers.1);
-            all = made_hold order wide_own fw gw facts wants r m at.wide_at.high enc at.wide_at.new_flat.eleven at.wide_at.pointers.1 at.wide_at.all e;
-          };
+          near_behind = a.behind;
+          wide_behind = b.behind;
           near_fits = x.2.near_fits;
           wide_fits = x.2.wide_fits;
+          counts = λ want e. subst (λ t. Counts t (made_before j) (value_in order near_own a.new) want) turns
+              (extra_counts order near_own known (made_before j) h m gn (value_in order near_own a.new) want (subst (λ t. t < addresses) (sym turns) matches.few_turns) at.near_at.room at.near_at.new_flat at.near_at.pointers.1 enc a.elsewhere a.here at.counted e);
+          isolated = x.2.isolated;
+        };
+        at = sym x.2.near_fits.slot_is ∙ a.new_slot ∙ ap (λ z. z + slot_count m) at.near_fits.slot_is;
+      }
+
+  -- one that goes on at the next instruction and changes nothing
+  passed_extra : (known : Known) (j n : ℕ) (s : State) (fn fw gn gw : FlatState) (m : Insn) → known.turns ≡ bounds.turns → NewAt known j n s fn fw gn gw → insn_at js s.top.slot ≡ Some m → flat_does order m gn ≡ Some (flat_next m gn) → flat_does order m gw ≡ Some (flat_next m gw) → Extended known Kept j n m s fn fw
+  passed_extra known j n s fn fw gn gw m turns at there en ew =
+      let x = new_next known j n s fn fw gn gw (flat_next m gn) (flat_next m gw) m at there en ew refl in
+      record {
+        state = x.0;
+        hn = flat_next m gn;
+        hw = flat_next m gw;
+        arriving = record {
+          run = x.2.run;
+          alone = x.2.alone;
+          near_behind = kept_still order near_own known fn gn (gn.slot + slot_count m) at.near_at;
+          wide_behind = kept_still order wide_own known fw gw (gw.slot + slot_count m) at.wide_at;
+          near_fits = x.2.near_fits;
+          wide_fits = x.2.wide_fits;
+          counts = λ want e. subst (λ t. Counts t (made_before j) (value_in order near_own (flat_next m gn)) want) turns
+              (kept_counts known (made_before j) (made_before j) None Kept (value_in order near_own gn) (value_in order near_own (flat_next m gn)) want (λ want h. false≢true h) (stands_still (made_before j)) (λ h e. at_same order near_own (gn.slot + slot_count m) gn (Some h)) at.counted e);
+          isolated = x.2.isolated;
         };
         at = sym x.2.near_fits.slot_is ∙ ap (λ z. z + slot_count m) at.near_fits.slot_is;
       }
@@ -183,16 +285,16 @@ module _ (given : Setting) where
   front_at slot = record { old = old; slot = slot; length = bounds.length }
 
   -- what is known of the register at both placements
-  abbrev pub Known : (fn fw gn gw : FlatState) (fact : Fact) → Type 0
-  Known fn fw gn gw fact = Holds near_own fn gn.registers fact × Holds wide_own fw gw.registers fact
+  abbrev pub Known_at : (fn fw gn gw : FlatState) (fact : Fact) → Type 0
+  Known_at fn fw gn gw fact = Holds near_own (value_in order near_own fn) (value_in order near_own gn) fact × Holds wide_own (value_in order wide_own fw) (value_in order wide_own gw) fact
 
-  both_known : (fn fw gn gw : FlatState) (facts : Facts) → AllHold near_own fn facts gn.registers → AllHold wide_own fw facts gw.registers → AllByRecursion (λ fact. Known fn fw gn gw fact) facts
+  both_known : (fn fw gn gw : FlatState) (facts : Facts) → AllHold near_own (value_in order near_own fn) (value_in order near_own gn) facts → AllHold wide_own (value_in order wide_own fw) (value_in order wide_own gw) facts → AllByRecursion (λ fact. Known_at fn fw gn gw fact) facts
   both_known fn fw gn gw [] p q = tt
   both_known fn fw gn gw (fact ∷ facts) p q = ((p.0, q.0), both_known fn fw gn gw facts p.1 q.1)
 
-  guard_goes : (facts : Facts) (j n : ℕ) (s : State) (fn fw gn gw : FlatState) (dst : Reg) (imm off : ℤ) → OldAt j fn fw → NewAt facts n s fn fw gn gw → insn_at js s.top.slot ≡ Some (JumpIf Gt W64 dst (Imm imm) off)
-      → list_any (guarded (front_at fn.slot) dst (extended imm)) facts ≡ true → Extended facts Kept n (JumpIf Gt W64 dst (Imm imm) off) s fn fw
-  guard_goes facts j n s fn fw gn gw dst imm off o at there tested =
+  guard_goes : (known : Known) (j n : ℕ) (s : State) (fn fw gn gw : FlatState) (dst : Reg) (imm off : ℤ) → known.turns ≡ bounds.turns → OldAt j fn fw → NewAt known j n s fn fw gn gw → insn_at js s.top.slot ≡ Some (JumpIf Gt W64 dst (Imm imm) off)
+      → list_any (guarded (front_at fn.slot) dst (extended imm)) known.facts ≡ true → Extended known Kept j n (JumpIf Gt W64 dst (Imm imm) off) s fn fw
+  guard_goes known j n s fn fw gn gw dst imm off turns o at there tested =
       let m : Insn = JumpIf Gt W64 dst (Imm imm) off in
       let y = steps_on order js new_valid context bytes short never n s m at.run there (test_turns m Gt W64 dst (Imm imm) off refl) in
       let number = guard_number order s y.0 dst imm off (does_there order js new_valid context bytes short never s y.0 m there y.1) in
@@ -200,44 +302,90 @@ module _ (given : Setting) where
       let in_near : flat_register gn dst ≡ x = stands_in at.near_fits dst (Number x) number.1 in
       let in_wide : flat_register gw dst ≡ x = stands_in at.wide_fits dst (Number x) number.1 in
       let small : x < addresses = subst (λ z. z < addresses) in_near (at.near_at.new_flat.numbers (register_number dst)) in
-      let known = any_holds (guarded (front_at fn.slot) dst (extended imm)) (λ fact. Known fn fw gn gw fact) facts tested (both_known fn fw gn gw facts at.near_at.all at.wide_at.all) in
-      let c = and_parts (is_register dst known.0.of) (is_tested (front_at fn.slot) (extended imm) known.0) known.1 in
-      let le : x ≤ extended imm = guard_passes old bounds.length (extended imm) fn.slot x fn fw matches.short (modulo_below imm) small o.near_state.flat o.wide_state.flat (near_inside j fn fw o) (wide_inside j fn fw o) known.0
-      (subst (λ z. DiffersBy near_own known.0.by (value_in fn.registers known.0.base) z) (register_value gn.registers dst known.0.of c.0 ∙ in_near) known.2.0)
-      (subst (λ z. DiffersBy wide_own known.0.by (value_in fw.registers known.0.base) z) (register_value gw.registers dst known.0.of c.0 ∙ in_wide) known.2.1) c.1 in
-      let hn : FlatState = flat_next m gn in
-      let hw : FlatState = flat_next m gw in
-      let z = new_next facts n s fn fw gn gw hn hw m at there (guard_does order dst imm off gn (subst (λ z. z ≤ extended imm) (sym in_near) le)) (guard_does order dst imm off gw (subst (λ z. z ≤ extended imm) (sym in_wide) le)) refl in
-      let next : NewAt facts (suc n) z.0 fn fw hn hw = record {
-        run = z.2.run;
-        alone = z.2.alone;
-        near_at = record { high = at.near_at.high; flat = at.near_at.flat; new_flat = z.2.near_fits.flat; memory_same = at.near_at.memory_same; pointers = at.near_at.pointers; all = at.near_at.all };
-        wide_at = record { high = at.wide_at.high; flat = at.wide_at.flat; new_flat = z.2.wide_fits.flat; memory_same = at.wide_at.memory_same; pointers = at.wide_at.pointers; all = at.wide_at.all };
-        near_fits = z.2.near_fits;
-        wide_fits = z.2.wide_fits;
-      } in
-      record {
-        state = z.0;
-        hn = hn;
-        hw = hw;
-        new_at = λ wants e. new_kept facts wants (suc n) z.0 fn fw hn hw next e;
-        at = sym z.2.near_fits.slot_is ∙ ap (λ z. z + slot_count m) at.near_fits.slot_is;
-      }
+      let fact = any_holds (guarded (front_at fn.slot) dst (extended imm)) (λ fact. Known_at fn fw gn gw fact) known.facts tested (both_known fn fw gn gw known.facts at.near_at.all at.wide_at.all) in
+      let c = and_parts (is_register dst fact.0.of) (is_tested (front_at fn.slot) (extended imm) fact.0) fact.1 in
+      let le : x ≤ extended imm = guard_passes old bounds.length (extended imm) fn.slot x fn fw matches.short (modulo_below imm) small o.near_state.flat o.wide_state.flat (near_inside j fn fw o) (wide_inside j fn fw o) order fact.0
+      (subst (λ z. DiffersBy near_own fact.0.by (value_in order near_own fn fact.0.base) z) (held (value_in order near_own gn) (Register dst) fact.0.of c.0 ∙ in_near) fact.2.0)
+      (subst (λ z. DiffersBy wide_own fact.0.by (value_in order wide_own fw fact.0.base) z) (held (value_in order wide_own gw) (Register dst) fact.0.of c.0 ∙ in_wide) fact.2.1) c.1 in
+      passed_extra known j n s fn fw gn gw m turns at there (guard_does order dst imm off gn (subst (λ z. z ≤ extended imm) (sym in_near) le)) (guard_does order dst imm off gw (subst (λ z. z ≤ extended imm) (sym in_wide) le))
+
+  -- ---- counters
+
+  -- in the outermost frame each state at a slot counts
+  outer_turns : (head before : ℕ) (f : FlatState) → turns_to head 0 (Some f) before ≡ counted head 0 f + before
+  outer_turns head before f = cond-false (ltb (length f.returns) 0) 0 (counted head 0 f + before) (le-ltb (length f.returns) 0 (omega arith))
+
+  -- the turns that are made behind a state
+  pub turn_made : (j : ℕ) (fn fw : FlatState) → OldAt j fn fw → (head : ℕ) → made_before (suc j) head ≡ counted head 0 fn + made_before j head
+  unfolding turns_in_call zero_after
+  turn_made zero fn fw o head =
+      let first : zero_start (near false) context ≡ fn = same_Some (zero_start (near false) context) fn o.near_run in
+      outer_turns head 0 (zero_start (near false) context) ∙ ap (λ f. counted head 0 f + 0) first
+  turn_made (suc j) fn fw o head =
+      ap (λ o. turns_to head 0 o (turns_in_call (near false) old (zero_start (near false) context) head 0 j)) o.near_run
+      ∙ outer_turns head (turns_in_call (near false) old (zero_start (near false) context) head 0 j) fn
+
+  enough_counted : (a b : Bool) → b ≡ true → cond {A = ℕ} a 1 0 ≤ cond (a && b) 1 0
+  enough_counted true b e = subst (λ b. 1 ≤ cond {A = ℕ} b 1 0) (sym e) (omega arith)
+  enough_counted false b e = omega arith
+
+  -- a state is one turn more of its slot
+  pub turn_advances : (j : ℕ) (fn fw : FlatState) → OldAt j fn fw → Advances (Some fn.slot) (made_before j) (made_before (suc j))
+  turn_advances j fn fw o head =
+      let now = turn_made j fn fw o head in
+      let one = enough_counted (fn.slot == head) (length fn.returns == 0) (eq-eqb (length fn.returns) 0 (ap length o.near_outer)) in
+      omega arith
+
+  counted_here : (j : ℕ) (fn fw : FlatState) → OldAt j fn fw → counted fn.slot 0 fn ≡ 1
+  counted_here j fn fw o = cond-true (fn.slot == fn.slot && length fn.returns == 0) 1 0 (here (fn.slot == fn.slot) (eq-eqb fn.slot fn.slot refl) (eq-eqb (length fn.returns) 0 (ap length o.near_outer)))
+    where
+      here : (a : Bool) → a ≡ true → {b : Bool} → b ≡ true → (a && b) ≡ true
+      here true ea eb = eb
+      here false ea eb = absurd (false≢true ea)
+
+  -- of the turns that are to be made, the one in front of which the old program stands is left
+  turn_left : (j v : ℕ) (fn fw : FlatState) → OldAt j fn fw → bounds.turns ≤ v + made_before j fn.slot → 1 ≤ v
+  turn_left j v fn fw o counts =
+      let few : made_before (suc j) fn.slot ≤ bounds.turns = subst (λ n. turns_in_call (near false) old (zero_start (near false) context) fn.slot n j ≤ bounds.turns) (ap length o.near_outer) (near_ends.few j fn o.near_before o.near_run) in
+      let now = turn_made j fn fw o fn.slot in
+      let one = counted_here j fn fw o in
+      omega arith
+
+  turn_goes : (known : Known) (j n : ℕ) (s : State) (fn fw gn gw : FlatState) (dst : Reg) (off : ℤ) → known.turns ≡ bounds.turns → OldAt j fn fw → NewAt known j n s fn fw gn gw → insn_at js s.top.slot ≡ Some (JumpIf Eq W64 dst (Imm (pos zero)) off)
+      → bounds.turns ≤ flat_register gn dst + made_before j fn.slot → Extended known Kept j n (JumpIf Eq W64 dst (Imm (pos zero)) off) s fn fw
+  turn_goes known j n s fn fw gn gw dst off turns o at there counts =
+      let m : Insn = JumpIf Eq W64 dst (Imm (pos zero)) off in
+      let y = steps_on order js new_valid context bytes short never n s m at.run there (test_turns m Eq W64 dst (Imm (pos zero)) off refl) in
+      let a = answers order s y.0 Eq W64 dst (Imm (pos zero)) off (does_there order js new_valid context bytes short never s y.0 m there y.1) in
+      let dn = answers_same order js new_valid context bytes short never (near false) n s gn Eq W64 dst (Imm (pos zero)) a at.run at.near_fits in
+      let dw = answers_same order js new_valid context bytes short never (wide false) n s gw Eq W64 dst (Imm (pos zero)) a at.run at.wide_fits in
+      let left = turn_left j (flat_register gn dst) fn fw o counts in
+      let fails : jumps W64 Eq (flat_register gn dst) (extended (pos zero)) ≡ false = differ (flat_register gn dst) left in
+      passed_extra known j n s fn fw gn gw m turns at there (test_falls order Eq W64 dst (Imm (pos zero)) off gn fails) (test_falls order Eq W64 dst (Imm (pos zero)) off gw (dw ∙ sym dn ∙ fails))
+    where
+      differ : (x : ℕ) → 1 ≤ x → jumps W64 Eq x (extended (pos zero)) ≡ false
+      differ x le = by_test (x == 0) refl
+        where
+          by_test : (b : Bool) → (x == 0) ≡ b → (x == 0) ≡ false
+          by_test false e = e
+          by_test true e = let z = eqb-true x 0 e in absurd (omega arith)
 
   -- ---- extra instructions
 
-  one_extra : (facts : Facts) (change : Change) (j n : ℕ) (s : State) (fn fw gn gw : FlatState) (m : Insn) → OldAt j fn fw → NewAt facts n s fn fw gn gw → insn_at js s.top.slot ≡ Some m → extra (front_at fn.slot) facts m ≡ Some change → Extended facts change n m s fn fw
+  one_extra : (known : Known) (change : Change) (j n : ℕ) (s : State) (fn fw gn gw : FlatState) (m : Insn) → known.turns ≡ bounds.turns → OldAt j fn fw → NewAt known j n s fn fw gn gw → insn_at js s.top.slot ≡ Some m → extra (front_at fn.slot) known m ≡ Some change → Extended known change j n m s fn fw
   unfolding extra
-  one_extra facts change j n s fn fw gn gw m o at there e = by_pass (passes (front_at fn.slot) facts m) refl e
+  one_extra known change j n s fn fw gn gw m turns o at there e = by_pass (passes (front_at fn.slot) known.facts m || has_turn known.counters fn.slot m) refl e
     where
-      by_pass : (b : Bool) → passes (front_at fn.slot) facts m ≡ b → cond b (Some Kept) (makes m) ≡ Some change → Extended facts change n m s fn fw
-      by_pass true eb h =
-          let g = guard_is (front_at fn.slot) facts m eb in
-          subst (λ change. Extended facts change n m s fn fw) (same_Some Kept change h)
-          (subst (λ m. Extended facts Kept n m s fn fw) (sym g.is) (guard_goes facts j n s fn fw gn gw g.dst g.imm g.off o at (there ∙ ap Some g.is) g.tested))
-      by_pass false eb h = option_and_then_some _ (put_into m) change h (λ r er h1.
-          let c = none_first (is_frame_pointer r) (Some (Made r m)) change h1 in
-          subst (λ change. Extended facts change n m s fn fw) (same_Some (Made r m) change c.1) (put_extra facts n s fn fw gn gw m r at there er c.0))
+      by_pass : (b : Bool) → (passes (front_at fn.slot) known.facts m || has_turn known.counters fn.slot m) ≡ b → cond b (Some Kept) (makes m) ≡ Some change → Extended known change j n m s fn fw
+      by_pass true eb h = subst (λ change. Extended known change j n m s fn fw) (same_Some Kept change h) (elim (or_cases (passes (front_at fn.slot) known.facts m) (has_turn known.counters fn.slot m) eb) [
+        | inl guard ↦ (let g = guard_is (front_at fn.slot) known.facts m guard in
+            subst (λ m. Extended known Kept j n m s fn fw) (sym g.is) (guard_goes known j n s fn fw gn gw g.dst g.imm g.off turns o at (there ∙ ap Some g.is) g.tested))
+        | inr turn ↦ (let t = test_is known.turns (made_before j) (value_in order near_own gn) fn.slot known.counters m at.counted turn in
+            subst (λ m. Extended known Kept j n m s fn fw) (sym t.is) (turn_goes known j n s fn fw gn gw t.dst t.off turns o at (there ∙ ap Some t.is) (subst (λ k. k ≤ flat_register gn t.dst + made_before j fn.slot) turns t.counts)))
+      ])
+      by_pass false eb h =
+          let x = option_map_some (λ h. Made h m) (made_in m) change h in
+          subst (λ change. Extended known change j n m s fn fw) x.2 (made_extra known j n s fn fw gn gw m x.0 turns at there x.1)
 
   -- ---- at a slot of which something is noted
 
@@ -253,20 +401,26 @@ module _ (given : Setting) where
     pub old_is : fn.slot ≡ note.old
     pub few : n + note.extras ≤ most_at_start + most_for_one * j
     pub old_at : OldAt j fn fw
-    pub new_at : NewAt note.facts n state fn fw gn gw
+    pub new_at : NewAt (known_at new bounds note) j n state fn fw gn gw
+
+  all_counted : (known : Known) (change : Change) (step : Option ℕ) (counters : List (Option TurnsLeft)) (made : ℕ → ℕ) (v : Values) → ((want : Option TurnsLeft) → counts_behind known change step want ≡ true → Counts bounds.turns made v want) → all_count_behind known change step counters ≡ true → AllCount bounds.turns made v counters
+  unfolding all_count_behind
+  all_counted known change step counters made v counts e = all_of (counts_behind known change step) (Counts bounds.turns made v) counters e counts
 
   -- an edge leads there
-  pub arrived : (facts : Facts) (change : Change) (j n slot most new_slot : ℕ) (s : State) (fn fw gn gw : FlatState) → arrives notes facts change slot most new_slot ≡ true → s.top.slot ≡ new_slot → fn.slot ≡ slot → n + most ≤ most_at_start + most_for_one * j
-      → OldAt j fn fw → ((wants : Facts) → list_all (holds_behind facts change) wants ≡ true → NewAt wants n s fn fw gn gw) → (r : Ready j) × (r.note.extras ≤ most)
+  pub arrived : (known : Known) (change : Change) (step : Option ℕ) (j n slot most new_slot : ℕ) (s : State) (fn fw gn gw : FlatState) → arrives notes known change step slot most new_slot ≡ true → s.top.slot ≡ new_slot → fn.slot ≡ slot → n + most ≤ most_at_start + most_for_one * j
+      → OldAt j fn fw → Arriving known change step j n s fn fw gn gw → (r : Ready j) × (r.note.extras ≤ most)
   unfolding arrives
-  arrived facts change j n slot most new_slot s fn fw gn gw e at old_at few o new_at = by_note (note_at notes new_slot) refl e
+  arrived known change step j n slot most new_slot s fn fw gn gw e at old_at few o a = by_note (note_at notes new_slot) refl e
     where
-      by_note : (c : Option Note) → note_at notes new_slot ≡ c → option_map_or (suits facts change slot most) c false ≡ true → (r : Ready j) × (r.note.extras ≤ most)
+      by_note : (c : Option Note) → note_at notes new_slot ≡ c → option_map_or (suits known change step slot most) c false ≡ true → (r : Ready j) × (r.note.extras ≤ most)
       by_note None ec h = absurd (false≢true h)
       by_note (Some note) ec h =
-          let a = and_parts (note.old == slot) (nat_le note.extras most && list_all (holds_behind facts change) note.facts) h in
-          let b = and_parts (nat_le note.extras most) (list_all (holds_behind facts change) note.facts) a.1 in
-          let little : note.extras ≤ most = leb-true note.extras most b.0 in (
+          let p = and_parts (note.old == slot) (nat_le note.extras most && (list_all (holds_behind known.facts change) (said note) && (are_told known change note.apart && all_count_behind known change step note.counters))) h in
+          let q = and_parts (nat_le note.extras most) (list_all (holds_behind known.facts change) (said note) && (are_told known change note.apart && all_count_behind known change step note.counters)) p.1 in
+          let r = and_parts (list_all (holds_behind known.facts change) (said note)) (are_told known change note.apart && all_count_behind known change step note.counters) q.1 in
+          let t = and_parts (are_told known change note.apart) (all_count_behind known change step note.counters) r.1 in
+          let little : note.extras ≤ most = leb-true note.extras most q.0 in (
             record {
               n = n;
               state = s;
@@ -276,25 +430,34 @@ module _ (given : Setting) where
               gw = gw;
               note = note;
               noted = ap (note_at notes) at ∙ ec;
-              old_is = old_at ∙ sym (eqb-true note.old slot a.0);
+              old_is = old_at ∙ sym (eqb-true note.old slot p.0);
               few = omega arith;
               old_at = o;
-              new_at = new_at note.facts b.1;
+              new_at = record {
+                run = a.run;
+                alone = a.alone;
+                near_at = settled order near_own known change fn gn a.near_behind new bounds note r.0 t.0;
+                wide_at = settled order wide_own known change fw gw a.wide_behind new bounds note r.0 t.0;
+                near_fits = a.near_fits;
+                wide_fits = a.wide_fits;
+                counted = all_counted known change step note.counters (made_before j) (value_in order near_own gn) a.counts t.1;
+                isolated = a.isolated;
+              };
             },
             little,
           )
 
   -- an extra instruction
-  pub extra_step : (j left : ℕ) (r : Ready j) → r.note.extras ≡ suc left → IsExtra old new notes bounds.length r.state.top.slot r.note left → (q : Ready j) × (q.note.extras ≤ left)
+  pub extra_step : (j left : ℕ) (r : Ready j) → r.note.extras ≡ suc left → IsExtra old new notes bounds r.state.top.slot r.note left → (q : Ready j) × (q.note.extras ≤ left)
   unfolding adds
-  extra_step j left r e x = by_change (extra (front_at r.note.old) r.note.facts x.moved) refl x.good
+  extra_step j left r e x = by_change (extra (front_at r.note.old) (known_at new bounds r.note) x.moved) refl x.good
     where
-      by_change : (c : Option Change) → extra (front_at r.note.old) r.note.facts x.moved ≡ c → option_map_or (λ change. arrives notes r.note.facts change r.note.old left (r.state.top.slot + slot_count x.moved)) c false ≡ true → (q : Ready j) × (q.note.extras ≤ left)
+      by_change : (c : Option Change) → extra (front_at r.note.old) (known_at new bounds r.note) x.moved ≡ c → option_map_or (λ change. arrives notes (known_at new bounds r.note) change None r.note.old left (r.state.top.slot + slot_count x.moved)) c false ≡ true → (q : Ready j) × (q.note.extras ≤ left)
       by_change None ec h = absurd (false≢true h)
       by_change (Some change) ec h =
-          let y = one_extra r.note.facts change j r.n r.state r.fn r.fw r.gn r.gw x.moved r.old_at r.new_at x.moved_is (subst (λ slot. extra (front_at slot) r.note.facts x.moved ≡ Some change) (sym r.old_is) ec) in
+          let y = one_extra (known_at new bounds r.note) change j r.n r.state r.fn r.fw r.gn r.gw x.moved refl r.old_at r.new_at x.moved_is (subst (λ slot. extra (front_at slot) (known_at new bounds r.note) x.moved ≡ Some change) (sym r.old_is) ec) in
           let few = r.few in
-          arrived r.note.facts change j (suc r.n) r.note.old left (r.state.top.slot + slot_count x.moved) y.state r.fn r.fw y.hn y.hw h y.at r.old_is (omega arith) r.old_at y.new_at
+          arrived (known_at new bounds r.note) change None j (suc r.n) r.note.old left (r.state.top.slot + slot_count x.moved) y.state r.fn r.fw y.hn y.hw h y.at r.old_is (omega arith) r.old_at y.arriving
 
   -- ---- one instruction of the old program
 

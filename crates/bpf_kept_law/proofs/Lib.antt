@@ -2,11 +2,16 @@ mod FarLaw
 mod ZeroLaw
 mod TermLaw
 mod HoldsLaw
+mod FrameLaw
 mod PutLaw
 mod ExtraLaw
+mod CountLaw
+mod EdgeLaw
 mod TestLaw
 mod AheadLaw
 mod GuardLaw
+mod Accesses
+mod Isolated
 mod Simulation
 mod StoreLaw
 mod Setting

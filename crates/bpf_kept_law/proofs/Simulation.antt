@@ -236,6 +236,12 @@ module _ (order : Order) (js : List Insn) (valid : IsProgram js) (context : List
   unfolding finish_of
   exits_there s m v stands finish = exit_is s.waiting (number_of_register s R0) m v (ap (option_and_then (λ i. result_of_exit s.waiting (number_of_register s R0) i)) (sym stands) ∙ finish)
 
+  pub new_state : (n : ℕ) (s : State) → Steps new n (start context) s → IsState s
+  new_state n s run = state_is n s run
+
+  pub new_placed : (place : Placement) (n : ℕ) (s : State) → Steps new n (start context) s → IsPlacement (length context) place → IsPlacement (length s.context) place
+  new_placed place n s run placed = subst (λ c. IsPlacement (length c) place) (sym (context_same n s run)) placed
+
   -- it isn't stuck, so it steps
   pub steps_on : (n : ℕ) (s : State) (m : Insn) → Steps new n (start context) s → insn_at js s.top.slot ≡ Some m → (m ≡ Exit → ⊥) → (t : State) × Step new s t
   steps_on n s m run stands other = by_step (step_of new s) refl

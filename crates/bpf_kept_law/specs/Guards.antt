@@ -17,6 +17,8 @@ use Rattle.bpf_semantics.specs.Flat.{addresses}
 use Rattle.bpf_kept_law.specs.Far.{middle}
 use Rattle.bpf_kept_law.specs.Terms.{Facts}
 use Rattle.bpf_kept_law.specs.Rules.{is_register}
+use Rattle.bpf_kept_law.specs.declared.notes.Holder.{Holder}
+use Rattle.bpf_kept_law.specs.declared.notes.Holder.TheVariants.{Register, Slot}
 use Rattle.bpf_kept_law.specs.declared.notes.Term.{Term}
 use Rattle.bpf_kept_law.specs.declared.notes.Fact.{Fact}
 use Rattle.bpf_kept_law.specs.declared.notes.Need.{Need}
@@ -68,8 +70,12 @@ is_tested_by front limit t r =
     (t.frames == 0 && are_accessed front front.length limit (cast_signed w64 ((t.moved + middle) % addresses)) r)
     || (t.frames == 1 && are_accessed front frame_bytes limit (cast_signed w64 (t.moved % addresses)) r)
 
+abbrev pub is_tested_in : Front → ℕ → Term → Holder → Bool
+is_tested_in front limit t (Register r) = is_tested_by front limit t r
+is_tested_in front limit t (Slot n) = false
+
 abbrev pub is_tested : Front → ℕ → Fact → Bool
-is_tested front limit fact = option_map_or (λ t. option_map_or (is_tested_by front limit t) fact.base false) fact.by false
+is_tested front limit fact = option_map_or (λ t. option_map_or (is_tested_in front limit t) fact.base false) fact.by false
 
 abbrev pub guarded : Front → Reg → ℕ → Fact → Bool
 guarded front dst limit fact = is_register dst fact.of && is_tested front limit fact

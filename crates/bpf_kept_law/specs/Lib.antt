@@ -13,6 +13,8 @@ pub mod Exact
 pub mod Terms
 -- what instructions make of that
 pub mod Rules
+-- counters of turns
+pub mod Counters
 -- guards
 pub mod Guards
 -- what the notes have to say at each slot

@@ -11,4 +11,4 @@ pub use laws::{
     one_address_is_context, one_distance_is_frame, other_exits_are_traps, zero_run_ends,
     zero_start_fits, zero_step_is_step,
 };
-pub use notes::{Change, FACTS, Fact, Need, Note, Term};
+pub use notes::{COUNTERS, Change, FACTS, Fact, Holder, Need, Note, SLOTS, Term, TurnsLeft};
