@@ -24,3 +24,5 @@ mod FarRuns
 mod Example
 mod FrameExample
 mod PointersExample
+mod SpillExample
+mod TurnsExample
