@@ -1,6 +1,7 @@
 -- The old program's two runs and the new program's, side by side: what is known in front of an old instruction, and how extra ones keep it.
 use Rattle.std.proofs.Common.{◌≡◌, ℕ, zero, suc, ◌+◌, ◌*◌, ◌%◌, ◌^◌, ◌<◌, ◌≤◌, ◌==◌, inl, inr, refl, sym, ap, ◌∙◌, subst, arith, Bool, true, false, List, [], ◌∷◌, length, Option, Some, None, cond}
-use Rattle.std.specs.Prelude.{ℤ, pos, not, option_and_then, nat_le, ltb, ◌&&◌, ◌||◌}
+use Rattle.bpf_kept_law.specs.declared.notes.Term.{Term}
+use Rattle.std.specs.Prelude.{ℤ, pos, ◌+ℤ◌, not, option_and_then, nat_le, ltb, ◌&&◌, ◌||◌}
 use Rattle.std.specs.List.{AllByRecursion, list_all, list_any}
 use Rattle.std.specs.Option.{option_map_or}
 use Rattle.std.proofs.lemmas.Bool.{and_parts, or_cases, cond_both, cond-true, cond-false, le-ltb, eqb-true, eq-eqb, leb-true, false≢true}
@@ -11,23 +12,26 @@ use Rattle.bpf_insn.specs.Limits.{frame_bytes}
 use Rattle.bpf_insn.specs.Image.{HasEncoding}
 use Rattle.bpf_insn.specs.Instruction.{Instructions, register_number, byte_count, slot_count, insn_at}
 use Rattle.bpf_insn.specs.declared.instruction.Reg.{Reg}
-use Rattle.bpf_insn.specs.declared.instruction.Operand.TheVariants.{Imm}
+use Rattle.bpf_insn.specs.declared.instruction.Operand.TheVariants.{Imm, Reg as FromReg}
 use Rattle.bpf_insn.specs.declared.instruction.Width.TheVariants.{W64}
+use Rattle.bpf_insn.specs.declared.instruction.AluOp.TheVariants.{Add}
 use Rattle.bpf_insn.specs.declared.instruction.Cond.TheVariants.{Eq, Gt}
 use Rattle.bpf_insn.specs.declared.instruction.Insn.{Insn}
-use Rattle.bpf_insn.specs.declared.instruction.Insn.TheVariants.{LoadImm64, JumpIf, CallLocal, Exit}
+use Rattle.bpf_insn.specs.declared.instruction.Insn.TheVariants.{Alu, LoadImm64, JumpIf, CallLocal, Exit}
 use Rattle.bpf_semantics.specs.State.{State, start}
 use Rattle.bpf_semantics.specs.Step.{Step}
 use Rattle.bpf_semantics.specs.Run.{Steps}
 use Rattle.bpf_semantics.specs.Memory.{Location}
 use Rattle.bpf_semantics.specs.Memory.Location.{InContext, InFrame}
-use Rattle.bpf_semantics.specs.Flat.{Placement, FlatState, IsAmong, addresses, address, frame_start, flat_register, flat_next, flat_does}
+use Rattle.bpf_semantics.specs.Flat.{Placement, FlatState, IsAmong, addresses, address, frame_start, flat_register, flat_put, flat_next, flat_does}
 use Rattle.bpf_semantics.specs.Placement.{IsPlacement, Fits}
 use Rattle.bpf_semantics.specs.declared.value.Value.TheVariants.{Number}
 use Rattle.bpf_semantics.proofs.FlatBase.{stands as stands_in}
 use Rattle.bpf_semantics.proofs.FlatAccess.{size_some}
 use Rattle.bpf_semantics.proofs.FlatLoad.{place_address, place_fits}
 use Rattle.bpf_semantics.proofs.NumberLemmas.{modulo_below}
+use Rattle.bpf_semantics.proofs.FlatArith.{Same, same_refl, same_sym, same_trans, same_plus, same_equal, modulo-same}
+use Rattle.std.proofs.lemmas.Int.{ints}
 use Rattle.bpf_semantics.proofs.StateLemmas.{IsGood, encoding_at, option_map_some}
 use Rattle.bpf_kept_law.specs.Far.{near, wide}
 use Rattle.bpf_kept_law.specs.Zero.{zero_start, zero_does, zero_step, zero_after, IsZeroState}
@@ -39,23 +43,25 @@ use Rattle.bpf_kept_law.specs.declared.notes.Fact.{Fact}
 use Rattle.bpf_kept_law.specs.declared.notes.Note.{Note}
 use Rattle.bpf_kept_law.specs.declared.notes.Change.{Change}
 use Rattle.bpf_kept_law.specs.declared.notes.Change.TheVariants.{Kept, Made}
-use Rattle.bpf_kept_law.specs.Terms.{Facts, Values, DiffersBy, Holds, AllHold, value_in}
-use Rattle.bpf_kept_law.specs.Rules.{Known, is_register, holds_behind, are_told}
+use Rattle.bpf_kept_law.specs.Terms.{Facts, Values, Differs, DiffersBy, shift, Holds, AllHold, value_in}
+use Rattle.bpf_kept_law.specs.Rules.{Known, same_register, is_register, is_same, pinned, holds_behind, are_told}
 use Rattle.bpf_kept_law.specs.Counters.{Counts, AllCount, counts_behind, all_count_behind, has_turn}
-use Rattle.bpf_kept_law.specs.Guards.{Front, guarded, is_tested, passes, accesses_ahead, farthest_ahead}
+use Rattle.bpf_kept_law.specs.Guards.{Front, guarded, is_tested_by, is_tested, is_added, guards_sum, passes, accesses_ahead, farthest_ahead}
 use Rattle.bpf_kept_law.specs.Matching.{note_at, most_at_start, said, hands_frame, left_alone, known_at, suits, arrives, made_in, makes, extra, adds, IsExtra}
 use Rattle.bpf_kept_law.proofs.FarLaw.{far_is_placement}
 use Rattle.bpf_kept_law.proofs.ZeroLaw.{zero_step_is_step}
-use Rattle.bpf_kept_law.proofs.HoldsLaw.{any_holds, all_of, held}
+use Rattle.bpf_kept_law.proofs.HoldsLaw.{any_holds, all_of, held, register_is, register_now}
 use Rattle.bpf_kept_law.proofs.FrameLaw.{Leaves}
-use Rattle.bpf_kept_law.proofs.PutLaw.{AtOnce}
+use Rattle.bpf_kept_law.proofs.PutLaw.{AtOnce, put_value, put_does}
+use Rattle.bpf_kept_law.proofs.TermLaw.{differs_same, same_differs}
+use Rattle.bpf_kept_law.proofs.ExtraLaw.{pinned_is}
 use Rattle.bpf_kept_law.proofs.CountLaw.{Advances, stands_still, kept_counts, extra_counts, test_is}
 use Rattle.bpf_kept_law.proofs.EdgeLaw.{Behind, settled}
-use Rattle.bpf_kept_law.proofs.StoreLaw.{at_same, kept_still, made_alone}
+use Rattle.bpf_kept_law.proofs.StoreLaw.{register_same, at_same, kept_still, made_alone}
 use Rattle.bpf_kept_law.proofs.Isolated.{AreAlone, is_inner, does_alone, goes_to_context}
 use Rattle.bpf_kept_law.proofs.AheadLaw.{Inside, goes_on, all_inside}
 use Rattle.bpf_kept_law.proofs.GuardLaw.{guard_passes}
-use Rattle.bpf_kept_law.proofs.Simulation.{program, not_exit, no_returns, no_waiting, guard_number, guard_is, guard_does, answers, test_falls, test_turns, does_there, steps_on, fits_on, answers_same, new_state, new_placed}
+use Rattle.bpf_kept_law.proofs.Simulation.{program, not_exit, zero_plain, put_turns, no_returns, no_waiting, guard_number, guard_is, guard_does, answers, test_falls, test_turns, does_there, steps_on, fits_on, answers_same, new_state, new_placed}
 use Rattle.bpf_kept_law.proofs.Accesses.{goes}
 use Rattle.bpf_kept_law.proofs.Setting.{Setting}
 
@@ -270,6 +276,42 @@ module _ (given : Setting) where
         at = sym x.2.near_fits.slot_is ∙ ap (λ z. z + slot_count m) at.near_fits.slot_is;
       }
 
+  -- ---- one instruction of the old program
+
+  pub near_step : (f g : FlatState) (i : Insn) → insn_at is f.slot ≡ Some i → zero_does (near false) order i f ≡ Some g → zero_step (near false) old f ≡ Some g
+  unfolding zero_step
+  near_step f g i there e = ap (option_and_then (λ i. zero_does (near false) order i f)) there ∙ e
+
+  pub wide_step : (f g : FlatState) (i : Insn) → insn_at is f.slot ≡ Some i → zero_does (wide false) order i f ≡ Some g → zero_step (wide false) old f ≡ Some g
+  unfolding zero_step
+  wide_step f g i there e = ap (option_and_then (λ i. zero_does (wide false) order i f)) there ∙ e
+
+  pub near_does : (f g : FlatState) (i : Insn) → insn_at is f.slot ≡ Some i → zero_step (near false) old f ≡ Some g → zero_does (near false) order i f ≡ Some g
+  unfolding zero_step
+  near_does f g i there e = ap (option_and_then (λ i. zero_does (near false) order i f)) (sym there) ∙ e
+
+  pub old_next : (j : ℕ) (fn fw hn hw : FlatState) (i : Insn) → OldAt j fn fw → insn_at is fn.slot ≡ Some i → zero_does (near false) order i fn ≡ Some hn → zero_does (wide false) order i fw ≡ Some hw → (i ≡ Exit → ⊥)
+      → hn.returns ≡ fn.returns → hw.returns ≡ fw.returns → hw.slot ≡ hn.slot → OldAt (suc j) hn hw
+  old_next j fn fw hn hw i o there en ew other near_same wide_same slots =
+      let there' : insn_at is fw.slot ≡ Some i = ap (insn_at is) o.slots_same ∙ there in
+      let g = goes_on (near false) old old_valid context bounds v k near_ends j fn i o.near_run o.near_before there other in
+      let h = goes_on (wide false) old old_valid context bounds v l wide_ends j fw i o.wide_run o.wide_before there' other in
+      let zn = near_step fn hn i there en in
+      let zw = wide_step fw hw i there' ew in
+      let gn_is : g.0 ≡ hn = same_Some g.0 hn (sym g.1 ∙ zn) in
+      let gw_is : h.0 ≡ hw = same_Some h.0 hw (sym h.1 ∙ zw) in
+      record {
+        near_run = g.2 ∙ ap Some gn_is;
+        wide_run = h.2 ∙ ap Some gw_is;
+        near_before = g.3;
+        wide_before = h.3;
+        near_state = (zero_step_is_step (near false) old fn hn old_valid o.near_state zn).1;
+        wide_state = (zero_step_is_step (wide false) old fw hw old_valid o.wide_state zw).1;
+        near_outer = near_same ∙ o.near_outer;
+        wide_outer = wide_same ∙ o.wide_outer;
+        slots_same = slots;
+      }
+
   -- ---- guards
 
   near_inside : (j : ℕ) (fn fw : FlatState) → OldAt j fn fw → (r : Reg) → AllByRecursion (Inside (near false) bounds.length (flat_register fn r)) (accesses_ahead old r farthest_ahead fn.slot)
@@ -292,22 +334,88 @@ module _ (given : Setting) where
   both_known fn fw gn gw [] p q = tt
   both_known fn fw gn gw (fact ∷ facts) p q = ((p.0, q.0), both_known fn fw gn gw facts p.1 q.1)
 
-  guard_goes : (known : Known) (j n : ℕ) (s : State) (fn fw gn gw : FlatState) (dst : Reg) (imm off : ℤ) → known.turns ≡ bounds.turns → OldAt j fn fw → NewAt known j n s fn fw gn gw → insn_at js s.top.slot ≡ Some (JumpIf Gt W64 dst (Imm imm) off)
-      → list_any (guarded (front_at fn.slot) dst (extended imm)) known.facts ≡ true → Extended known Kept j n (JumpIf Gt W64 dst (Imm imm) off) s fn fw
-  guard_goes known j n s fn fw gn gw dst imm off turns o at there tested =
+  -- what is tested, where the guard's fact is of a register
+  abbrev pub IsLimited : (j : ℕ) (gn gw : FlatState) (dst : Reg) (limit : ℕ) → Type 0
+  IsLimited j gn gw dst limit = (flat_register gn dst ≤ limit) × (flat_register gw dst ≤ limit)
+
+  -- the number that is tested
+  pub record Tested (s : State) (gn gw : FlatState) (dst : Reg) : Type 0 where
+    pub x : ℕ
+    pub in_near : flat_register gn dst ≡ x
+    pub in_wide : flat_register gw dst ≡ x
+    pub small : x < addresses
+
+  tested_there : (known : Known) (j n : ℕ) (s : State) (fn fw gn gw : FlatState) (dst : Reg) (imm off : ℤ) → NewAt known j n s fn fw gn gw → insn_at js s.top.slot ≡ Some (JumpIf Gt W64 dst (Imm imm) off) → Tested s gn gw dst
+  tested_there known j n s fn fw gn gw dst imm off at there =
       let m : Insn = JumpIf Gt W64 dst (Imm imm) off in
       let y = steps_on order js new_valid context bytes short never n s m at.run there (test_turns m Gt W64 dst (Imm imm) off refl) in
       let number = guard_number order s y.0 dst imm off (does_there order js new_valid context bytes short never s y.0 m there y.1) in
-      let x : ℕ = number.0 in
-      let in_near : flat_register gn dst ≡ x = stands_in at.near_fits dst (Number x) number.1 in
-      let in_wide : flat_register gw dst ≡ x = stands_in at.wide_fits dst (Number x) number.1 in
-      let small : x < addresses = subst (λ z. z < addresses) in_near (at.near_at.new_flat.numbers (register_number dst)) in
-      let fact = any_holds (guarded (front_at fn.slot) dst (extended imm)) (λ fact. Known_at fn fw gn gw fact) known.facts tested (both_known fn fw gn gw known.facts at.near_at.all at.wide_at.all) in
-      let c = and_parts (is_register dst fact.0.of) (is_tested (front_at fn.slot) (extended imm) fact.0) fact.1 in
-      let le : x ≤ extended imm = guard_passes old bounds.length (extended imm) fn.slot x fn fw matches.short (modulo_below imm) small o.near_state.flat o.wide_state.flat (near_inside j fn fw o) (wide_inside j fn fw o) order fact.0
-      (subst (λ z. DiffersBy near_own fact.0.by (value_in order near_own fn fact.0.base) z) (held (value_in order near_own gn) (Register dst) fact.0.of c.0 ∙ in_near) fact.2.0)
-      (subst (λ z. DiffersBy wide_own fact.0.by (value_in order wide_own fw fact.0.base) z) (held (value_in order wide_own gw) (Register dst) fact.0.of c.0 ∙ in_wide) fact.2.1) c.1 in
-      passed_extra known j n s fn fw gn gw m turns at there (guard_does order dst imm off gn (subst (λ z. z ≤ extended imm) (sym in_near) le)) (guard_does order dst imm off gw (subst (λ z. z ≤ extended imm) (sym in_wide) le))
+      let in_near : flat_register gn dst ≡ number.0 = stands_in at.near_fits dst (Number number.0) number.1 in
+      record { x = number.0; in_near = in_near; in_wide = stands_in at.wide_fits dst (Number number.0) number.1; small = subst (λ z. z < addresses) in_near (at.near_at.new_flat.numbers (register_number dst)) }
+
+  -- a number in front of the sum that adds it to a pointer whose address is known
+  sum_pin : (start a x y : ℕ) (t : Term) → x < addresses → y ≡ x → Differs start t a 0 → Differs start t ((a + y) % addresses) x
+  sum_pin start a x y t small same d =
+      let zero_is = differs_same start t a 0 d in
+      let sum = same_plus (same_refl (pos x)) zero_is in
+      let left : pos x +ℤ pos 0 ≡ pos x = omega (arith, ints) in
+      let right : pos x +ℤ (pos a +ℤ shift start t) ≡ pos (a + x) +ℤ shift start t = omega (arith, ints) in
+      subst (λ y. Differs start t ((a + y) % addresses) x) (sym same)
+      (same_differs start t ((a + x) % addresses) x small (same_trans (same_equal (sym left)) (same_trans sum (same_trans (same_equal right) (same_plus (same_sym (modulo-same (pos (a + x)))) (same_refl (shift start t)))))))
+
+  sum_limited : (known : Known) (j n : ℕ) (s : State) (fn fw gn gw : FlatState) (to r dst : Reg) (limit : ℕ) (t : Term) → limit < addresses → OldAt j fn fw → NewAt known j n s fn fw gn gw → Tested s gn gw dst → insn_at is fn.slot ≡ Some (Alu Add W64 to (FromReg r)) → same_register r dst ≡ true → is_same known.facts dst ≡ true
+      → pinned known.facts (Register to) ≡ Some t → is_tested_by (front_at (fn.slot + 1)) limit t to ≡ true → IsLimited j gn gw dst limit
+  sum_limited known j n s fn fw gn gw to r dst limit t most o at number here er same et tested =
+      let i : Insn = Alu Add W64 to (FromReg r) in
+      let hn : FlatState = flat_put to (put_value order i fn) (flat_next i fn) in
+      let hw : FlatState = flat_put to (put_value order i fw) (flat_next i fw) in
+      let o' = old_next j fn fw hn hw i o here (zero_plain (near false) order i fn hn (put_does order i to fn refl)) (zero_plain (wide false) order i fw hw (put_does order i to fw refl)) (put_turns i to refl) refl refl (ap (λ z. z + slot_count i) o.slots_same) in
+      let x : ℕ = number.x in
+      let of : dst ≡ r = register_is r dst er in
+      let in_old : flat_register fn r ≡ x = ap (flat_register fn) (sym of) ∙ sym (register_same order near_own known fn gn dst at.near_at same) ∙ number.in_near in
+      let in_old' : flat_register fw r ≡ x = ap (flat_register fw) (sym of) ∙ sym (register_same order wide_own known fw gw dst at.wide_at same) ∙ number.in_wide in
+      let p = sum_pin near_own (flat_register fn to) x (flat_register fn r) t number.small in_old (pinned_is order near_own known.facts fn gn at.near_at.room at.near_at.flat at.near_at.pointers.0 at.near_at.all (Register to) t et) in
+      let p' = sum_pin wide_own (flat_register fw to) x (flat_register fw r) t number.small in_old' (pinned_is order wide_own known.facts fw gw at.wide_at.room at.wide_at.flat at.wide_at.pointers.0 at.wide_at.all (Register to) t et) in
+      let now : flat_register hn to ≡ put_value order i fn = register_now (flat_next i fn) to (put_value order i fn) at.near_at.flat.eleven in
+      let now' : flat_register hw to ≡ put_value order i fw = register_now (flat_next i fw) to (put_value order i fw) at.wide_at.flat.eleven in
+      let le : x ≤ limit = guard_passes old bounds.length limit (fn.slot + 1) x hn hw matches.short most number.small o'.near_state.flat o'.wide_state.flat (near_inside (suc j) hn hw o') (wide_inside (suc j) hn hw o') order (record { of = Some (Register dst); base = Some (Register to); by = Some t })
+      (subst (λ z. Differs near_own t z x) (sym now) p) (subst (λ z. Differs wide_own t z x) (sym now') p') tested in
+      (subst (λ z. z ≤ limit) (sym number.in_near) le, subst (λ z. z ≤ limit) (sym number.in_wide) le)
+
+  -- what a guard tests is within its limit
+  limited : (known : Known) (j n : ℕ) (s : State) (fn fw gn gw : FlatState) (dst : Reg) (limit : ℕ) → limit < addresses → OldAt j fn fw → NewAt known j n s fn fw gn gw → Tested s gn gw dst → (list_any (guarded (front_at fn.slot) dst limit) known.facts || guards_sum (front_at fn.slot) known.facts dst limit) ≡ true → IsLimited j gn gw dst limit
+  unfolding guards_sum
+  limited known j n s fn fw gn gw dst limit most o at number tested = elim (or_cases (list_any (guarded (front_at fn.slot) dst limit) known.facts) (guards_sum (front_at fn.slot) known.facts dst limit) tested) [
+    | inl itself ↦ (let fact = any_holds (guarded (front_at fn.slot) dst limit) (λ fact. Known_at fn fw gn gw fact) known.facts itself (both_known fn fw gn gw known.facts at.near_at.all at.wide_at.all) in
+        let c = and_parts (is_register dst fact.0.of) (is_tested (front_at fn.slot) limit fact.0) fact.1 in
+        let le : number.x ≤ limit = guard_passes old bounds.length limit fn.slot number.x fn fw matches.short most number.small o.near_state.flat o.wide_state.flat (near_inside j fn fw o) (wide_inside j fn fw o) order fact.0
+        (subst (λ z. DiffersBy near_own fact.0.by (value_in order near_own fn fact.0.base) z) (held (value_in order near_own gn) (Register dst) fact.0.of c.0 ∙ number.in_near) fact.2.0)
+        (subst (λ z. DiffersBy wide_own fact.0.by (value_in order wide_own fw fact.0.base) z) (held (value_in order wide_own gw) (Register dst) fact.0.of c.0 ∙ number.in_wide) fact.2.1) c.1 in
+        (subst (λ z. z ≤ limit) (sym number.in_near) le, subst (λ z. z ≤ limit) (sym number.in_wide) le))
+    | inr sum ↦ by_insn (insn_at is fn.slot) refl sum
+  ]
+    where
+      by_pin : (to r : Reg) → insn_at is fn.slot ≡ Some (Alu Add W64 to (FromReg r)) → same_register r dst ≡ true → is_same known.facts dst ≡ true → (p : Option Term) → pinned known.facts (Register to) ≡ p → option_map_or (λ t. is_tested_by (front_at (fn.slot + 1)) limit t to) p false ≡ true → IsLimited j gn gw dst limit
+      by_pin to r here er same None ep h = absurd (false≢true h)
+      by_pin to r here er same (Some t) ep h = sum_limited known j n s fn fw gn gw to r dst limit t most o at number here er same ep h
+
+      by_sum : (i : Insn) → insn_at is fn.slot ≡ Some i → is_added (front_at fn.slot) known.facts dst limit i ≡ true → IsLimited j gn gw dst limit
+      by_sum (Alu Add W64 to (FromReg r)) here h =
+          let a = and_parts (same_register r dst) (is_same known.facts dst && option_map_or (λ t. is_tested_by (front_at (fn.slot + 1)) limit t to) (pinned known.facts (Register to)) false) h in
+          let b = and_parts (is_same known.facts dst) (option_map_or (λ t. is_tested_by (front_at (fn.slot + 1)) limit t to) (pinned known.facts (Register to)) false) a.1 in
+          by_pin to r here a.0 b.0 (pinned known.facts (Register to)) refl b.1
+      by_sum i here h = absurd (false≢true h)
+
+      by_insn : (o : Option Insn) → insn_at is fn.slot ≡ o → option_map_or (is_added (front_at fn.slot) known.facts dst limit) o false ≡ true → IsLimited j gn gw dst limit
+      by_insn None eo h = absurd (false≢true h)
+      by_insn (Some i) eo h = by_sum i eo h
+
+  guard_goes : (known : Known) (j n : ℕ) (s : State) (fn fw gn gw : FlatState) (dst : Reg) (imm off : ℤ) → known.turns ≡ bounds.turns → OldAt j fn fw → NewAt known j n s fn fw gn gw → insn_at js s.top.slot ≡ Some (JumpIf Gt W64 dst (Imm imm) off)
+      → (list_any (guarded (front_at fn.slot) dst (extended imm)) known.facts || guards_sum (front_at fn.slot) known.facts dst (extended imm)) ≡ true → Extended known Kept j n (JumpIf Gt W64 dst (Imm imm) off) s fn fw
+  guard_goes known j n s fn fw gn gw dst imm off turns o at there tested =
+      let number = tested_there known j n s fn fw gn gw dst imm off at there in
+      let le = limited known j n s fn fw gn gw dst (extended imm) (modulo_below imm) o at number tested in
+      passed_extra known j n s fn fw gn gw (JumpIf Gt W64 dst (Imm imm) off) turns at there (guard_does order dst imm off gn le.0) (guard_does order dst imm off gw le.1)
 
   -- ---- counters
 
@@ -458,39 +566,3 @@ module _ (given : Setting) where
           let y = one_extra (known_at new bounds r.note) change j r.n r.state r.fn r.fw r.gn r.gw x.moved refl r.old_at r.new_at x.moved_is (subst (λ slot. extra (front_at slot) (known_at new bounds r.note) x.moved ≡ Some change) (sym r.old_is) ec) in
           let few = r.few in
           arrived (known_at new bounds r.note) change None j (suc r.n) r.note.old left (r.state.top.slot + slot_count x.moved) y.state r.fn r.fw y.hn y.hw h y.at r.old_is (omega arith) r.old_at y.arriving
-
-  -- ---- one instruction of the old program
-
-  pub near_step : (f g : FlatState) (i : Insn) → insn_at is f.slot ≡ Some i → zero_does (near false) order i f ≡ Some g → zero_step (near false) old f ≡ Some g
-  unfolding zero_step
-  near_step f g i there e = ap (option_and_then (λ i. zero_does (near false) order i f)) there ∙ e
-
-  pub wide_step : (f g : FlatState) (i : Insn) → insn_at is f.slot ≡ Some i → zero_does (wide false) order i f ≡ Some g → zero_step (wide false) old f ≡ Some g
-  unfolding zero_step
-  wide_step f g i there e = ap (option_and_then (λ i. zero_does (wide false) order i f)) there ∙ e
-
-  pub near_does : (f g : FlatState) (i : Insn) → insn_at is f.slot ≡ Some i → zero_step (near false) old f ≡ Some g → zero_does (near false) order i f ≡ Some g
-  unfolding zero_step
-  near_does f g i there e = ap (option_and_then (λ i. zero_does (near false) order i f)) (sym there) ∙ e
-
-  pub old_next : (j : ℕ) (fn fw hn hw : FlatState) (i : Insn) → OldAt j fn fw → insn_at is fn.slot ≡ Some i → zero_does (near false) order i fn ≡ Some hn → zero_does (wide false) order i fw ≡ Some hw → (i ≡ Exit → ⊥)
-      → hn.returns ≡ fn.returns → hw.returns ≡ fw.returns → hw.slot ≡ hn.slot → OldAt (suc j) hn hw
-  old_next j fn fw hn hw i o there en ew other near_same wide_same slots =
-      let there' : insn_at is fw.slot ≡ Some i = ap (insn_at is) o.slots_same ∙ there in
-      let g = goes_on (near false) old old_valid context bounds v k near_ends j fn i o.near_run o.near_before there other in
-      let h = goes_on (wide false) old old_valid context bounds v l wide_ends j fw i o.wide_run o.wide_before there' other in
-      let zn = near_step fn hn i there en in
-      let zw = wide_step fw hw i there' ew in
-      let gn_is : g.0 ≡ hn = same_Some g.0 hn (sym g.1 ∙ zn) in
-      let gw_is : h.0 ≡ hw = same_Some h.0 hw (sym h.1 ∙ zw) in
-      record {
-        near_run = g.2 ∙ ap Some gn_is;
-        wide_run = h.2 ∙ ap Some gw_is;
-        near_before = g.3;
-        wide_before = h.3;
-        near_state = (zero_step_is_step (near false) old fn hn old_valid o.near_state zn).1;
-        wide_state = (zero_step_is_step (wide false) old fw hw old_valid o.wide_state zw).1;
-        near_outer = near_same ∙ o.near_outer;
-        wide_outer = wide_same ∙ o.wide_outer;
-        slots_same = slots;
-      }

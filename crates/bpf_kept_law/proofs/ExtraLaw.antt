@@ -1,11 +1,11 @@
 -- What the new program puts into a register or slot by itself, and what a change leaves of each fact.
 use Rattle.std.proofs.Common.{◌≡◌, ℕ, ◌+◌, ◌%◌, ◌<◌, inl, inr, refl, sym, ap, ◌∙◌, subst, arith, Bool, true, false, List, length, Option, Some, None, cond}
-use Rattle.std.specs.Prelude.{ℤ, pos, ◌+ℤ◌, ◌-ℤ◌, ◌&&◌, not, is_none, get_or, set, option_map}
-use Rattle.std.specs.List.{list_all, list_any}
-use Rattle.std.specs.Option.{option_map_or}
+use Rattle.std.specs.Prelude.{ℤ, pos, ◌+ℤ◌, ◌-ℤ◌, neg_ℤ, ◌&&◌, ◌||◌, not, is_none, get_or, set, option_map}
+use Rattle.std.specs.List.{find, list_all, list_any}
+use Rattle.std.specs.Option.{is_some, option_map_or}
 use Rattle.std.proofs.lemmas.Bool.{and_parts, or_cases, eqb-true, eq-eqb, false≢true}
 use Rattle.std.proofs.lemmas.Int.{ints}
-use Rattle.std.proofs.lemmas.Option.{none-some, same_Some}
+use Rattle.std.proofs.lemmas.Option.{none-some, same_Some, option_and_then_some}
 use Rattle.bpf_insn.specs.Arithmetic.{modulo, extended}
 use Rattle.bpf_insn.specs.Effects.{access_of, is_frame_pointer}
 use Rattle.bpf_insn.specs.Limits.{frame_bytes}
@@ -24,15 +24,16 @@ use Rattle.bpf_insn.specs.declared.instruction.Insn.TheVariants.{Alu, LoadImm64,
 use Rattle.bpf_semantics.specs.Flat.{FlatState, IsFlat, addresses, flat_register, flat_operand}
 use Rattle.bpf_semantics.proofs.FlatArith.{Same, same_refl, same_sym, same_trans, same_plus, same_minus, same_equal, modulo-same}
 use Rattle.bpf_semantics.proofs.NumberLemmas.{modulo_below}
+use Rattle.bpf_semantics.proofs.StateLemmas.{option_map_some}
 use Rattle.bpf_kept_law.specs.declared.notes.Holder.{Holder}
 use Rattle.bpf_kept_law.specs.declared.notes.Holder.TheVariants.{Register, Slot}
 use Rattle.bpf_kept_law.specs.declared.notes.Term.{Term}
 use Rattle.bpf_kept_law.specs.declared.notes.Fact.{Fact}
 use Rattle.bpf_kept_law.specs.declared.notes.Change.TheVariants.{Kept, Put, Stored, Made}
-use Rattle.bpf_kept_law.specs.Terms.{Facts, Values, Differs, DiffersBy, Holds, AllHold, value_in, shift, constant, zero_term, frame_end, plus, minus}
-use Rattle.bpf_kept_law.specs.Rules.{is_holder, is_register, is_base, is_enough, gives, slot_at, sum_base, difference_base, both, is_known, is_sum, is_difference, is_moved, made_by, made_from, of_slot, known_number, known_operand, of_number, of_operand, by_operand, made, stays, outlives, is_clear, put_gives, made_gives, stored_gives, holds_behind}
-use Rattle.bpf_kept_law.proofs.TermLaw.{shift_plus, shift_minus, shift_constant, differs_same, same_differs, same_number}
-use Rattle.bpf_kept_law.proofs.HoldsLaw.{IsHigh, Elsewhere, any_holds, held, none_is, base_same, enough_differs, gives_holds, stays_holds, other_holds}
+use Rattle.bpf_kept_law.specs.Terms.{Facts, Values, Differs, DiffersBy, Holds, AllHold, value_in, shift, constant, zero_term, frame_end, plus, minus, negated}
+use Rattle.bpf_kept_law.specs.Rules.{is_holder, is_register, is_base, is_enough, gives, slot_at, sum_base, difference_base, both, is_known, is_sum, is_difference, is_moved, made_by, made_from, of_slot, known_number, known_operand, is_pin, pinned, pin_of, pins, of_number, of_operand, by_operand, made, stays, outlives, is_clear, put_gives, made_gives, stored_gives, holds_behind}
+use Rattle.bpf_kept_law.proofs.TermLaw.{shift_plus, shift_minus, shift_neg, shift_constant, differs_same, same_differs, same_number}
+use Rattle.bpf_kept_law.proofs.HoldsLaw.{IsHigh, Elsewhere, any_holds, found_holds, held, none_is, base_same, enough_differs, gives_holds, stays_holds, other_holds}
 use Rattle.bpf_kept_law.proofs.AheadLaw.{access_near}
 use Rattle.bpf_kept_law.proofs.FrameLaw.{IsRoomy, IsEnd, slot_access, slot_loaded}
 use Rattle.bpf_kept_law.proofs.PutLaw.{put_value}
@@ -227,6 +228,48 @@ module _ (order : Order) (start : ℕ) (facts : Facts) (f g : FlatState) (high :
   made_known (StoreImm size dst off imm) want enc e = from_known Mov R0 (Imm imm) want e
   made_known m want enc e = absurd (false≢true e)
 
+-- ---- what the old program puts or stores, where it is known by itself
+
+zero_pin : (start n : ℕ) → n < addresses → Differs start (negated (constant n)) n 0
+zero_pin start n small =
+    let back : pos n +ℤ (pos 0 -ℤ pos n) ≡ pos 0 = omega (arith, ints) in
+    let by : Same (shift start (negated (constant n))) (pos 0 -ℤ pos n) = same_trans (shift_neg start (constant n)) (same_equal (ap neg_ℤ (shift_constant start n) ∙ opposite (pos n))) in
+    same_differs start (negated (constant n)) n 0 (omega arith) (same_sym (same_trans (same_plus (same_refl (pos n)) by) (same_equal back)))
+  where
+    opposite : (z : ℤ) → neg_ℤ z ≡ pos 0 -ℤ z
+    opposite z = omega (arith, ints)
+
+moved_pin : (start x n : ℕ) (t : Term) → n < addresses → Differs start t x 0 → Differs start (minus t (constant n)) ((x + n) % addresses) 0
+moved_pin start x n t small d =
+    let zero_is : Same (pos 0) (pos x +ℤ shift start t) = differs_same start t x 0 d in
+    let again : pos x +ℤ shift start t ≡ (pos x +ℤ pos n) +ℤ (shift start t -ℤ pos n) = omega (arith, ints) in
+    let by : Same (shift start (minus t (constant n))) (shift start t -ℤ pos n) = same_trans (shift_minus start t (constant n)) (same_minus (same_refl (shift start t)) (same_equal (shift_constant start n))) in
+    same_differs start (minus t (constant n)) ((x + n) % addresses) 0 (omega arith) (same_trans zero_is (same_trans (same_equal again) (same_plus (same_sym (modulo-same (pos (x + n)))) (same_sym by))))
+
+module _ (order : Order) (start : ℕ) (facts : Facts) (f g : FlatState) (room : IsRoomy start) (flat : IsFlat f) (end : IsEnd start f.registers) (all : AllHold start (value_in order start f) (value_in order start g) facts) where
+  pub pinned_is : (h : Holder) (t : Term) → pinned facts h ≡ Some t → Differs start t (value_in order start f (Some h)) 0
+  unfolding pinned
+  pinned_is h t e = option_and_then_some _ (find (is_pin h) facts) t e (λ fact ef et.
+      let k = found_holds (is_pin h) (Holds start (value_in order start f) (value_in order start g)) facts fact ef all in
+      let c = and_parts (is_none fact.of) (is_holder h fact.base && is_some fact.by) k.0 in
+      let b = and_parts (is_holder h fact.base) (is_some fact.by) c.1 in
+      let d : DiffersBy start (Some t) (value_in order start f fact.base) (value_in order start g fact.of) = subst (λ by. DiffersBy start by (value_in order start f fact.base) (value_in order start g fact.of)) et k.1 in
+      subst (λ y. Differs start t (value_in order start f (Some h)) y) (none_is (value_in order start g) fact.of c.0) (subst (λ x. Differs start t x (value_in order start g fact.of)) (held (value_in order start f) h fact.base b.0) d))
+
+  pub pin_is : (i : Insn) (t : Term) → HasEncoding i → pin_of facts i ≡ Some t → Differs start t (made_value order i f) 0
+  pin_is (Alu Mov W64 dst (Imm imm)) t enc e = subst (λ t. Differs start t (extended imm) 0) (same_Some (negated (constant (extended imm))) t e) (zero_pin start (extended imm) (modulo_below imm))
+  pin_is (Alu Mov W64 dst (FromReg src)) t enc e = pinned_is (Register src) t e
+  pin_is (Alu Add W64 dst (Imm imm)) t enc e =
+      let h = option_map_some (λ t. minus t (constant (extended imm))) (pinned facts (Register dst)) t e in
+      subst (λ t. Differs start t ((flat_register f dst + extended imm) % addresses) 0) h.2 (moved_pin start (flat_register f dst) (extended imm) h.0 (modulo_below imm) (pinned_is (Register dst) h.0 h.1))
+  pin_is (LoadImm64 dst value) t enc e = subst (λ t. Differs start t value 0) (same_Some (negated (constant value)) t e) (zero_pin start value enc)
+  pin_is (Load size dst src off) t enc e = option_and_then_some _ (slot_at size src off) t e (λ n en et.
+      let there = slot_loaded order start n size f src off room end enc (slot_access start n size src off en) in
+      subst (λ x. Differs start t x 0) (sym there) (pinned_is (Slot n) t et))
+  pin_is (Store size dst off src) t enc e = pinned_is (Register src) t e
+  pin_is (StoreImm size dst off imm) t enc e = subst (λ t. Differs start t (extended imm) 0) (same_Some (negated (constant (extended imm))) t e) (zero_pin start (extended imm) (modulo_below imm))
+  pin_is i t enc e = absurd (none-some _ e)
+
 -- ---- what holds behind a change
 
 module _ (start : ℕ) (facts : Facts) (high : IsHigh start) where
@@ -248,17 +291,24 @@ module _ (start : ℕ) (facts : Facts) (high : IsHigh start) where
   ]
 
   -- both put a number
-  pub put_hold : (h : Holder) (by : Option Term) (old old' new new' : Values) (want : Fact) → old' None ≡ 0 → new' None ≡ 0 → Elsewhere h old old' → Elsewhere h new new' → DiffersBy start by (old' (Some h)) (new' (Some h)) → AllHold start old new facts
-      → holds_behind facts (Put (record { of = Some h; base = Some h; by = by })) want ≡ true → Holds start old' new' want
+  pub put_hold : (h : Holder) (by pin : Option Term) (old old' new new' : Values) (want : Fact) → old' None ≡ 0 → new' None ≡ 0 → Elsewhere h old old' → Elsewhere h new new' → DiffersBy start by (old' (Some h)) (new' (Some h)) → ((t : Term) → pin ≡ Some t → Differs start t (old' (Some h)) 0) → AllHold start old new facts
+      → holds_behind facts (Put (record { of = Some h; base = Some h; by = by }) pin) want ≡ true → Holds start old' new' want
   unfolding holds_behind
-  put_hold h by old old' new new' want zero zero' p q d all e = elim (or_cases (gives (known_number None zero_term) want) (put_gives facts fact want) e) [
+  put_hold h by pin old old' new new' want zero zero' p q d pd all e = elim (or_cases (gives (known_number None zero_term) want) (put_gives facts fact pin want) e) [
     | inl nothing ↦ nothing_holds old' new' want zero zero' nothing
-    | inr some ↦ elim (or_cases (gives fact want) (list_any (λ have. stays h have && gives have want) facts) some) [
+    | inr some ↦ elim (or_cases (gives fact want) (option_map_or (pins (Some h) want) pin false || list_any (λ have. stays h have && gives have want) facts) some) [
       | inl here ↦ gives_holds start high old' new' fact want here d
-      | inr other ↦ (let c = some_holds old new (stays h) want all other in gives_holds start high old' new' c.0 want c.2 (stays_holds start h old old' new new' c.0 p q c.1 c.3))
+      | inr rest ↦ elim (or_cases (option_map_or (pins (Some h) want) pin false) (list_any (λ have. stays h have && gives have want) facts) rest) [
+        | inl one ↦ by_pin pin refl one
+        | inr other ↦ (let c = some_holds old new (stays h) want all other in gives_holds start high old' new' c.0 want c.2 (stays_holds start h old old' new new' c.0 p q c.1 c.3))
+      ]
     ]
   ]
     where
+      by_pin : (o : Option Term) → pin ≡ o → option_map_or (pins (Some h) want) o false ≡ true → Holds start old' new' want
+      by_pin None eo one = absurd (false≢true one)
+      by_pin (Some t) eo one = gives_holds start high old' new' (record { of = None; base = Some h; by = Some t }) want one (subst (λ y. Differs start t (old' (Some h)) y) (sym zero') (pd t eo))
+
       fact : Fact
       fact = record { of = Some h; base = Some h; by = by }
 

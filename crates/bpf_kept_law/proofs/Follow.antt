@@ -30,7 +30,7 @@ use Rattle.bpf_kept_law.specs.declared.notes.Term.{Term}
 use Rattle.bpf_kept_law.specs.declared.notes.Change.{Change}
 use Rattle.bpf_kept_law.specs.declared.notes.Change.TheVariants.{Kept}
 use Rattle.bpf_kept_law.specs.Terms.{Facts, value_in, zero_term, frame_offset}
-use Rattle.bpf_kept_law.specs.Rules.{Known, same_register, is_same, put_into, loads_alike, is_framed, turned_test, are_offsets, are, by_order, undirected, is_jump, is_kept, keeps, put_by, put, puts, puts_slot, stores_alike, reached, stores, paired}
+use Rattle.bpf_kept_law.specs.Rules.{Known, same_register, is_same, put_into, loads_alike, is_framed, turned_test, are_offsets, are, by_order, undirected, is_jump, is_kept, keeps, put_by, pin_of, put, puts, puts_slot, stores_alike, reached, stores, paired}
 use Rattle.bpf_kept_law.specs.Matching.{most_extras, most_at_start, facts_at, known_at, arrives, led, falls, leads_to, leads, goes, stands, IsBody, IsEither, StandsForExit}
 use Rattle.bpf_kept_law.proofs.HoldsLaw.{register_is}
 use Rattle.bpf_kept_law.proofs.PutLaw.{AtOnce, plain_is, put_both}
@@ -289,17 +289,18 @@ module _ (given : Setting) where
   by_put : (j : ℕ) (i moved : Insn) (at : At j i moved) (same : Bool) (change : Change) → IsTrue same ↔ (undirected moved ≡ undirected i) → puts (known at.ready) same i moved ≡ Some change
       → goes notes (known at.ready) at.ready.fn.slot at.ready.state.top.slot i moved change ≡ true → Ready given (suc j)
   by_put j i moved at same change same_is e goes_is = option_and_then_some _ (put_into i) change e (λ r er e1.
-      let c = none_first (is_frame_pointer r) (option_map (put (Register r)) (put_by (known q) same i moved)) change e1 in
-      let x = option_map_some (put (Register r)) (put_by (known q) same i moved) change c.1 in
-      let h : goes notes (known q) q.fn.slot q.state.top.slot i moved (put (Register r) x.0) ≡ true = subst (λ change. goes notes (known q) q.fn.slot q.state.top.slot i moved change ≡ true) (sym x.2) goes_is in
-      let p = and_parts (falls notes (known q) (put (Register r) x.0) q.fn.slot q.state.top.slot i moved) (leads notes (known q) (put (Register r) x.0) q.fn.slot q.state.top.slot i moved) h in
+      let pin : Option Term = pin_of (facts_at q.note) i in
+      let c = none_first (is_frame_pointer r) (option_map (put (Register r) pin) (put_by (known q) same i moved)) change e1 in
+      let x = option_map_some (put (Register r) pin) (put_by (known q) same i moved) change c.1 in
+      let h : goes notes (known q) q.fn.slot q.state.top.slot i moved (put (Register r) pin x.0) ≡ true = subst (λ change. goes notes (known q) q.fn.slot q.state.top.slot i moved change ≡ true) (sym x.2) goes_is in
+      let p = and_parts (falls notes (known q) (put (Register r) pin x.0) q.fn.slot q.state.top.slot i moved) (leads notes (known q) (put (Register r) pin x.0) q.fn.slot q.state.top.slot i moved) h in
       let enc : HasEncoding i = encoding_at is old_valid.encoding q.fn.slot i at.here in
       let enc' : HasEncoding moved = encoding_at js new_valid.encoding q.state.top.slot moved at.there in
       let other = put_moved same i moved r x.0 same_is er x.1 in
       let here' : insn_at is q.fw.slot ≡ Some i = ap (insn_at is) q.old_at.slots_same ∙ at.here in
       let pn = put_both order (near_own given) (known q) same i moved r x.0 q.fn q.gn same_is er enc enc' q.new_at.near_at (near_leaves given (known q) j q.n q.state q.fn q.fw q.gn q.gw i moved q.old_at q.new_at at.here at.there other) x.1 in
       let pw = put_both order (wide_own given) (known q) same i moved r x.0 q.fw q.gw same_is er enc enc' q.new_at.wide_at (wide_leaves given (known q) j q.n q.state q.fn q.fw q.gn q.gw i moved q.old_at q.new_at here' at.there other) x.1 in
-      by_pairs j i moved at (put (Register r) x.0) (both_put order (near_own given) (known q) i moved r x.0 q.fn q.gn q.new_at.near_at enc enc' er c.0 pn) (both_put order (wide_own given) (known q) i moved r x.0 q.fw q.gw q.new_at.wide_at enc enc' er c.0 pw) (put_falls i r er (put (Register r) x.0) p.0))
+      by_pairs j i moved at (put (Register r) pin x.0) (both_put order (near_own given) (known q) i moved r x.0 q.fn q.gn q.new_at.near_at enc enc' er c.0 pn) (both_put order (wide_own given) (known q) i moved r x.0 q.fw q.gw q.new_at.wide_at enc enc' er c.0 pw) (put_falls i r er (put (Register r) pin x.0) p.0))
     where
       q : Ready given j
       q = at.ready

@@ -1,6 +1,6 @@
 -- The simulation: by induction on the old program's two runs, each step of which the new program follows by extra instructions and one of its own.
 use Rattle.std.proofs.Common.{◌≡◌, ℕ, zero, suc, ◌+◌, ◌*◌, ◌^◌, ◌<◌, ◌≤◌, refl, sym, ap, ap₂, ◌∙◌, subst, arith, Bool, true, false, List, [], ◌∷◌, length, Option, Some, None, cond}
-use Rattle.std.specs.Prelude.{ℤ, pos, ltb, option_and_then, option_map}
+use Rattle.std.specs.Prelude.{ℤ, pos, ◌||◌, ltb, option_and_then, option_map}
 use Rattle.std.proofs.lemmas.Bool.{cond-true, cond-false, le-ltb, false≢true}
 use Rattle.std.proofs.lemmas.Option.{none-some, option_and_then_some}
 use Rattle.std.specs.List.{list_any}
@@ -35,7 +35,7 @@ use Rattle.bpf_semantics.proofs.StateLemmas.{exit_is, left_is, value_fits, opera
 use Rattle.bpf_kept_law.specs.Zero.{zero_does}
 use Rattle.bpf_kept_law.specs.Terms.{Facts}
 use Rattle.bpf_kept_law.specs.Rules.{put_into, undirected, is_jump}
-use Rattle.bpf_kept_law.specs.Guards.{Front, guarded, passes}
+use Rattle.bpf_kept_law.specs.Guards.{Front, guarded, guards_sum, passes}
 use Rattle.bpf_kept_law.specs.Meaning.{most_for_one}
 use Rattle.bpf_kept_law.specs.Matching.{most_extras, most_at_start, led}
 use Rattle.bpf_kept_law.proofs.PutLaw.{put_value}
@@ -84,7 +84,7 @@ pub record IsGuard (front : Front) (facts : Facts) (m : Insn) : Type 0 where
   pub imm : ℤ
   pub off : ℤ
   pub is : m ≡ JumpIf Gt W64 dst (Imm imm) off
-  pub tested : list_any (guarded front dst (extended imm)) facts ≡ true
+  pub tested : (list_any (guarded front dst (extended imm)) facts || guards_sum front facts dst (extended imm)) ≡ true
 
 pub guard_is : (front : Front) (facts : Facts) (m : Insn) → passes front facts m ≡ true → IsGuard front facts m
 unfolding passes

@@ -27,15 +27,15 @@ use Rattle.bpf_kept_law.specs.declared.notes.TurnsLeft.{TurnsLeft}
 use Rattle.bpf_kept_law.specs.declared.notes.Fact.{Fact}
 use Rattle.bpf_kept_law.specs.declared.notes.Change.{Change}
 use Rattle.bpf_kept_law.specs.declared.notes.Change.TheVariants.{Kept, Put, Stored, Made}
-use Rattle.bpf_kept_law.specs.Terms.{Facts, DiffersBy, value_in, slot_number, is_noted, zero_term, frame_slots}
-use Rattle.bpf_kept_law.specs.Rules.{Known, own, is_low, is_same, same_register, same_size, same_address, stores_alike, slot_at, reaches, reached, put, put_into, stored_by, puts_slot, holds_behind, is_parted, made}
+use Rattle.bpf_kept_law.specs.Terms.{Facts, Differs, DiffersBy, value_in, slot_number, is_noted, zero_term, frame_slots}
+use Rattle.bpf_kept_law.specs.Rules.{Known, own, is_low, is_same, same_register, same_size, same_address, stores_alike, slot_at, reaches, reached, pin_of, put, put_into, stored_by, puts_slot, holds_behind, is_parted, made}
 use Rattle.bpf_kept_law.specs.Counters.{is_spared, is_made}
 use Rattle.bpf_kept_law.specs.Matching.{made_in}
 use Rattle.bpf_kept_law.proofs.HoldsLaw.{Elsewhere, register_is, register_elsewhere, register_now, same_value, low_value}
 use Rattle.bpf_kept_law.proofs.ZeroLaw.{flat_moved, does_keeps}
 use Rattle.bpf_kept_law.proofs.FrameLaw.{IsEnd, IsRoomy, IsAccess, IsSlotAccess, Leaves, Reaches, reach_is, slot_access, slot_address, slot_now, slot_elsewhere, byte_elsewhere, byte_kept, clear_kept}
 use Rattle.bpf_kept_law.proofs.PutLaw.{AtOnce, PutBoth, put_value, put_does, end_left, access_is, address_same, size_is, register_differs}
-use Rattle.bpf_kept_law.proofs.ExtraLaw.{made_value, made_known, kept_hold, put_hold, made_hold, stored_hold}
+use Rattle.bpf_kept_law.proofs.ExtraLaw.{made_value, made_known, pin_is, kept_hold, put_hold, made_hold, stored_hold}
 use Rattle.bpf_kept_law.proofs.EdgeLaw.{Behind, numbers_equal}
 
 -- what both lead to
@@ -103,8 +103,13 @@ kept_still order start known f g y at =
 
 -- ---- both put a number into a register
 
+value_put : (order : Order) (i : Insn) (r : Reg) (f : FlatState) → put_into i ≡ Some r → made_value order i f ≡ put_value order i f
+value_put order (Store size dst off src) r f e = absurd (none-some _ e)
+value_put order (StoreImm size dst off imm) r f e = absurd (none-some _ e)
+value_put order i r f e = refl
+
 pub both_put : (order : Order) (start : ℕ) (known : Known) (i moved : Insn) (r : Reg) (by : Option Term) (f g : FlatState) → AtOnce order start known f g → HasEncoding i → HasEncoding moved → put_into i ≡ Some r → is_frame_pointer r ≡ false → PutBoth order start i moved r by f g
-    → Paired order start known (put (Register r) by) i moved f g
+    → Paired order start known (put (Register r) (pin_of known.facts i) by) i moved f g
 both_put order start known i moved r by f g at enc enc' into other p =
     let old : FlatState = flat_put r (put_value order i f) (flat_next i f) in
     let new : FlatState = flat_put r (put_value order moved g) (flat_next moved g) in
@@ -125,9 +130,10 @@ both_put order start known i moved r by f g at enc enc' into other p =
         flat = flat_after order i f old enc at.flat od;
         new_flat = flat_after order moved g new enc' at.new_flat nd;
         pointers = (end_left start f.registers r (put_value order i f) other at.pointers.0, end_left start g.registers r (put_value order moved g) other at.pointers.1);
-        holds = λ want e. put_hold start known.facts at.high (Register r) by (value_in order start f) (value_in order start old) (value_in order start g) (value_in order start new) want refl refl
+        holds = λ want e. put_hold start known.facts at.high (Register r) by (pin_of known.facts i) (value_in order start f) (value_in order start old) (value_in order start g) (value_in order start new) want refl refl
             (register_elsewhere order start f old r (put_value order i f) refl refl) (register_elsewhere order start g new r (put_value order moved g) refl refl)
-            (subst (λ x. DiffersBy start by x (flat_register new r)) (sym (register_now (flat_next i f) r (put_value order i f) at.flat.eleven)) (subst (λ y. DiffersBy start by (put_value order i f) y) (sym (register_now (flat_next moved g) r (put_value order moved g) at.new_flat.eleven)) p.value)) at.all e;
+            (subst (λ x. DiffersBy start by x (flat_register new r)) (sym (register_now (flat_next i f) r (put_value order i f) at.flat.eleven)) (subst (λ y. DiffersBy start by (put_value order i f) y) (sym (register_now (flat_next moved g) r (put_value order moved g) at.new_flat.eleven)) p.value))
+            (λ t et. subst (λ x. Differs start t x 0) (sym (register_now (flat_next i f) r (put_value order i f) at.flat.eleven)) (subst (λ x. Differs start t x 0) (value_put order i r f into) (pin_is order start known.facts f g at.room at.flat at.pointers.0 at.all i t enc et))) at.all e;
         common = λ a small out. at.common a small (λ apart. out apart.0 apart.1 apart.2 apart.3);
       };
       spared = λ h e. register_elsewhere order start g new r (put_value order moved g) refl refl (Some h) e;
@@ -146,18 +152,18 @@ slot_stored order start n size r off x i f room end near e =
     let s = slot_access start n size r off e in
     record { registers = refl; memory = ap₂ (λ k a. memory_with (bytes_of order k x) a f.memory) s.eight (slot_address start n size f r off room end near s) }
 
-both_slot : (order : Order) (start : ℕ) (known : Known) (n x y : ℕ) (by : Option Term) (f g old new : FlatState) → AtOnce order start known f g → n < frame_slots → x < addresses → y < addresses → DiffersBy start by x y → SlotStored order start n x f old → SlotStored order start n y g new → IsFlat old → IsFlat new
-    → Behind order start known (put (Slot n) by) old new
-both_slot order start known n x y by f g old new at few hx hy d p q flat flat' =
+both_slot : (order : Order) (start : ℕ) (known : Known) (n x y : ℕ) (by pin : Option Term) (f g old new : FlatState) → ((t : Term) → pin ≡ Some t → Differs start t x 0) → AtOnce order start known f g → n < frame_slots → x < addresses → y < addresses → DiffersBy start by x y → SlotStored order start n x f old → SlotStored order start n y g new → IsFlat old → IsFlat new
+    → Behind order start known (put (Slot n) pin by) old new
+both_slot order start known n x y by pin f g old new pd at few hx hy d p q flat flat' =
     record {
       high = at.high;
       room = at.room;
       flat = flat;
       new_flat = flat';
       pointers = (subst (IsEnd start) (sym p.registers) at.pointers.0, subst (IsEnd start) (sym q.registers) at.pointers.1);
-      holds = λ want e. put_hold start known.facts at.high (Slot n) by (value_in order start f) (value_in order start old) (value_in order start g) (value_in order start new) want refl refl
+      holds = λ want e. put_hold start known.facts at.high (Slot n) by pin (value_in order start f) (value_in order start old) (value_in order start g) (value_in order start new) want refl refl
           (slot_elsewhere order start n x f old at.room few p.registers p.memory) (slot_elsewhere order start n y g new at.room few q.registers q.memory)
-          (subst (λ x. DiffersBy start by x (slot_number order start new n)) (sym (slot_now order start n x f old at.room few hx p.memory)) (subst (λ y. DiffersBy start by x y) (sym (slot_now order start n y g new at.room few hy q.memory)) d)) at.all e;
+          (subst (λ x. DiffersBy start by x (slot_number order start new n)) (sym (slot_now order start n x f old at.room few hx p.memory)) (subst (λ y. DiffersBy start by x y) (sym (slot_now order start n y g new at.room few hy q.memory)) d)) (λ t et. subst (λ x. Differs start t x 0) (sym (slot_now order start n x f old at.room few hx p.memory)) (pd t et)) at.all e;
       common = λ a small out. let here = out n few (itself n (is_noted known.apart n)) in
           byte_elsewhere order start n y g new at.room few q.memory a small here ∙ at.common a small (λ apart. out apart.0 apart.1 (added (n == apart.0) (is_noted known.apart apart.0) apart.2) apart.3) ∙ sym (byte_elsewhere order start n x f old at.room few p.memory a small here);
     }
@@ -173,8 +179,8 @@ pub slots_put : (order : Order) (start : ℕ) (known : Known) (change : Change) 
 unfolding flat_does
 slots_put order start known change (Store size dst off src) f g at enc e =
     option_and_then_some _ (slot_at size dst off) change e (λ n en e1.
-    let h = option_map_some (put (Slot n)) (stored_by known.facts src) change e1 in
     let i : Insn = Store size dst off src in
+    let h = option_map_some (put (Slot n) (pin_of known.facts i)) (stored_by known.facts src) change e1 in
     let old : FlatState = flat_store order (byte_count size) (flat_register f src) (address f dst off) (flat_next i f) in
     let new : FlatState = flat_store order (byte_count size) (flat_register g src) (address g dst off) (flat_next i g) in
     let s = slot_access start n size dst off en in
@@ -188,7 +194,7 @@ slots_put order start known change (Store size dst off src) f g at enc e =
       new_slot = refl;
       old_returns = refl;
       new_returns = refl;
-      behind = both_slot order start known n (flat_register f src) (flat_register g src) h.0 f g old new at s.small (at.flat.numbers (register_number src)) (at.new_flat.numbers (register_number src)) (differ h.0 (own known.facts src) refl h.1)
+      behind = both_slot order start known n (flat_register f src) (flat_register g src) h.0 (pin_of known.facts i) f g old new (λ t et. pin_is order start known.facts f g at.room at.flat at.pointers.0 at.all i t enc et) at s.small (at.flat.numbers (register_number src)) (at.new_flat.numbers (register_number src)) (differ h.0 (own known.facts src) refl h.1)
           (slot_stored order start n size dst off (flat_register f src) i f at.room at.pointers.0 enc en) (slot_stored order start n size dst off (flat_register g src) i g at.room at.pointers.1 enc en) (flat_after order i f old enc at.flat refl) (flat_after order i g new enc at.new_flat refl);
       spared = λ k e. (let q = slot_stored order start n size dst off (flat_register g src) i g at.room at.pointers.1 enc en in slot_elsewhere order start n (flat_register g src) g new at.room s.small q.registers q.memory (Some k) e);
       unmade = λ want h. false≢true h;
@@ -200,7 +206,7 @@ slots_put order start known change (Store size dst off src) f g at enc e =
         let c = cond_option (is_low known.facts src) (Some None) by h in
         subst (λ by. DiffersBy start by (flat_register f src) (flat_register g src)) (same_Some None by c.1) (low_value start at.high (value_in order start f) (value_in order start g) known.facts src at.all c.0)
 slots_put order start known change (StoreImm size dst off imm) f g at enc e =
-    let h = option_map_some (λ n. put (Slot n) (Some zero_term)) (slot_at size dst off) change e in
+    let h = option_map_some (λ n. put (Slot n) (pin_of known.facts (StoreImm size dst off imm)) (Some zero_term)) (slot_at size dst off) change e in
     let n : ℕ = h.0 in
     let i : Insn = StoreImm size dst off imm in
     let old : FlatState = flat_store order (byte_count size) (extended imm) (address f dst off) (flat_next i f) in
@@ -216,7 +222,7 @@ slots_put order start known change (StoreImm size dst off imm) f g at enc e =
       new_slot = refl;
       old_returns = refl;
       new_returns = refl;
-      behind = both_slot order start known n (extended imm) (extended imm) (Some zero_term) f g old new at s.small (modulo_below imm) (modulo_below imm) (numbers_equal start (extended imm) (extended imm) (modulo_below imm) refl)
+      behind = both_slot order start known n (extended imm) (extended imm) (Some zero_term) (pin_of known.facts i) f g old new (λ t et. pin_is order start known.facts f g at.room at.flat at.pointers.0 at.all i t enc et) at s.small (modulo_below imm) (modulo_below imm) (numbers_equal start (extended imm) (extended imm) (modulo_below imm) refl)
           (slot_stored order start n size dst off (extended imm) i f at.room at.pointers.0 enc.0 h.1) (slot_stored order start n size dst off (extended imm) i g at.room at.pointers.1 enc.0 h.1) (flat_after order i f old enc at.flat refl) (flat_after order i g new enc at.new_flat refl);
       spared = λ k e. (let q = slot_stored order start n size dst off (extended imm) i g at.room at.pointers.1 enc.0 h.1 in slot_elsewhere order start n (extended imm) g new at.room s.small q.registers q.memory (Some k) e);
       unmade = λ want h. false≢true h;

@@ -44,7 +44,8 @@ is_turn_of (Some slot) head = slot == head
 abbrev pub tells : Option ℕ → Holder → ℕ → TurnsLeft → TurnsLeft → Bool
 tells step h more want have = same_holder have.of h && (have.head == want.head && nat_le ((have.taken + more) - (if is_turn_of step have.head then 1 else 0)) want.taken)
 
--- What an extra instruction makes of counters. One begins with all turns, is moved, and loses one.
+-- What an extra instruction makes of counters. One begins with all turns, is moved, and loses one. If it began with fewer, the last turns would be
+-- missing.
 abbrev pub makes_counter : ℕ → List (Option TurnsLeft) → Insn → TurnsLeft → Bool
 makes_counter turns counters (Alu Mov W64 dst (Imm imm)) want = nat_le turns (extended imm)
 makes_counter turns counters (Alu Mov W64 dst (FromReg r)) want = any_counter (tells None (Register r) 0 want) counters
@@ -58,7 +59,7 @@ makes_counter turns counters i want = false
 -- a counter that a change doesn't overwrite
 abbrev pub is_spared : Change → Holder → Bool
 is_spared Kept h = true
-is_spared (Put fact) h = option_map_or (λ into. not (same_holder h into)) fact.of true
+is_spared (Put fact pin) h = option_map_or (λ into. not (same_holder h into)) fact.of true
 is_spared (Stored from to) h = is_clear from to (Some h)
 is_spared (Made into i) h = not (same_holder h into)
 
@@ -77,6 +78,8 @@ unfoldable pub all_count_behind : Known → Change → Option ℕ → List (Opti
 all_count_behind known change step wants = list_all (counts_behind known change step) wants
 
 -- ---- the test of a counter, in front of the instruction whose turns it counts: it never leads to its trap
+
+-- In front of another instruction, which comes more often, or behind the taking of a turn the last one would lead there.
 
 abbrev pub is_tested_turn : ℕ → Reg → TurnsLeft → Bool
 is_tested_turn slot dst c = same_holder c.of (Register dst) && (c.head == slot && c.taken == 0)

@@ -65,7 +65,7 @@ hands_frame (Store size dst off src) = is_frame_pointer src
 hands_frame i = false
 
 -- So many of the lowest bytes of the frame no access by another register than r10 goes to: all, if the new program has no pointer into it elsewhere;
--- else as many as the runs leave that are spoken of.
+-- else as many as the runs leave that are spoken of. With r3 = r10 an access by r3 may go to any slot.
 unfoldable pub left_alone : Instructions → ℕ → ℕ
 left_alone new untouched = if list_all (λ i. not (hands_frame i)) new.list then frame_bytes else untouched
 

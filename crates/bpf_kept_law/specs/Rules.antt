@@ -123,7 +123,7 @@ abbrev pub slot_of : ℤ → Option ℕ
 slot_of (pos b) = if b % 8 == 0 && nat_lt b frame_bytes then Some (b / 8) else None
 slot_of (negsuc b) = None
 
--- the slot that an access of eight bytes by r10 goes to
+-- The slot that an access of eight bytes by r10 goes to. Of four bytes alone, the high half of a slot with an offset isn't that of the pointer.
 abbrev pub slot_at : Size → Reg → ℤ → Option ℕ
 slot_at size base off = if is_frame_pointer base && byte_count size == 8 then slot_of (frame_byte off) else None
 
@@ -137,7 +137,7 @@ abbrev pub misses : ℕ → ℕ → Reg → ℤ → Reg → ℤ → ℕ → Bool
 misses left count src off base at n =
     if is_frame_pointer base then is_beside (frame_byte at) count n else if is_frame_pointer src then is_beside (frame_byte off) count n else nat_le (8 * n + 8) left
 
--- it goes to no slot in which the programs may have something else
+-- It goes to no slot in which the programs may have something else. There the new one may count down, and what is read twice would differ.
 unfoldable pub is_common : Known → ℕ → Reg → ℤ → Reg → ℤ → Bool
 is_common known count src off base at = each_slot (λ n. not (is_noted known.apart n) || misses known.left count src off base at n) frame_slots
 
@@ -341,19 +341,37 @@ abbrev pub put_by : Known → Bool → Insn → Insn → Option (Option Term)
 put_by known true i moved = option_or (option_map Some (result_term known i)) (low_result known.facts i)
 put_by known false i moved = if loads_alike known i moved then Some (Some zero_term) else if is_framed i moved then Some (Some frame_offset) else None
 
-abbrev pub put : Holder → Option Term → Change
-put h by = Put (record { of = Some h; base = Some h; by = by })
+-- What the old program has in a register or slot is one number: with a term it is 0. An index that isn't known has no such term.
+abbrev pub is_pin : Holder → Fact → Bool
+is_pin h fact = is_none fact.of && (is_holder h fact.base && is_some fact.by)
+
+unfoldable pub pinned : Facts → Holder → Option Term
+pinned facts h = find (is_pin h) facts >>= λ fact. fact.by
+
+-- and so is what it puts or stores
+abbrev pub pin_of : Facts → Insn → Option Term
+pin_of facts (Alu Mov W64 dst (Imm imm)) = Some (negated (constant (extended imm)))
+pin_of facts (Alu Mov W64 dst (FromReg src)) = pinned facts (Register src)
+pin_of facts (Alu Add W64 dst (Imm imm)) = option_map (λ t. minus t (constant (extended imm))) (pinned facts (Register dst))
+pin_of facts (LoadImm64 dst value) = Some (negated (constant value))
+pin_of facts (Load size dst src off) = slot_at size src off >>= λ n. pinned facts (Slot n)
+pin_of facts (Store size dst off src) = pinned facts (Register src)
+pin_of facts (StoreImm size dst off imm) = Some (negated (constant (extended imm)))
+pin_of facts i = None
+
+abbrev pub put : Holder → Option Term → Option Term → Change
+put h pin by = Put (record { of = Some h; base = Some h; by = by }) pin
 
 abbrev pub puts : Known → Bool → Insn → Insn → Option Change
-puts known same i moved = put_into i >>= λ r. if is_frame_pointer r then None else option_map (put (Register r)) (put_by known same i moved)
+puts known same i moved = put_into i >>= λ r. if is_frame_pointer r then None else option_map (put (Register r) (pin_of known.facts i)) (put_by known same i moved)
 
 -- both store eight bytes to one slot of the frame by r10: by what the stored numbers differ
 abbrev pub stored_by : Facts → Reg → Option (Option Term)
 stored_by facts src = option_or (option_map Some (own facts src)) (if is_low facts src then Some None else None)
 
 abbrev pub puts_slot : Facts → Insn → Option Change
-puts_slot facts (Store size dst off src) = slot_at size dst off >>= λ n. option_map (put (Slot n)) (stored_by facts src)
-puts_slot facts (StoreImm size dst off imm) = option_map (λ n. put (Slot n) (Some zero_term)) (slot_at size dst off)
+puts_slot facts (Store size dst off src) = slot_at size dst off >>= λ n. option_map (put (Slot n) (pin_of facts (Store size dst off src))) (stored_by facts src)
+puts_slot facts (StoreImm size dst off imm) = option_map (λ n. put (Slot n) (pin_of facts (StoreImm size dst off imm)) (Some zero_term)) (slot_at size dst off)
 puts_slot facts i = None
 
 abbrev pub stores : Known → Bool → Insn → Insn → Option Change
@@ -434,13 +452,17 @@ abbrev pub stays : Holder → Fact → Bool
 stays h fact = not (is_holder h fact.of) && not (is_holder h fact.base)
 
 -- what is put, and what is left of the rest
-abbrev pub put_gives : Facts → Fact → Fact → Bool
-put_gives facts fact want = gives fact want || option_map_or (λ h. list_any (λ have. stays h have && gives have want) facts) fact.of false
+abbrev pub pins : Option Holder → Fact → Term → Bool
+pins h want t = gives (record { of = None; base = h; by = Some t }) want
+
+abbrev pub put_gives : Facts → Fact → Option Term → Fact → Bool
+put_gives facts fact pin want =
+    gives fact want || (option_map_or (pins fact.of want) pin false || option_map_or (λ h. list_any (λ have. stays h have && gives have want) facts) fact.of false)
 
 abbrev pub made_gives : Facts → Holder → Insn → Fact → Bool
 made_gives facts h i want = (is_holder h want.of && made facts i want) || list_any (λ have. not (is_holder h have.of) && gives have want) facts
 
--- it isn't of a slot that has some of these bytes
+-- It isn't of a slot that has some of these bytes. A pointer that is spilled above an array may be overwritten by a store behind the array's end.
 abbrev pub is_clear : ℕ → ℕ → Option Holder → Bool
 is_clear from to (Some (Slot n)) = nat_le (8 * n + 8) from || nat_le to (8 * n)
 is_clear from to of = true
@@ -453,7 +475,7 @@ stored_gives facts from to want = list_any (λ have. outlives from to have && gi
 
 abbrev pub change_gives : Facts → Change → Fact → Bool
 change_gives facts Kept want = list_any (λ have. gives have want) facts
-change_gives facts (Put fact) want = put_gives facts fact want
+change_gives facts (Put fact pin) want = put_gives facts fact pin want
 change_gives facts (Stored from to) want = stored_gives facts from to want
 change_gives facts (Made h i) want = made_gives facts h i want
 
@@ -467,11 +489,11 @@ by_itself h = record { of = Some h; base = Some h; by = Some zero_term }
 
 -- a slot in which the programs may have something else behind a change: it was one, or it is written
 abbrev pub is_parted : List Bool → Change → ℕ → Bool
-is_parted apart (Put fact) n = is_holder (Slot n) fact.of || is_noted apart n
+is_parted apart (Put fact pin) n = is_holder (Slot n) fact.of || is_noted apart n
 is_parted apart (Made h i) n = same_holder (Slot n) h || is_noted apart n
 is_parted apart change n = is_noted apart n
 
--- each slot that isn't noted as one has the same
+-- Each slot that isn't noted as one has the same. Else the old program would read a counter as its own number.
 abbrev pub is_told : Known → Change → List Bool → ℕ → Bool
 is_told known change apart n = not (is_parted known.apart change n) || (is_noted apart n || holds_behind known.facts change (by_itself (Slot n)))
 

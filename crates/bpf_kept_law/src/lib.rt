@@ -1,5 +1,5 @@
-//! What it is that a new program keeps the meaning of an old one on plain addresses, and the laws that notes show it: of one function, whose frame
-//! has the same in both. No command uses this yet.
+//! What it is that a new program keeps the meaning of an old one on plain addresses, and the laws that notes show it, of one function. No command uses
+//! this yet.
 #![tactic(auto)]
 
 mod laws;

@@ -1,4 +1,5 @@
-//! Notes: which instruction of the new program stands for which one of the old one, and what its registers hold there by the old one's.
+//! Notes: which instruction of the new program stands for which one of the old one, and what registers and slots of the frame hold there by the old
+//! one's.
 
 use bpf_insn::{Insn, Reg};
 
@@ -68,8 +69,8 @@ pub struct Note {
 pub enum Change {
     /// Nothing.
     Kept,
-    /// Both programs put a number into a place, and then this holds.
-    Put { fact: Fact },
+    /// Both programs put a number into a place, and then this holds. If a term is given, what the old one has there and the term are 0.
+    Put { fact: Fact, pin: Option<Term> },
     /// Both programs store the same bytes at one address. In the own frame that may be any from one byte on, below another.
     Stored { from: u32, to: u32 },
     /// The new program alone puts what the instruction makes into a place.
