@@ -1,5 +1,5 @@
 -- Where an access of the exact machine goes.
-use Rattle.std.proofs.Common.{◌≡◌, ℕ, subst, Some}
+use Rattle.std.proofs.Common.{◌≡◌, subst, Some}
 use Rattle.std.proofs.lemmas.Option.{none-some, same_Some, option_and_then_some}
 use Rattle.bpf_insn.specs.Effects.{Access, access_of}
 use Rattle.bpf_insn.specs.Instruction.{byte_count, word_size}

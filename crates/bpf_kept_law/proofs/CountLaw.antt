@@ -1,9 +1,8 @@
 -- Counters: what is left of them behind a change, and that the test of one passes.
-use Rattle.std.proofs.Common.{◌≡◌, ℕ, zero, suc, ◌+◌, ◌-◌, ◌*◌, ◌%◌, ◌^◌, ◌<◌, ◌≤◌, ◌==◌, inl, inr, refl, sym, ap, ◌∙◌, subst, arith, Bool, true, false, List, [], ◌∷◌, Option, Some, None, cond}
-use Rattle.std.specs.Prelude.{ℤ, pos, negsuc, ◌&&◌, ◌||◌, not, nat_le, leb}
-use Rattle.std.specs.List.{AllByRecursion, list_all, list_any}
+use Rattle.std.proofs.Common.{◌≡◌, ℕ, zero, suc, ◌+◌, ◌-◌, ◌%◌, ◌^◌, ◌<◌, ◌≤◌, ◌==◌, inl, inr, refl, sym, ap, ◌∙◌, subst, arith, Bool, true, false, List, [], ◌∷◌, Option, Some, None, cond}
+use Rattle.std.specs.Prelude.{ℤ, pos, negsuc, ◌&&◌, nat_le}
 use Rattle.std.specs.Option.{option_map_or}
-use Rattle.std.proofs.lemmas.Bool.{and_parts, or_cases, cases_lt, eqb-true, leb-true, false≢true}
+use Rattle.std.proofs.lemmas.Bool.{and_parts, or_cases, eqb-true, leb-true, false≢true}
 use Rattle.bpf_insn.specs.Arithmetic.{extended}
 use Rattle.bpf_insn.specs.Image.{HasEncoding}
 use Rattle.bpf_insn.specs.Instruction.{register_number}
@@ -20,9 +19,10 @@ use Rattle.bpf_kept_law.specs.declared.notes.Holder.{Holder}
 use Rattle.bpf_kept_law.specs.declared.notes.Holder.TheVariants.{Register, Slot}
 use Rattle.bpf_kept_law.specs.declared.notes.TurnsLeft.{TurnsLeft}
 use Rattle.bpf_kept_law.specs.declared.notes.Change.{Change}
-use Rattle.bpf_kept_law.specs.declared.notes.Change.TheVariants.{Kept, Put, Stored, Made}
+use Rattle.bpf_kept_law.specs.declared.notes.Change.TheVariants.{Made}
 use Rattle.bpf_kept_law.specs.Terms.{Values, value_in}
-use Rattle.bpf_kept_law.specs.Rules.{Known, same_holder, slot_at}
+use Rattle.bpf_kept_law.specs.Slots.{slot_at}
+use Rattle.bpf_kept_law.specs.Rules.{Known, same_holder}
 use Rattle.bpf_kept_law.specs.Counters.{Counts, AllCount, any_counter, is_turn_of, tells, makes_counter, is_spared, is_made, is_left, counts_behind, is_tested_turn, has_turn}
 use Rattle.bpf_kept_law.proofs.HoldsLaw.{Elsewhere, holder_is}
 use Rattle.bpf_kept_law.proofs.FrameLaw.{IsRoomy, IsEnd, slot_access, slot_loaded}

@@ -1,21 +1,22 @@
 -- An edge: what is known behind a change gives all that is noted where the edge leads.
-use Rattle.std.proofs.Common.{◌≡◌, ℕ, zero, suc, ◌+◌, ◌-◌, ◌*◌, ◌/◌, ◌<◌, ◌≤◌, ◌==◌, inl, inr, refl, sym, ap, ◌∙◌, subst, arith, Bool, true, false, List, [], ◌∷◌, ◌++◌, Option, Some, None, cond}
-use Rattle.std.specs.Prelude.{not, ◌&&◌, ◌||◌, get_or, ltb}
+use Rattle.std.proofs.Common.{◌≡◌, ℕ, zero, suc, ◌+◌, ◌-◌, ◌*◌, ◌/◌, ◌<◌, inl, inr, refl, sym, ◌∙◌, subst, arith, Bool, true, false, ◌∷◌}
+use Rattle.std.specs.Prelude.{not, ◌||◌, get_or, ltb}
 use Rattle.std.specs.List.{AllByRecursion, list_all}
 use Rattle.std.proofs.lemmas.Bool.{cond_both, cases_lt, or_cases, false≢true}
 use Rattle.bpf_insn.specs.Instruction.{Instructions}
 use Rattle.bpf_insn.specs.declared.order.Order.{Order}
 use Rattle.bpf_insn.specs.declared.instruction.Reg.TheVariants.{R10}
 use Rattle.bpf_insn.specs.declared.instruction.Size.TheVariants.{DW}
-use Rattle.bpf_semantics.specs.Flat.{FlatState, IsFlat, IsAmong, addresses, flat_number, flat_register}
+use Rattle.bpf_semantics.specs.Flat.{FlatState, IsFlat, IsAmong, addresses, flat_number}
 use Rattle.bpf_semantics.proofs.FlatAccess.{flat_number_below}
 use Rattle.bpf_kept_law.specs.declared.notes.Holder.TheVariants.{Register, Slot}
 use Rattle.bpf_kept_law.specs.declared.notes.Fact.{Fact}
 use Rattle.bpf_kept_law.specs.declared.notes.Note.{Note}
 use Rattle.bpf_kept_law.specs.declared.notes.Change.{Change}
 use Rattle.bpf_kept_law.specs.Meaning.{Bounds}
-use Rattle.bpf_kept_law.specs.Terms.{Facts, Differs, Holds, AllHold, IsApart, IsCommon, frame_slots, slot_number, value_in, is_noted, zero_term}
-use Rattle.bpf_kept_law.specs.Rules.{Known, slot_facts, holds_behind, by_itself, is_parted, is_told, are_told}
+use Rattle.bpf_kept_law.specs.Terms.{Differs, Holds, AllHold, IsCommon, frame_slots, slot_number, value_in, is_noted, zero_term}
+use Rattle.bpf_kept_law.specs.Slots.{slot_facts}
+use Rattle.bpf_kept_law.specs.Rules.{Known, holds_behind, by_itself, is_parted, is_told, are_told}
 use Rattle.bpf_kept_law.specs.Matching.{said, same_slot, facts_at, known_at}
 use Rattle.bpf_kept_law.proofs.TermLaw.{zero_differs, same_number, shift_constant}
 use Rattle.bpf_kept_law.proofs.HoldsLaw.{IsHigh, all_of, all_both}

@@ -2,23 +2,22 @@
 use Rattle.std.proofs.Common.{◌≡◌, ℕ, zero, suc, ◌+◌, ◌%◌, ◌<◌, ◌≤◌, ◌==◌, inl, inr, refl, sym, ap, ◌∙◌, subst, arith, Bool, true, false, List, [], ◌∷◌, length, Some, None}
 use Rattle.std.specs.Prelude.{take, drop, ltb, ◌&&◌, option_and_then, option_map, if◌then◌else◌}
 use Rattle.std.proofs.lemmas.Bool.{cond_both, cond-true, lt-ltb, and_parts, cases_order, cases_eq}
-use Rattle.std.proofs.lemmas.Option.{none-some, same_Some, option_and_then_some}
+use Rattle.std.proofs.lemmas.Option.{none-some, same_Some}
 use Rattle.bpf_insn.specs.Effects.{Access, access_of}
 use Rattle.bpf_insn.specs.Image.{IsProgram}
-use Rattle.bpf_insn.specs.Instruction.{Instructions, byte_count, word_size, insn_at, target}
+use Rattle.bpf_insn.specs.Instruction.{Instructions, byte_count, insn_at, target}
 use Rattle.bpf_insn.specs.Laws.{AreBytes}
 use Rattle.bpf_insn.specs.declared.order.Order.{Order}
 use Rattle.bpf_insn.specs.declared.instruction.Reg.TheVariants.{R0}
 use Rattle.bpf_insn.specs.declared.instruction.Insn.{Insn}
-use Rattle.bpf_insn.specs.declared.instruction.Insn.TheVariants.{Load, LoadSx, Store, StoreImm, Atomic, CallLocal, Exit}
-use Rattle.bpf_semantics.specs.State.{State, IsState, depth, frame_bytes, max_frames, register, number_of_register, start}
-use Rattle.bpf_semantics.specs.Memory.{Location, location_of}
+use Rattle.bpf_insn.specs.declared.instruction.Insn.TheVariants.{CallLocal, Exit}
+use Rattle.bpf_semantics.specs.State.{State, IsState, depth, frame_bytes, max_frames, start}
+use Rattle.bpf_semantics.specs.Memory.{Location}
 use Rattle.bpf_semantics.specs.Memory.Location.{InContext, InFrame}
 use Rattle.bpf_semantics.specs.Step.{Step, step_of, does, Finish}
 use Rattle.bpf_semantics.specs.Run.{Steps, state_after}
 use Rattle.bpf_semantics.specs.Flat.{Placement, FlatState, FlatDoes, FlatStep, FlatReturn, FlatFinish, IsAmong, addresses, frame_start, flat_register}
 use Rattle.bpf_semantics.specs.Placement.{IsPlacement, Fits, StaysInside}
-use Rattle.bpf_semantics.specs.declared.value.Value.{Value}
 use Rattle.bpf_semantics.proofs.FlatAccess.{size_some}
 use Rattle.bpf_semantics.proofs.FlatBase.{stands}
 use Rattle.bpf_semantics.proofs.FlatCall.{returns_length}

@@ -1,13 +1,13 @@
 -- What the new program puts into a register or slot by itself, and what a change leaves of each fact.
-use Rattle.std.proofs.Common.{◌≡◌, ℕ, ◌+◌, ◌%◌, ◌<◌, inl, inr, refl, sym, ap, ◌∙◌, subst, arith, Bool, true, false, List, length, Option, Some, None, cond}
-use Rattle.std.specs.Prelude.{ℤ, pos, ◌+ℤ◌, ◌-ℤ◌, neg_ℤ, ◌&&◌, ◌||◌, not, is_none, get_or, set, option_map}
-use Rattle.std.specs.List.{find, list_all, list_any}
+use Rattle.std.proofs.Common.{◌≡◌, ℕ, ◌+◌, ◌%◌, ◌<◌, inl, inr, refl, sym, ap, ◌∙◌, subst, arith, Bool, true, false, Option, Some, None, cond}
+use Rattle.std.specs.Prelude.{ℤ, pos, ◌+ℤ◌, ◌-ℤ◌, neg_ℤ, ◌&&◌, ◌||◌, not, is_none, get_or, option_map}
+use Rattle.std.specs.List.{find, list_any}
 use Rattle.std.specs.Option.{is_some, option_map_or}
-use Rattle.std.proofs.lemmas.Bool.{and_parts, or_cases, eqb-true, eq-eqb, false≢true}
+use Rattle.std.proofs.lemmas.Bool.{and_parts, or_cases, eqb-true, false≢true}
 use Rattle.std.proofs.lemmas.Int.{ints}
 use Rattle.std.proofs.lemmas.Option.{none-some, same_Some, option_and_then_some}
 use Rattle.bpf_insn.specs.Arithmetic.{modulo, extended}
-use Rattle.bpf_insn.specs.Effects.{access_of, is_frame_pointer}
+use Rattle.bpf_insn.specs.Effects.{is_frame_pointer}
 use Rattle.bpf_insn.specs.Limits.{frame_bytes}
 use Rattle.bpf_insn.specs.Image.{HasEncoding}
 use Rattle.bpf_insn.specs.Instruction.{register_number}
@@ -31,12 +31,12 @@ use Rattle.bpf_kept_law.specs.declared.notes.Term.{Term}
 use Rattle.bpf_kept_law.specs.declared.notes.Fact.{Fact}
 use Rattle.bpf_kept_law.specs.declared.notes.Change.TheVariants.{Kept, Put, Stored, Made}
 use Rattle.bpf_kept_law.specs.Terms.{Facts, Values, Differs, DiffersBy, Holds, AllHold, value_in, shift, constant, zero_term, frame_end, plus, minus, negated}
-use Rattle.bpf_kept_law.specs.Rules.{is_holder, is_register, is_base, is_enough, gives, slot_at, sum_base, difference_base, both, is_known, is_sum, is_difference, is_moved, made_by, made_from, of_slot, known_number, known_operand, is_pin, pinned, pin_of, pins, of_number, of_operand, by_operand, made, stays, outlives, is_clear, put_gives, made_gives, stored_gives, holds_behind}
+use Rattle.bpf_kept_law.specs.Slots.{slot_at, is_clear}
+use Rattle.bpf_kept_law.specs.Rules.{is_holder, is_register, is_base, is_enough, gives, sum_base, difference_base, both, is_known, is_sum, is_difference, is_moved, made_by, made_from, of_slot, known_number, known_operand, is_pin, pinned, pin_of, pins, of_number, of_operand, by_operand, made, stays, outlives, put_gives, made_gives, stored_gives, holds_behind}
 use Rattle.bpf_kept_law.proofs.TermLaw.{shift_plus, shift_minus, shift_neg, shift_constant, differs_same, same_differs, same_number}
 use Rattle.bpf_kept_law.proofs.HoldsLaw.{IsHigh, Elsewhere, any_holds, found_holds, held, none_is, base_same, enough_differs, gives_holds, stays_holds, other_holds}
-use Rattle.bpf_kept_law.proofs.AheadLaw.{access_near}
 use Rattle.bpf_kept_law.proofs.FrameLaw.{IsRoomy, IsEnd, slot_access, slot_loaded}
-use Rattle.bpf_kept_law.proofs.PutLaw.{put_value}
+use Rattle.bpf_kept_law.proofs.PutValue.{put_value}
 
 -- what the new program puts into a register, or stores to a slot
 abbrev pub made_value : Order → Insn → FlatState → ℕ

@@ -19,7 +19,7 @@ use Rattle.bpf_insn.specs.declared.instruction.AluOp.TheVariants.{Mov}
 use Rattle.bpf_insn.specs.declared.instruction.Insn.{Insn}
 use Rattle.bpf_insn.specs.declared.instruction.Insn.TheVariants.{Alu, Load, LoadSx, Store, StoreImm, Ja, JaLong, JumpIf, CallLocal, Exit}
 use Rattle.bpf_semantics.specs.Step.{Finish}
-use Rattle.bpf_semantics.specs.Flat.{FlatState, flat_register, flat_operand, flat_at, flat_next, flat_does}
+use Rattle.bpf_semantics.specs.Flat.{FlatState, flat_register, flat_operand, flat_at, flat_does}
 use Rattle.bpf_semantics.proofs.FlatInsn.{number_stands}
 use Rattle.bpf_semantics.proofs.StateLemmas.{cond_option, encoding_at, option_map_some}
 use Rattle.bpf_kept_law.specs.Far.{near, wide}
@@ -40,7 +40,8 @@ use Rattle.bpf_kept_law.proofs.AheadLaw.{earlier, onward, goes_on, ends_here}
 use Rattle.bpf_kept_law.proofs.StoreLaw.{Paired, register_same, at_same, kept_there, both_put, slots_put, stores_there}
 use Rattle.bpf_kept_law.proofs.Simulation.{more, in_time, none_first, program, not_exit, zero_plain, answers, test_jumps, test_jumps_back, test_falls, jump_does, jump_back, test_back, jump_turns, test_turns, put_turns, does_there, steps_on, ends_on, answers_same, same_tests, same_exit}
 use Rattle.bpf_kept_law.proofs.Setting.{Setting}
-use Rattle.bpf_kept_law.proofs.Beside.{OldAt, NewAt, new_next, Ready, arrived, extra_step, near_does, old_next, near_own, wide_own, near_leaves, wide_leaves, made_before, turn_advances}
+use Rattle.bpf_kept_law.proofs.Beside.{OldAt, new_next, near_does, old_next, near_own, wide_own, near_leaves, wide_leaves, made_before}
+use Rattle.bpf_kept_law.proofs.Extras.{Ready, arrived, extra_step, turn_advances}
 
 -- a store is the same where it is the same but for where it leads
 abbrev is_store : Insn → Bool

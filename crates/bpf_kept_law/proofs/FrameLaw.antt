@@ -1,6 +1,6 @@
 -- The own frame: what its slots hold by the bytes of the memory, and which of them accesses go to.
-use Rattle.std.proofs.Common.{◌≡◌, ℕ, zero, suc, ◌+◌, ◌-◌, ◌*◌, ◌/◌, ◌%◌, ◌^◌, ◌<◌, ◌≤◌, ◌⊎◌, ◌==◌, inl, inr, refl, sym, ap, ap₂, ◌∙◌, subst, arith, Bool, true, false, List, [], ◌∷◌, length, Option, Some, None, cond}
-use Rattle.std.specs.Prelude.{ℤ, pos, negsuc, ◌+ℤ◌, ◌-ℤ◌, ◌≤ℤ◌, int_le, ltb, leb, ◌&&◌, ◌||◌, not, get_or, slice_index, FitsSigned}
+use Rattle.std.proofs.Common.{◌≡◌, ℕ, zero, suc, ◌+◌, ◌-◌, ◌*◌, ◌/◌, ◌%◌, ◌^◌, ◌<◌, ◌≤◌, ◌⊎◌, ◌==◌, inl, inr, refl, sym, ap, ap₂, ◌∙◌, subst, arith, Bool, true, false, List, ◌∷◌, length, Option, Some, None, cond}
+use Rattle.std.specs.Prelude.{ℤ, pos, negsuc, ◌+ℤ◌, ◌≤ℤ◌, int_le, ltb, leb, ◌&&◌, ◌||◌, not, get_or, slice_index, FitsSigned}
 use Rattle.std.specs.Int.{w16}
 use Rattle.std.proofs.Math.Nat.{mul-add-mod_self_right, mod-eq_of_lt}
 use Rattle.std.proofs.lemmas.Bool.{and_parts, or_cases, cond-true, cond-false, cases_lt, ltb-true, lt-ltb, le-ltb, leb-true, eqb-true, eq-eqb, false≢true}
@@ -19,8 +19,7 @@ use Rattle.bpf_insn.specs.declared.instruction.Reg.{Reg}
 use Rattle.bpf_insn.specs.declared.instruction.Size.{Size}
 use Rattle.bpf_insn.specs.declared.instruction.Insn.{Insn}
 use Rattle.bpf_semantics.specs.Flat.{FlatState, IsFlat, IsAmong, addresses, address, bytes_from, memory_with, flat_register, flat_number, flat_does}
-use Rattle.bpf_semantics.specs.FlatLaws.{Touches}
-use Rattle.bpf_semantics.proofs.FlatArith.{Same, modulo_same, same_refl, same_trans, same_plus, same_equal, modulo-same, modulo_of_small}
+use Rattle.bpf_semantics.proofs.FlatArith.{modulo-same}
 use Rattle.bpf_semantics.proofs.FlatBytes.{number-bytes, bytes_from_small, bytes_from_are}
 use Rattle.bpf_semantics.proofs.FlatBytesLaw.{flat_writes_only}
 use Rattle.bpf_semantics.proofs.FlatStore.{memory_outside, memory_inside}
@@ -29,8 +28,9 @@ use Rattle.bpf_kept_law.specs.declared.notes.Holder.{Holder}
 use Rattle.bpf_kept_law.specs.declared.notes.Holder.TheVariants.{Register, Slot}
 use Rattle.bpf_kept_law.specs.declared.notes.Change.{Change}
 use Rattle.bpf_kept_law.specs.declared.notes.Change.TheVariants.{Stored}
-use Rattle.bpf_kept_law.specs.Terms.{Values, frame_slots, slot_number, value_in, is_noted, IsApart, IsCommon}
-use Rattle.bpf_kept_law.specs.Rules.{Known, same_holder, is_holder, each_slot, frame_byte, slot_of, slot_at, is_beside, misses, is_common, is_clear, from_byte, reaches}
+use Rattle.bpf_kept_law.specs.Terms.{frame_slots, slot_number, value_in, is_noted, IsCommon}
+use Rattle.bpf_kept_law.specs.Slots.{each_slot, frame_byte, slot_of, slot_at, is_beside, misses, is_clear, from_byte, reaches}
+use Rattle.bpf_kept_law.specs.Rules.{Known, is_common}
 use Rattle.bpf_kept_law.proofs.HoldsLaw.{Elsewhere}
 
 -- the frame lies well inside of the addresses

@@ -1,16 +1,15 @@
 -- A program that hands no pointer into the frame on: only r10 has one, on each way.
-use Rattle.std.proofs.Common.{◌≡◌, ℕ, zero, suc, ◌+◌, ◌-◌, ◌/◌, ◌%◌, ◌<◌, ◌≤◌, ◌==◌, inl, inr, refl, sym, ap, ◌∙◌, subst, arith, Bool, true, false, List, [], ◌∷◌, length, Option, Some, None, cond}
-use Rattle.std.specs.Prelude.{ℤ, pos, ⊤, ◌+ℤ◌, ◌&&◌, not, get_or, set, slice_index, option_and_then, option_map, replicate}
-use Rattle.std.specs.List.{AllByRecursion, list_all}
+use Rattle.std.proofs.Common.{◌≡◌, ℕ, zero, suc, ◌+◌, ◌-◌, ◌/◌, ◌≤◌, ◌==◌, inl, inr, refl, sym, ap, ◌∙◌, subst, arith, Bool, true, false, List, [], ◌∷◌, length, Option, Some, None, cond}
+use Rattle.std.specs.Prelude.{ℤ, ⊤, ◌+ℤ◌, get_or, set, slice_index, option_map}
+use Rattle.std.specs.List.{AllByRecursion}
 use Rattle.std.specs.Option.{option_or}
-use Rattle.std.specs.Ordering.{int_eq}
-use Rattle.std.proofs.lemmas.Bool.{cond_both, eqb-true, eqb-false, cases_lt, cases_eq, false≢true, and_parts}
+use Rattle.std.proofs.lemmas.Bool.{cond_both, eqb-false, cases_lt, cases_eq, false≢true}
 use Rattle.std.proofs.lemmas.List.{get_or-set_same, get_or-set_other}
-use Rattle.std.proofs.lemmas.Option.{none-some, same_Some, option_and_then_some, cond_some}
+use Rattle.std.proofs.lemmas.Option.{none-some, same_Some, option_and_then_some}
 use Rattle.bpf_insn.specs.Order.{bytes_of}
 use Rattle.bpf_insn.specs.Arithmetic.{extended}
 use Rattle.bpf_insn.specs.Effects.{fetch_register, is_frame_pointer}
-use Rattle.bpf_insn.specs.Instruction.{register_number, byte_count, word_size, slot_count, target}
+use Rattle.bpf_insn.specs.Instruction.{register_number, byte_count, word_size, target}
 use Rattle.bpf_insn.specs.declared.order.Order.{Order}
 use Rattle.bpf_insn.specs.declared.instruction.Reg.{Reg}
 use Rattle.bpf_insn.specs.declared.instruction.Reg.TheVariants.{R0}
@@ -24,16 +23,16 @@ use Rattle.bpf_insn.specs.declared.instruction.AluOp.{AluOp}
 use Rattle.bpf_insn.specs.declared.instruction.AluOp.TheVariants.{Add, Sub, Mov}
 use Rattle.bpf_insn.specs.declared.instruction.Insn.{Insn}
 use Rattle.bpf_insn.specs.declared.instruction.Insn.TheVariants.{Alu, Neg, MovSx, End, LoadImm64, Load, LoadSx, Store, StoreImm, Atomic, Ja, JaLong, JumpIf, CallLocal, Exit}
-use Rattle.bpf_semantics.specs.State.{Cell, State, StackFrame, frames, frame_at, depth, register, number_of_register, put, with_register, with_top, at_slot, start, frame_bytes, empty_stack}
+use Rattle.bpf_semantics.specs.State.{Cell, State, StackFrame, frames, frame_at, depth, register, number_of_register, put, with_register, with_top, at_slot, start, frame_bytes}
 use Rattle.bpf_semantics.specs.State.Cell.{Byte, Part}
 use Rattle.bpf_semantics.specs.Memory.{Location, inside, location_of, number_at, pointer_at, pointer_in, stack_of, each_cell, cell_after, part_after, with_bytes, with_parts, without_part, is_within, with_frame, with_stack_in, store_number, store_pointer}
 use Rattle.bpf_semantics.specs.Memory.Location.{InContext, InFrame}
-use Rattle.bpf_semantics.specs.Step.{does, next, jump, operand, same_region, alu_of_values, moved, alu_result, load, load_extended, store, test_of_values, atomic_result, fetched}
+use Rattle.bpf_semantics.specs.Step.{does, next, jump, operand, alu_of_values, moved, alu_result, load, load_extended, store, test_of_values, atomic_result, fetched}
 use Rattle.bpf_semantics.specs.declared.value.Value.{Value}
 use Rattle.bpf_semantics.specs.declared.value.Value.TheVariants.{Number, Pointer}
 use Rattle.bpf_semantics.specs.declared.value.Region.{Region}
 use Rattle.bpf_semantics.specs.declared.value.Region.TheVariants.{Context, Frame as FrameAt}
-use Rattle.bpf_semantics.proofs.StateLemmas.{option_map_some, cond_option, all_get, all_none, get_each}
+use Rattle.bpf_semantics.proofs.StateLemmas.{option_map_some, cond_option, all_get, all_none}
 use Rattle.bpf_kept_law.specs.Matching.{hands_frame}
 
 -- ---- what isn't a pointer into a frame

@@ -1,6 +1,6 @@
 -- The law: the start, and then the simulation to the end.
 use Rattle.std.proofs.Common.{◌≡◌, ℕ, suc, ◌+◌, ◌-◌, ◌*◌, ◌%◌, ◌^◌, ◌<◌, ◌≤◌, refl, sym, ap, ◌∙◌, subst, arith, true, false, List, ◌++◌, length, Option, Some, None, cond}
-use Rattle.std.specs.Prelude.{ℤ, pos, ◌+ℤ◌, ◌&&◌, get_or, ltb, slice_index}
+use Rattle.std.specs.Prelude.{pos, ◌+ℤ◌, ◌&&◌, get_or, ltb, slice_index}
 use Rattle.std.proofs.lemmas.Bool.{cond_both, ltb-true, lt-leb, false≢true}
 use Rattle.std.proofs.lemmas.Int.{ints}
 use Rattle.bpf_insn.specs.Arithmetic.{modulo}
@@ -23,7 +23,8 @@ use Rattle.bpf_kept_law.specs.declared.notes.Holder.TheVariants.{Register}
 use Rattle.bpf_kept_law.specs.declared.notes.TurnsLeft.{TurnsLeft}
 use Rattle.bpf_kept_law.specs.declared.notes.Change.TheVariants.{Kept}
 use Rattle.bpf_kept_law.specs.Terms.{Values, Differs, Holds, AllHold, value_in, frame_slots, slot_number, shift, context_offset}
-use Rattle.bpf_kept_law.specs.Rules.{slot_facts, by_itself}
+use Rattle.bpf_kept_law.specs.Slots.{slot_facts}
+use Rattle.bpf_kept_law.specs.Rules.{by_itself}
 use Rattle.bpf_kept_law.specs.Counters.{Counts, counts_behind}
 use Rattle.bpf_kept_law.specs.Matching.{Notes, most_at_start, is_zero_slot, same_slot, start_facts, known_at_start, Matches, StandsForExit}
 use Rattle.bpf_kept_law.specs.Laws.{MatchingKeepsFlatMeaning}
@@ -37,7 +38,8 @@ use Rattle.bpf_kept_law.proofs.EdgeLaw.{Behind, slot_facts_hold, slot_below, num
 use Rattle.bpf_kept_law.proofs.Isolated.{starts_alone}
 use Rattle.bpf_kept_law.proofs.Simulation.{program}
 use Rattle.bpf_kept_law.proofs.Setting.{Setting}
-use Rattle.bpf_kept_law.proofs.Beside.{OldAt, Ready, made_before, arrived}
+use Rattle.bpf_kept_law.proofs.Beside.{OldAt, made_before}
+use Rattle.bpf_kept_law.proofs.Extras.{Ready, arrived}
 use Rattle.bpf_kept_law.proofs.Follow.{ends}
 
 -- ---- the start

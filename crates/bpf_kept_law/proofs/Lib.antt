@@ -3,6 +3,7 @@ mod ZeroLaw
 mod TermLaw
 mod HoldsLaw
 mod FrameLaw
+mod PutValue
 mod PutLaw
 mod ExtraLaw
 mod CountLaw
@@ -16,6 +17,7 @@ mod Simulation
 mod StoreLaw
 mod Setting
 mod Beside
+mod Extras
 mod Follow
 mod Law
 mod CertifiedLaw

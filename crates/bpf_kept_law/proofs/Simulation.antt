@@ -38,7 +38,7 @@ use Rattle.bpf_kept_law.specs.Rules.{put_into, undirected, is_jump}
 use Rattle.bpf_kept_law.specs.Guards.{Front, guarded, guards_sum, passes}
 use Rattle.bpf_kept_law.specs.Meaning.{most_for_one}
 use Rattle.bpf_kept_law.specs.Matching.{most_extras, most_at_start, led}
-use Rattle.bpf_kept_law.proofs.PutLaw.{put_value}
+use Rattle.bpf_kept_law.proofs.PutValue.{put_value}
 
 -- ---- instructions that neither call nor exit
 

@@ -1,6 +1,6 @@
 -- What both programs put or store, the one where the other stands for it, and what the new one puts or stores alone: what is known behind.
-use Rattle.std.proofs.Common.{◌≡◌, ℕ, ◌+◌, ◌*◌, ◌%◌, ◌<◌, ◌⊎◌, ◌==◌, inl, inr, refl, sym, ap, ap₂, ◌∙◌, subst, arith, Bool, true, false, List, length, Option, Some, None, cond}
-use Rattle.std.specs.Prelude.{ℤ, pos, ◌-ℤ◌, ◌&&◌, ◌||◌, ltb, slice_index, option_and_then, option_map, set, FitsSigned}
+use Rattle.std.proofs.Common.{◌≡◌, ℕ, ◌+◌, ◌*◌, ◌%◌, ◌<◌, ◌==◌, refl, sym, ap, ap₂, ◌∙◌, subst, Bool, true, false, List, length, Option, Some, None, cond}
+use Rattle.std.specs.Prelude.{ℤ, pos, ◌-ℤ◌, ◌&&◌, ◌||◌, ltb, slice_index, option_and_then, option_map, FitsSigned}
 use Rattle.std.specs.Int.{w16}
 use Rattle.std.specs.Option.{option_or}
 use Rattle.std.specs.Ordering.{int_eq}
@@ -16,25 +16,26 @@ use Rattle.bpf_insn.specs.declared.order.Order.{Order}
 use Rattle.bpf_insn.specs.declared.instruction.Reg.{Reg}
 use Rattle.bpf_insn.specs.declared.instruction.Size.{Size}
 use Rattle.bpf_insn.specs.declared.instruction.Insn.{Insn}
-use Rattle.bpf_insn.specs.declared.instruction.Insn.TheVariants.{Load, LoadSx, Store, StoreImm}
-use Rattle.bpf_semantics.specs.Flat.{FlatState, IsFlat, IsAmong, addresses, address, memory_with, flat_register, flat_put, flat_at, flat_next, flat_store, flat_does}
+use Rattle.bpf_insn.specs.declared.instruction.Insn.TheVariants.{Store, StoreImm}
+use Rattle.bpf_semantics.specs.Flat.{FlatState, IsFlat, addresses, address, memory_with, flat_register, flat_put, flat_at, flat_next, flat_store, flat_does}
 use Rattle.bpf_semantics.proofs.NumberLemmas.{modulo_below}
 use Rattle.bpf_semantics.proofs.StateLemmas.{cond_option, option_map_some}
 use Rattle.bpf_kept_law.specs.declared.notes.Holder.{Holder}
 use Rattle.bpf_kept_law.specs.declared.notes.Holder.TheVariants.{Register, Slot}
 use Rattle.bpf_kept_law.specs.declared.notes.Term.{Term}
 use Rattle.bpf_kept_law.specs.declared.notes.TurnsLeft.{TurnsLeft}
-use Rattle.bpf_kept_law.specs.declared.notes.Fact.{Fact}
 use Rattle.bpf_kept_law.specs.declared.notes.Change.{Change}
-use Rattle.bpf_kept_law.specs.declared.notes.Change.TheVariants.{Kept, Put, Stored, Made}
-use Rattle.bpf_kept_law.specs.Terms.{Facts, Differs, DiffersBy, value_in, slot_number, is_noted, zero_term, frame_slots}
-use Rattle.bpf_kept_law.specs.Rules.{Known, own, is_low, is_same, same_register, same_size, same_address, stores_alike, slot_at, reaches, reached, pin_of, put, put_into, stored_by, puts_slot, holds_behind, is_parted, made}
+use Rattle.bpf_kept_law.specs.declared.notes.Change.TheVariants.{Kept, Made}
+use Rattle.bpf_kept_law.specs.Terms.{Differs, DiffersBy, value_in, slot_number, is_noted, zero_term, frame_slots}
+use Rattle.bpf_kept_law.specs.Slots.{slot_at, reaches}
+use Rattle.bpf_kept_law.specs.Rules.{Known, own, is_low, is_same, same_register, same_size, same_address, stores_alike, reached, pin_of, put, put_into, stored_by, puts_slot}
 use Rattle.bpf_kept_law.specs.Counters.{is_spared, is_made}
 use Rattle.bpf_kept_law.specs.Matching.{made_in}
 use Rattle.bpf_kept_law.proofs.HoldsLaw.{Elsewhere, register_is, register_elsewhere, register_now, same_value, low_value}
 use Rattle.bpf_kept_law.proofs.ZeroLaw.{flat_moved, does_keeps}
-use Rattle.bpf_kept_law.proofs.FrameLaw.{IsEnd, IsRoomy, IsAccess, IsSlotAccess, Leaves, Reaches, reach_is, slot_access, slot_address, slot_now, slot_elsewhere, byte_elsewhere, byte_kept, clear_kept}
-use Rattle.bpf_kept_law.proofs.PutLaw.{AtOnce, PutBoth, put_value, put_does, end_left, access_is, address_same, size_is, register_differs}
+use Rattle.bpf_kept_law.proofs.FrameLaw.{IsEnd, IsRoomy, Leaves, reach_is, slot_access, slot_address, slot_now, slot_elsewhere, byte_elsewhere, byte_kept, clear_kept}
+use Rattle.bpf_kept_law.proofs.PutValue.{put_value, put_does}
+use Rattle.bpf_kept_law.proofs.PutLaw.{AtOnce, PutBoth, end_left, access_is, address_same, size_is, register_differs}
 use Rattle.bpf_kept_law.proofs.ExtraLaw.{made_value, made_known, pin_is, kept_hold, put_hold, made_hold, stored_hold}
 use Rattle.bpf_kept_law.proofs.EdgeLaw.{Behind, numbers_equal}
 

@@ -1,21 +1,17 @@
 -- A counter of turns, in a slot of the frame: a loop that may turn for ever, and what a hardener makes of it.
-use Rattle.std.proofs.Common.{ℕ, zero, suc, refl, sym, ap, subst, arith, Bool, true, false, List, [], ◌∷◌, Option, Some, None}
-use Rattle.std.specs.Prelude.{pos, negsuc}
-use Rattle.std.proofs.lemmas.Bool.{false≢true}
+use Rattle.std.proofs.Common.{ℕ, zero, suc, refl, subst, arith, Bool, true, false, List, [], ◌∷◌, ◌++◌, Some}
+use Rattle.std.specs.Prelude.{pos, negsuc, replicate}
 use Rattle.std.proofs.lemmas.Option.{none-some, same_Some}
 use Rattle.bpf_insn.specs.Instruction.{Instructions}
 use Rattle.bpf_insn.specs.declared.order.Order.TheVariants.{Little}
-use Rattle.bpf_insn.specs.declared.instruction.Reg.TheVariants.{R0, R1, R2, R3, R4, R5, R9, R10}
+use Rattle.bpf_insn.specs.declared.instruction.Reg.TheVariants.{R0, R1, R3, R9, R10}
 use Rattle.bpf_insn.specs.declared.instruction.Operand.TheVariants.{Imm, Reg as FromReg}
 use Rattle.bpf_insn.specs.declared.instruction.Width.TheVariants.{W64}
 use Rattle.bpf_insn.specs.declared.instruction.Size.TheVariants.{B, DW}
-use Rattle.bpf_insn.specs.declared.instruction.AluOp.TheVariants.{Add, Xor, Mov}
-use Rattle.bpf_insn.specs.declared.instruction.Cond.TheVariants.{Eq, Ne, Gt}
+use Rattle.bpf_insn.specs.declared.instruction.AluOp.TheVariants.{Add, Mov}
+use Rattle.bpf_insn.specs.declared.instruction.Cond.TheVariants.{Eq, Ne}
 use Rattle.bpf_insn.specs.declared.instruction.Insn.TheVariants.{Alu, Load, Store, StoreImm, JumpIf, Exit}
-use Rattle.bpf_kept_law.specs.Far.{middle}
-use Rattle.bpf_kept_law.specs.declared.notes.Holder.{Holder}
 use Rattle.bpf_kept_law.specs.declared.notes.Holder.TheVariants.{Register, Slot}
-use Rattle.bpf_kept_law.specs.declared.notes.Fact.{Fact}
 use Rattle.bpf_kept_law.specs.declared.notes.Note.{Note}
 use Rattle.bpf_kept_law.specs.Rules.{own_in, pinned, reads_same, result_term, same_address, is_common, keeps, paired, made, holds_behind, are_told}
 use Rattle.bpf_kept_law.specs.Counters.{all_count_behind, has_turn}
@@ -25,7 +21,7 @@ use Rattle.bpf_kept_law.proofs.Example.{bounds}
 use Rattle.bpf_kept_law.proofs.SpillExample.{held_by}
 
 abbrev apart : List Bool
-apart = false ∷ false ∷ false ∷ false ∷ false ∷ false ∷ false ∷ false ∷ false ∷ false ∷ false ∷ false ∷ false ∷ false ∷ false ∷ false ∷ false ∷ false ∷ false ∷ false ∷ false ∷ false ∷ false ∷ false ∷ false ∷ false ∷ false ∷ false ∷ false ∷ false ∷ false ∷ false ∷ false ∷ false ∷ false ∷ false ∷ false ∷ false ∷ false ∷ false ∷ false ∷ false ∷ false ∷ false ∷ false ∷ false ∷ false ∷ false ∷ false ∷ false ∷ false ∷ false ∷ false ∷ false ∷ false ∷ false ∷ false ∷ false ∷ false ∷ false ∷ false ∷ false ∷ false ∷ true ∷ []
+apart = replicate 63 false ++ true ∷ []
 
 -- Bytes are added until the sum is 7.
 abbrev pub old : Instructions
@@ -38,28 +34,28 @@ abbrev note_0 : Note
 note_0 = record { old = 0; extras = 1; apart = []; zeros = []; facts = held_by (Some (Register R1)) (Some (Register R1)) 0 0 ∷ []; counters = [] }
 
 abbrev note_1 : Note
-note_1 = record { old = 0; extras = 0; apart = apart; zeros = []; facts = held_by (Some (Register R1)) (Some (Register R1)) 0 0 ∷ []; counters = Some (record { of = Slot 63; head = 1; taken = 0 }) ∷ Some (record { of = Slot 63; head = 2; taken = 0 }) ∷ Some (record { of = Slot 63; head = 3; taken = 0 }) ∷ [] }
+note_1 = record { old = 0; extras = 0; apart = apart; zeros = []; facts = held_by (Some (Register R1)) (Some (Register R1)) 0 0 ∷ []; counters = Some (record { of = Slot 63; head = 1; taken = 0 }) ∷ [] }
 
 abbrev note_2 : Note
-note_2 = record { old = 1; extras = 4; apart = apart; zeros = []; facts = held_by (Some (Register R0)) (Some (Register R0)) 0 0 ∷ held_by (Some (Register R1)) (Some (Register R1)) 0 0 ∷ []; counters = Some (record { of = Slot 63; head = 1; taken = 0 }) ∷ Some (record { of = Slot 63; head = 2; taken = 0 }) ∷ Some (record { of = Slot 63; head = 3; taken = 0 }) ∷ [] }
+note_2 = record { old = 1; extras = 4; apart = apart; zeros = []; facts = held_by (Some (Register R0)) (Some (Register R0)) 0 0 ∷ held_by (Some (Register R1)) (Some (Register R1)) 0 0 ∷ []; counters = Some (record { of = Slot 63; head = 1; taken = 0 }) ∷ [] }
 
 abbrev note_3 : Note
-note_3 = record { old = 1; extras = 3; apart = apart; zeros = []; facts = held_by (Some (Register R0)) (Some (Register R0)) 0 0 ∷ held_by (Some (Register R1)) (Some (Register R1)) 0 0 ∷ []; counters = Some (record { of = Register R9; head = 1; taken = 0 }) ∷ Some (record { of = Register R9; head = 2; taken = 0 }) ∷ Some (record { of = Register R9; head = 3; taken = 0 }) ∷ [] }
+note_3 = record { old = 1; extras = 3; apart = apart; zeros = []; facts = held_by (Some (Register R0)) (Some (Register R0)) 0 0 ∷ held_by (Some (Register R1)) (Some (Register R1)) 0 0 ∷ []; counters = Some (record { of = Register R9; head = 1; taken = 0 }) ∷ [] }
 
 abbrev note_4 : Note
-note_4 = record { old = 1; extras = 2; apart = apart; zeros = []; facts = held_by (Some (Register R0)) (Some (Register R0)) 0 0 ∷ held_by (Some (Register R1)) (Some (Register R1)) 0 0 ∷ []; counters = Some (record { of = Register R9; head = 1; taken = 0 }) ∷ Some (record { of = Register R9; head = 2; taken = 0 }) ∷ Some (record { of = Register R9; head = 3; taken = 0 }) ∷ [] }
+note_4 = record { old = 1; extras = 2; apart = apart; zeros = []; facts = held_by (Some (Register R0)) (Some (Register R0)) 0 0 ∷ held_by (Some (Register R1)) (Some (Register R1)) 0 0 ∷ []; counters = Some (record { of = Register R9; head = 1; taken = 0 }) ∷ [] }
 
 abbrev note_5 : Note
-note_5 = record { old = 1; extras = 1; apart = apart; zeros = []; facts = held_by (Some (Register R0)) (Some (Register R0)) 0 0 ∷ held_by (Some (Register R1)) (Some (Register R1)) 0 0 ∷ []; counters = Some (record { of = Register R9; head = 1; taken = 1 }) ∷ Some (record { of = Register R9; head = 2; taken = 1 }) ∷ Some (record { of = Register R9; head = 3; taken = 1 }) ∷ [] }
+note_5 = record { old = 1; extras = 1; apart = apart; zeros = []; facts = held_by (Some (Register R0)) (Some (Register R0)) 0 0 ∷ held_by (Some (Register R1)) (Some (Register R1)) 0 0 ∷ []; counters = Some (record { of = Register R9; head = 1; taken = 1 }) ∷ [] }
 
 abbrev note_6 : Note
-note_6 = record { old = 1; extras = 0; apart = apart; zeros = []; facts = held_by (Some (Register R0)) (Some (Register R0)) 0 0 ∷ held_by (Some (Register R1)) (Some (Register R1)) 0 0 ∷ []; counters = Some (record { of = Slot 63; head = 1; taken = 1 }) ∷ Some (record { of = Slot 63; head = 2; taken = 1 }) ∷ Some (record { of = Slot 63; head = 3; taken = 1 }) ∷ [] }
+note_6 = record { old = 1; extras = 0; apart = apart; zeros = []; facts = held_by (Some (Register R0)) (Some (Register R0)) 0 0 ∷ held_by (Some (Register R1)) (Some (Register R1)) 0 0 ∷ []; counters = Some (record { of = Slot 63; head = 1; taken = 1 }) ∷ [] }
 
 abbrev note_7 : Note
-note_7 = record { old = 2; extras = 0; apart = apart; zeros = []; facts = held_by (Some (Register R0)) (Some (Register R0)) 0 0 ∷ held_by (Some (Register R1)) (Some (Register R1)) 0 0 ∷ held_by (Some (Register R3)) (Some (Register R3)) 0 0 ∷ []; counters = Some (record { of = Slot 63; head = 1; taken = 0 }) ∷ Some (record { of = Slot 63; head = 2; taken = 1 }) ∷ Some (record { of = Slot 63; head = 3; taken = 1 }) ∷ [] }
+note_7 = record { old = 2; extras = 0; apart = apart; zeros = []; facts = held_by (Some (Register R0)) (Some (Register R0)) 0 0 ∷ held_by (Some (Register R1)) (Some (Register R1)) 0 0 ∷ held_by (Some (Register R3)) (Some (Register R3)) 0 0 ∷ []; counters = Some (record { of = Slot 63; head = 1; taken = 0 }) ∷ [] }
 
 abbrev note_8 : Note
-note_8 = record { old = 3; extras = 0; apart = apart; zeros = []; facts = held_by (Some (Register R0)) (Some (Register R0)) 0 0 ∷ held_by (Some (Register R1)) (Some (Register R1)) 0 0 ∷ held_by (Some (Register R3)) (Some (Register R3)) 0 0 ∷ []; counters = Some (record { of = Slot 63; head = 1; taken = 0 }) ∷ Some (record { of = Slot 63; head = 2; taken = 0 }) ∷ Some (record { of = Slot 63; head = 3; taken = 1 }) ∷ [] }
+note_8 = record { old = 3; extras = 0; apart = apart; zeros = []; facts = held_by (Some (Register R0)) (Some (Register R0)) 0 0 ∷ held_by (Some (Register R1)) (Some (Register R1)) 0 0 ∷ held_by (Some (Register R3)) (Some (Register R3)) 0 0 ∷ []; counters = Some (record { of = Slot 63; head = 1; taken = 0 }) ∷ [] }
 
 abbrev note_9 : Note
 note_9 = record { old = 4; extras = 0; apart = apart; zeros = []; facts = held_by (Some (Register R0)) (Some (Register R0)) 0 0 ∷ []; counters = [] }

@@ -1,6 +1,6 @@
 -- Counters: registers and slots of the new program that count the turns that are left. The old program comes to an instruction no more than so often in
 -- one call. So a counter that begins there, and loses one for each turn, isn't 0 in front of the instruction. Nothing here speaks of runs.
-use Rattle.std.specs.Prelude.{ℕ, ◌+◌, ◌-◌, ◌≤◌, ◌==◌, zero, nat_le, ℤ, pos, negsuc, Bool, true, false, not, ◌&&◌, ◌||◌, List, Option, Some, None, ⊤, if◌then◌else◌}
+use Rattle.std.specs.Prelude.{ℕ, ◌+◌, ◌-◌, ◌≤◌, ◌==◌, zero, nat_le, pos, negsuc, Bool, true, false, not, ◌&&◌, ◌||◌, List, Option, Some, None, ⊤, if◌then◌else◌}
 use Rattle.std.specs.List.{AllByRecursion, list_all, list_any}
 use Rattle.std.specs.Option.{option_map_or}
 use Rattle.bpf_insn.specs.Arithmetic.{extended}
@@ -17,7 +17,8 @@ use Rattle.bpf_kept_law.specs.declared.notes.TurnsLeft.{TurnsLeft}
 use Rattle.bpf_kept_law.specs.declared.notes.Change.{Change}
 use Rattle.bpf_kept_law.specs.declared.notes.Change.TheVariants.{Kept, Put, Stored, Made}
 use Rattle.bpf_kept_law.specs.Terms.{Values}
-use Rattle.bpf_kept_law.specs.Rules.{Known, same_holder, is_holder, is_clear, slot_at}
+use Rattle.bpf_kept_law.specs.Slots.{is_clear, slot_at}
+use Rattle.bpf_kept_law.specs.Rules.{Known, same_holder}
 
 -- ---- what they mean
 

@@ -6,7 +6,6 @@ use Rattle.bpf_insn.specs.Options.{◌>>=◌}
 use Rattle.bpf_insn.specs.Effects.{is_frame_pointer}
 use Rattle.bpf_insn.specs.Limits.{frame_bytes}
 use Rattle.bpf_insn.specs.Instruction.{Instructions, slots, slot_count, insn_at, distance, goes_on, target}
-use Rattle.bpf_insn.specs.declared.instruction.Reg.{Reg}
 use Rattle.bpf_insn.specs.declared.instruction.Reg.TheVariants.{R0, R1, R2, R3, R4, R5, R6, R7, R8, R9, R10}
 use Rattle.bpf_insn.specs.declared.instruction.Insn.{Insn}
 use Rattle.bpf_insn.specs.declared.instruction.Operand.TheVariants.{Reg as FromReg}
@@ -20,7 +19,8 @@ use Rattle.bpf_kept_law.specs.declared.notes.Change.{Change}
 use Rattle.bpf_kept_law.specs.declared.notes.Change.TheVariants.{Kept, Made}
 use Rattle.bpf_kept_law.specs.Meaning.{Bounds}
 use Rattle.bpf_kept_law.specs.Terms.{Facts, is_noted, frame_slots, zero_term, context_offset}
-use Rattle.bpf_kept_law.specs.Rules.{Known, slot_facts, slot_at, put_into, undirected, paired, holds_behind, by_itself, are_told}
+use Rattle.bpf_kept_law.specs.Slots.{slot_facts, slot_at}
+use Rattle.bpf_kept_law.specs.Rules.{Known, put_into, undirected, paired, holds_behind, by_itself, are_told}
 use Rattle.bpf_kept_law.specs.Counters.{all_count_behind, has_turn}
 use Rattle.bpf_kept_law.specs.Guards.{Front, passes}
 
@@ -74,10 +74,13 @@ known_at new bounds note = record { facts = facts_at note; apart = note.apart; c
 
 -- ---- edges
 
--- What is noted asks for no more than what holds, where the old program is in front of a slot; and few enough extra instructions stand there.
+-- What is noted asks for no more than what holds: its facts, each slot of the frame, and its counters.
+abbrev pub is_given : Known → Change → Option ℕ → Note → Bool
+is_given known change step note = list_all (holds_behind known.facts change) (said note) && (are_told known change note.apart && all_count_behind known change step note.counters)
+
+-- So it is, where the old program is in front of a slot, and few enough extra instructions stand there.
 abbrev pub suits : Known → Change → Option ℕ → ℕ → ℕ → Note → Bool
-suits known change step slot most note =
-    note.old == slot && (nat_le note.extras most && (list_all (holds_behind known.facts change) (said note) && (are_told known change note.apart && all_count_behind known change step note.counters)))
+suits known change step slot most note = note.old == slot && (nat_le note.extras most && is_given known change step note)
 
 unfoldable pub arrives : Notes → Known → Change → Option ℕ → ℕ → ℕ → ℕ → Bool
 arrives notes known change step slot most new_slot = option_map_or (suits known change step slot most) (note_at notes new_slot) false

@@ -1,5 +1,5 @@
 -- What instructions make of facts. Nothing here speaks of runs.
-use Rattle.std.specs.Prelude.{ℕ, ◌+◌, ◌*◌, ◌/◌, [], ◌∷◌, zero, suc, ◌==◌, ◌%◌, ◌^◌, nat_lt, nat_le, ℤ, pos, negsuc, ◌+ℤ◌, int_le, Bool, true, false, not, ◌&&◌, ◌||◌, List, Option, Some, None, is_none, option_map, if◌then◌else◌}
+use Rattle.std.specs.Prelude.{ℕ, ◌+◌, zero, ◌==◌, ◌%◌, ◌^◌, nat_lt, ℤ, pos, negsuc, Bool, true, false, not, ◌&&◌, ◌||◌, List, Option, Some, None, is_none, option_map, if◌then◌else◌}
 use Rattle.std.specs.List.{find, list_all, list_any}
 use Rattle.std.specs.Option.{is_some, option_map_or, option_or}
 use Rattle.std.specs.Ordering.{int_eq}
@@ -31,6 +31,7 @@ use Rattle.bpf_kept_law.specs.declared.notes.TurnsLeft.{TurnsLeft}
 use Rattle.bpf_kept_law.specs.declared.notes.Change.{Change}
 use Rattle.bpf_kept_law.specs.declared.notes.Change.TheVariants.{Kept, Put, Stored, Made}
 use Rattle.bpf_kept_law.specs.Terms.{Facts, is_noted, frame_slots, constant, zero_term, frame_offset, frame_end, plus, minus, negated, times}
+use Rattle.bpf_kept_law.specs.Slots.{each_slot, slot_at, misses, reaches, is_clear}
 
 -- What is known in front of an instruction: facts; which slots of the frame may differ; what counts turns, where the old program may come to an
 -- instruction so often; and how many of the frame's lowest bytes no access by another register than r10 goes to.
@@ -103,39 +104,6 @@ is_low_fact r fact = is_register r fact.of && (is_register r fact.base && is_eno
 
 abbrev pub is_low : Facts → Reg → Bool
 is_low facts r = list_any (is_low_fact r) facts
-
--- ---- the frame's slots
-
-abbrev pub each_slot : (ℕ → Bool) → ℕ → Bool
-each_slot test zero = true
-each_slot test (suc n) = test n && each_slot test n
-
--- the facts that are noted of slots by their numbers
-abbrev pub slot_facts : (ℕ → Fact) → (ℕ → Bool) → ℕ → Facts
-slot_facts fact noted zero = []
-slot_facts fact noted (suc n) = if noted n then fact n ∷ slot_facts fact noted n else slot_facts fact noted n
-
--- where an access by r10 begins, counted from the frame's first byte
-abbrev pub frame_byte : ℤ → ℤ
-frame_byte off = off +ℤ pos frame_bytes
-
-abbrev pub slot_of : ℤ → Option ℕ
-slot_of (pos b) = if b % 8 == 0 && nat_lt b frame_bytes then Some (b / 8) else None
-slot_of (negsuc b) = None
-
--- The slot that an access of eight bytes by r10 goes to. Of four bytes alone, the high half of a slot with an offset isn't that of the pointer.
-abbrev pub slot_at : Size → Reg → ℤ → Option ℕ
-slot_at size base off = if is_frame_pointer base && byte_count size == 8 then slot_of (frame_byte off) else None
-
--- so many bytes from one on lie beside a slot
-abbrev pub is_beside : ℤ → ℕ → ℕ → Bool
-is_beside from count n = int_le (from +ℤ pos count) (pos (8 * n)) || int_le (pos (8 * n + 8)) from
-
--- An access of both programs to one address doesn't go to a slot. By r10 it goes where its displacement says. By another register in both it leaves
--- the lowest bytes alone, and may go anywhere else: on plain addresses a store behind its array may stay inside the frame.
-abbrev pub misses : ℕ → ℕ → Reg → ℤ → Reg → ℤ → ℕ → Bool
-misses left count src off base at n =
-    if is_frame_pointer base then is_beside (frame_byte at) count n else if is_frame_pointer src then is_beside (frame_byte off) count n else nat_le (8 * n + 8) left
 
 -- It goes to no slot in which the programs may have something else. There the new one may count down, and what is read twice would differ.
 unfoldable pub is_common : Known → ℕ → Reg → ℤ → Reg → ℤ → Bool
@@ -254,15 +222,7 @@ stores_alike facts (Store size dst off src) (Store other base at from) = same_si
 stores_alike facts (StoreImm size dst off imm) (StoreImm other base at value) = same_size size other && (int_eq imm value && same_address facts base at dst off)
 stores_alike facts i moved = false
 
--- to which bytes of the own frame a store of both programs to one address may go
-abbrev pub from_byte : ℤ → ℕ → Option Change
-from_byte (pos b) count = Some (Stored b (b + count))
-from_byte (negsuc b) count = None
-
-abbrev pub reaches : ℕ → ℕ → Reg → ℤ → Reg → ℤ → Option Change
-reaches left count src off base at =
-    if is_frame_pointer base then from_byte (frame_byte at) count else if is_frame_pointer src then from_byte (frame_byte off) count else Some (Stored left frame_bytes)
-
+-- to which bytes of the own frame it may go
 abbrev pub reached : ℕ → Insn → Insn → Option Change
 reached left (Store size dst off src) (Store other base at from) = reaches left (byte_count size) dst off base at
 reached left (StoreImm size dst off imm) (StoreImm other base at value) = reaches left (byte_count size) dst off base at
@@ -461,11 +421,6 @@ put_gives facts fact pin want =
 
 abbrev pub made_gives : Facts → Holder → Insn → Fact → Bool
 made_gives facts h i want = (is_holder h want.of && made facts i want) || list_any (λ have. not (is_holder h have.of) && gives have want) facts
-
--- It isn't of a slot that has some of these bytes. A pointer that is spilled above an array may be overwritten by a store behind the array's end.
-abbrev pub is_clear : ℕ → ℕ → Option Holder → Bool
-is_clear from to (Some (Slot n)) = nat_le (8 * n + 8) from || nat_le to (8 * n)
-is_clear from to of = true
 
 abbrev pub outlives : ℕ → ℕ → Fact → Bool
 outlives from to fact = is_clear from to fact.of && is_clear from to fact.base
