@@ -21,7 +21,7 @@ use Rattle.bpf_kept_law.specs.declared.notes.Fact.{Fact}
 use Rattle.bpf_kept_law.specs.declared.notes.Note.{Note}
 use Rattle.bpf_kept_law.specs.Meaning.{Bounds}
 use Rattle.bpf_kept_law.specs.Terms.{Facts}
-use Rattle.bpf_kept_law.specs.Rules.{own_in, pinned, reads_same, result_term, same_address, is_common, keeps, paired, made, holds_behind, are_told}
+use Rattle.bpf_kept_law.specs.Rules.{own_in, pinned, numbered, reads_same, result_term, same_address, is_common, keeps, paired, made, holds_behind, are_told}
 use Rattle.bpf_kept_law.specs.Counters.{all_count_behind, has_turn}
 use Rattle.bpf_kept_law.specs.Guards.{accesses_ahead, is_ahead, guards_sum, passes}
 use Rattle.bpf_kept_law.specs.Matching.{Notes, facts_at, left_alone, known_at_start, arrives, stands, extra, adds, IsBody, IsExtra, IsEither, HoldsAt, Matches}
@@ -112,59 +112,59 @@ notes = Some note_0 ∷ Some note_1 ∷ Some note_2 ∷ Some note_3 ∷ Some not
 -- ---- what is noted of each slot holds
 
 extra_0 : IsExtra old new notes bounds 0 note_0 1
-unfolding own_in pinned reads_same result_term same_address is_common keeps paired made holds_behind are_told all_count_behind has_turn accesses_ahead is_ahead guards_sum passes facts_at left_alone known_at_start arrives stands extra adds
+unfolding own_in pinned numbered reads_same result_term same_address is_common keeps paired made holds_behind are_told all_count_behind has_turn accesses_ahead is_ahead guards_sum passes facts_at left_alone known_at_start arrives stands extra adds
 extra_0 = record { moved = Alu Mov W64 R9 (FromReg R1); moved_is = refl; good = refl }
 
 extra_1 : IsExtra old new notes bounds 1 note_1 0
-unfolding own_in pinned reads_same result_term same_address is_common keeps paired made holds_behind are_told all_count_behind has_turn accesses_ahead is_ahead guards_sum passes facts_at left_alone known_at_start arrives stands extra adds
+unfolding own_in pinned numbered reads_same result_term same_address is_common keeps paired made holds_behind are_told all_count_behind has_turn accesses_ahead is_ahead guards_sum passes facts_at left_alone known_at_start arrives stands extra adds
 extra_1 = record { moved = Alu Mov W64 R1 (Imm (pos 0)); moved_is = refl; good = refl }
 
 body_2 : IsBody old new notes bounds 2 note_2
-unfolding own_in pinned reads_same result_term same_address is_common keeps paired made holds_behind are_told all_count_behind has_turn accesses_ahead is_ahead guards_sum passes facts_at left_alone known_at_start arrives stands extra adds
+unfolding own_in pinned numbered reads_same result_term same_address is_common keeps paired made holds_behind are_told all_count_behind has_turn accesses_ahead is_ahead guards_sum passes facts_at left_alone known_at_start arrives stands extra adds
 body_2 = record { insn = Alu Mov W64 R3 (FromReg R1); insn_is = refl; moved = Alu Mov W64 R3 (FromReg R1); moved_is = refl; same = true; same_is = (λ h. refl, λ h. refl); good = refl }
 
 body_3 : IsBody old new notes bounds 3 note_3
-unfolding own_in pinned reads_same result_term same_address is_common keeps paired made holds_behind are_told all_count_behind has_turn accesses_ahead is_ahead guards_sum passes facts_at left_alone known_at_start arrives stands extra adds
+unfolding own_in pinned numbered reads_same result_term same_address is_common keeps paired made holds_behind are_told all_count_behind has_turn accesses_ahead is_ahead guards_sum passes facts_at left_alone known_at_start arrives stands extra adds
 body_3 = record { insn = Alu Add W64 R3 (Imm (pos 14)); insn_is = refl; moved = Alu Add W64 R3 (Imm (pos 14)); moved_is = refl; same = true; same_is = (λ h. refl, λ h. refl); good = refl }
 
 body_4 : IsBody old new notes bounds 4 note_4
-unfolding own_in pinned reads_same result_term same_address is_common keeps paired made holds_behind are_told all_count_behind has_turn accesses_ahead is_ahead guards_sum passes facts_at left_alone known_at_start arrives stands extra adds
+unfolding own_in pinned numbered reads_same result_term same_address is_common keeps paired made holds_behind are_told all_count_behind has_turn accesses_ahead is_ahead guards_sum passes facts_at left_alone known_at_start arrives stands extra adds
 body_4 = record { insn = Alu Add W64 R2 (FromReg R1); insn_is = refl; moved = Alu Add W64 R2 (FromReg R1); moved_is = refl; same = true; same_is = (λ h. refl, λ h. refl); good = refl }
 
 body_5 : IsBody old new notes bounds 5 note_5
-unfolding own_in pinned reads_same result_term same_address is_common keeps paired made holds_behind are_told all_count_behind has_turn accesses_ahead is_ahead guards_sum passes facts_at left_alone known_at_start arrives stands extra adds
+unfolding own_in pinned numbered reads_same result_term same_address is_common keeps paired made holds_behind are_told all_count_behind has_turn accesses_ahead is_ahead guards_sum passes facts_at left_alone known_at_start arrives stands extra adds
 body_5 = record { insn = JumpIf Gt W64 R3 (FromReg R2) (pos 2); insn_is = refl; moved = JumpIf SGt W64 R3 (FromReg R2) (pos 6); moved_is = refl; same = false; same_is = (λ h. absurd (false≢true h), λ e. absurd (false≢true (sym (ap compares_signed e)))); good = refl }
 
 extra_6 : IsExtra old new notes bounds 6 note_6 3
-unfolding own_in pinned reads_same result_term same_address is_common keeps paired made holds_behind are_told all_count_behind has_turn accesses_ahead is_ahead guards_sum passes facts_at left_alone known_at_start arrives stands extra adds
+unfolding own_in pinned numbered reads_same result_term same_address is_common keeps paired made holds_behind are_told all_count_behind has_turn accesses_ahead is_ahead guards_sum passes facts_at left_alone known_at_start arrives stands extra adds
 extra_6 = record { moved = Alu Mov W64 R5 (FromReg R3); moved_is = refl; good = refl }
 
 extra_7 : IsExtra old new notes bounds 7 note_7 2
-unfolding own_in pinned reads_same result_term same_address is_common keeps paired made holds_behind are_told all_count_behind has_turn accesses_ahead is_ahead guards_sum passes facts_at left_alone known_at_start arrives stands extra adds
+unfolding own_in pinned numbered reads_same result_term same_address is_common keeps paired made holds_behind are_told all_count_behind has_turn accesses_ahead is_ahead guards_sum passes facts_at left_alone known_at_start arrives stands extra adds
 extra_7 = record { moved = Alu Add W64 R5 (Imm (negsuc 1)); moved_is = refl; good = refl }
 
 extra_8 : IsExtra old new notes bounds 8 note_8 1
-unfolding own_in pinned reads_same result_term same_address is_common keeps paired made holds_behind are_told all_count_behind has_turn accesses_ahead is_ahead guards_sum passes facts_at left_alone known_at_start arrives stands extra adds
+unfolding own_in pinned numbered reads_same result_term same_address is_common keeps paired made holds_behind are_told all_count_behind has_turn accesses_ahead is_ahead guards_sum passes facts_at left_alone known_at_start arrives stands extra adds
 extra_8 = record { moved = JumpIf Gt W64 R5 (Imm (pos 63)) (pos 5); moved_is = refl; good = refl }
 
 extra_9 : IsExtra old new notes bounds 9 note_9 0
-unfolding own_in pinned reads_same result_term same_address is_common keeps paired made holds_behind are_told all_count_behind has_turn accesses_ahead is_ahead guards_sum passes facts_at left_alone known_at_start arrives stands extra adds
+unfolding own_in pinned numbered reads_same result_term same_address is_common keeps paired made holds_behind are_told all_count_behind has_turn accesses_ahead is_ahead guards_sum passes facts_at left_alone known_at_start arrives stands extra adds
 extra_9 = record { moved = Alu Add W64 R5 (FromReg R9); moved_is = refl; good = refl }
 
 body_10 : IsBody old new notes bounds 10 note_10
-unfolding own_in pinned reads_same result_term same_address is_common keeps paired made holds_behind are_told all_count_behind has_turn accesses_ahead is_ahead guards_sum passes facts_at left_alone known_at_start arrives stands extra adds
+unfolding own_in pinned numbered reads_same result_term same_address is_common keeps paired made holds_behind are_told all_count_behind has_turn accesses_ahead is_ahead guards_sum passes facts_at left_alone known_at_start arrives stands extra adds
 body_10 = record { insn = Load B R0 R3 (negsuc 1); insn_is = refl; moved = Load B R0 R5 (pos 0); moved_is = refl; same = false; same_is = (λ h. absurd (false≢true h), λ e. absurd (false≢true (sym (ap goes_by_r5 e)))); good = refl }
 
 body_11 : IsBody old new notes bounds 11 note_11
-unfolding own_in pinned reads_same result_term same_address is_common keeps paired made holds_behind are_told all_count_behind has_turn accesses_ahead is_ahead guards_sum passes facts_at left_alone known_at_start arrives stands extra adds
+unfolding own_in pinned numbered reads_same result_term same_address is_common keeps paired made holds_behind are_told all_count_behind has_turn accesses_ahead is_ahead guards_sum passes facts_at left_alone known_at_start arrives stands extra adds
 body_11 = record { insn = Exit; insn_is = refl; moved = Exit; moved_is = refl; same = true; same_is = (λ h. refl, λ h. refl); good = refl }
 
 body_12 : IsBody old new notes bounds 12 note_12
-unfolding own_in pinned reads_same result_term same_address is_common keeps paired made holds_behind are_told all_count_behind has_turn accesses_ahead is_ahead guards_sum passes facts_at left_alone known_at_start arrives stands extra adds
+unfolding own_in pinned numbered reads_same result_term same_address is_common keeps paired made holds_behind are_told all_count_behind has_turn accesses_ahead is_ahead guards_sum passes facts_at left_alone known_at_start arrives stands extra adds
 body_12 = record { insn = Alu Mov W64 R0 (Imm (pos 1)); insn_is = refl; moved = Alu Mov W64 R0 (Imm (pos 1)); moved_is = refl; same = true; same_is = (λ h. refl, λ h. refl); good = refl }
 
 body_13 : IsBody old new notes bounds 13 note_13
-unfolding own_in pinned reads_same result_term same_address is_common keeps paired made holds_behind are_told all_count_behind has_turn accesses_ahead is_ahead guards_sum passes facts_at left_alone known_at_start arrives stands extra adds
+unfolding own_in pinned numbered reads_same result_term same_address is_common keeps paired made holds_behind are_told all_count_behind has_turn accesses_ahead is_ahead guards_sum passes facts_at left_alone known_at_start arrives stands extra adds
 body_13 = record { insn = Exit; insn_is = refl; moved = Exit; moved_is = refl; same = true; same_is = (λ h. refl, λ h. refl); good = refl }
 
 each : (slot : ℕ) → HoldsAt old new notes bounds slot
@@ -185,5 +185,5 @@ each (suc (suc (suc (suc (suc (suc (suc (suc (suc (suc (suc (suc (suc zero))))))
 each (suc (suc (suc (suc (suc (suc (suc (suc (suc (suc (suc (suc (suc (suc n)))))))))))))) note e = absurd (none-some note e)
 
 pub matches : Matches old new notes bounds
-unfolding own_in pinned reads_same result_term same_address is_common keeps paired made holds_behind are_told all_count_behind has_turn accesses_ahead is_ahead guards_sum passes facts_at left_alone known_at_start arrives stands extra adds
+unfolding own_in pinned numbered reads_same result_term same_address is_common keeps paired made holds_behind are_told all_count_behind has_turn accesses_ahead is_ahead guards_sum passes facts_at left_alone known_at_start arrives stands extra adds
 matches = record { short = omega arith; few_turns = omega arith; order_is = refl; few = omega arith; start = refl; each = each }

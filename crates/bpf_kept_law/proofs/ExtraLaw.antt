@@ -32,9 +32,9 @@ use Rattle.bpf_kept_law.specs.declared.notes.Fact.{Fact}
 use Rattle.bpf_kept_law.specs.declared.notes.Change.TheVariants.{Kept, Put, Stored, Made}
 use Rattle.bpf_kept_law.specs.Terms.{Facts, Values, Differs, DiffersBy, Holds, AllHold, value_in, shift, constant, zero_term, frame_end, plus, minus, negated}
 use Rattle.bpf_kept_law.specs.Slots.{slot_at, is_clear}
-use Rattle.bpf_kept_law.specs.Rules.{is_holder, is_register, is_base, is_enough, gives, sum_base, difference_base, both, is_known, is_sum, is_difference, is_moved, made_by, made_from, of_slot, known_number, known_operand, is_pin, pinned, pin_of, pins, of_number, of_operand, by_operand, made, stays, outlives, put_gives, made_gives, stored_gives, holds_behind}
+use Rattle.bpf_kept_law.specs.Rules.{is_holder, is_register, is_base, is_enough, gives, sum_base, difference_base, both, is_known, is_sum, is_difference, is_moved, made_by, made_from, of_slot, known_number, known_operand, pinned, pin_of, pins, of_number, of_operand, by_operand, made, stays, outlives, put_gives, made_gives, stored_gives, holds_behind}
 use Rattle.bpf_kept_law.proofs.TermLaw.{shift_plus, shift_minus, shift_neg, shift_constant, differs_same, same_differs, same_number}
-use Rattle.bpf_kept_law.proofs.HoldsLaw.{IsHigh, Elsewhere, any_holds, found_holds, held, none_is, base_same, enough_differs, gives_holds, stays_holds, other_holds}
+use Rattle.bpf_kept_law.proofs.HoldsLaw.{IsHigh, Elsewhere, any_holds, pinned_differs, held, none_is, base_same, enough_differs, gives_holds, stays_holds, other_holds}
 use Rattle.bpf_kept_law.proofs.FrameLaw.{IsRoomy, IsEnd, slot_access, slot_loaded}
 use Rattle.bpf_kept_law.proofs.PutValue.{put_value}
 
@@ -248,13 +248,7 @@ moved_pin start x n t small d =
 
 module _ (order : Order) (start : ℕ) (facts : Facts) (f g : FlatState) (room : IsRoomy start) (flat : IsFlat f) (end : IsEnd start f.registers) (all : AllHold start (value_in order start f) (value_in order start g) facts) where
   pub pinned_is : (h : Holder) (t : Term) → pinned facts h ≡ Some t → Differs start t (value_in order start f (Some h)) 0
-  unfolding pinned
-  pinned_is h t e = option_and_then_some _ (find (is_pin h) facts) t e (λ fact ef et.
-      let k = found_holds (is_pin h) (Holds start (value_in order start f) (value_in order start g)) facts fact ef all in
-      let c = and_parts (is_none fact.of) (is_holder h fact.base && is_some fact.by) k.0 in
-      let b = and_parts (is_holder h fact.base) (is_some fact.by) c.1 in
-      let d : DiffersBy start (Some t) (value_in order start f fact.base) (value_in order start g fact.of) = subst (λ by. DiffersBy start by (value_in order start f fact.base) (value_in order start g fact.of)) et k.1 in
-      subst (λ y. Differs start t (value_in order start f (Some h)) y) (none_is (value_in order start g) fact.of c.0) (subst (λ x. Differs start t x (value_in order start g fact.of)) (held (value_in order start f) h fact.base b.0) d))
+  pinned_is h t e = pinned_differs start (value_in order start f) (value_in order start g) facts h t all e
 
   pub pin_is : (i : Insn) (t : Term) → HasEncoding i → pin_of facts i ≡ Some t → Differs start t (made_value order i f) 0
   pin_is (Alu Mov W64 dst (Imm imm)) t enc e = subst (λ t. Differs start t (extended imm) 0) (same_Some (negated (constant (extended imm))) t e) (zero_pin start (extended imm) (modulo_below imm))

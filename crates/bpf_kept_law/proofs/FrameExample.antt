@@ -13,7 +13,7 @@ use Rattle.bpf_insn.specs.declared.instruction.AluOp.TheVariants.{Add, Mov}
 use Rattle.bpf_insn.specs.declared.instruction.Cond.TheVariants.{Gt}
 use Rattle.bpf_insn.specs.declared.instruction.Insn.TheVariants.{Alu, Load, StoreImm, JumpIf, Exit}
 use Rattle.bpf_kept_law.specs.declared.notes.Note.{Note}
-use Rattle.bpf_kept_law.specs.Rules.{own_in, pinned, reads_same, result_term, same_address, is_common, keeps, paired, made, holds_behind, are_told}
+use Rattle.bpf_kept_law.specs.Rules.{own_in, pinned, numbered, reads_same, result_term, same_address, is_common, keeps, paired, made, holds_behind, are_told}
 use Rattle.bpf_kept_law.specs.Counters.{all_count_behind, has_turn}
 use Rattle.bpf_kept_law.specs.Guards.{accesses_ahead, is_ahead, guards_sum, passes}
 use Rattle.bpf_kept_law.specs.Matching.{Notes, facts_at, left_alone, known_at_start, arrives, stands, extra, adds, IsBody, IsExtra, IsEither, HoldsAt, Matches}
@@ -66,47 +66,47 @@ notes = Some note_0 ∷ Some note_1 ∷ Some note_2 ∷ Some note_3 ∷ Some not
 -- ---- what is noted of each slot holds
 
 body_0 : IsBody old new notes bounds 0 note_0
-unfolding own_in pinned reads_same result_term same_address is_common keeps paired made holds_behind are_told all_count_behind has_turn accesses_ahead is_ahead guards_sum passes facts_at left_alone known_at_start arrives stands extra adds
+unfolding own_in pinned numbered reads_same result_term same_address is_common keeps paired made holds_behind are_told all_count_behind has_turn accesses_ahead is_ahead guards_sum passes facts_at left_alone known_at_start arrives stands extra adds
 body_0 = record { insn = Alu Mov W64 R3 (FromReg R10); insn_is = refl; moved = Alu Mov W64 R3 (Imm (pos 512)); moved_is = refl; same = false; same_is = (λ h. absurd (false≢true h), λ e. absurd (false≢true (sym (ap puts_constant e)))); good = refl }
 
 body_1 : IsBody old new notes bounds 1 note_1
-unfolding own_in pinned reads_same result_term same_address is_common keeps paired made holds_behind are_told all_count_behind has_turn accesses_ahead is_ahead guards_sum passes facts_at left_alone known_at_start arrives stands extra adds
+unfolding own_in pinned numbered reads_same result_term same_address is_common keeps paired made holds_behind are_told all_count_behind has_turn accesses_ahead is_ahead guards_sum passes facts_at left_alone known_at_start arrives stands extra adds
 body_1 = record { insn = Alu Add W64 R3 (Imm (negsuc 15)); insn_is = refl; moved = Alu Add W64 R3 (Imm (negsuc 15)); moved_is = refl; same = true; same_is = (λ h. refl, λ h. refl); good = refl }
 
 body_2 : IsBody old new notes bounds 2 note_2
-unfolding own_in pinned reads_same result_term same_address is_common keeps paired made holds_behind are_told all_count_behind has_turn accesses_ahead is_ahead guards_sum passes facts_at left_alone known_at_start arrives stands extra adds
+unfolding own_in pinned numbered reads_same result_term same_address is_common keeps paired made holds_behind are_told all_count_behind has_turn accesses_ahead is_ahead guards_sum passes facts_at left_alone known_at_start arrives stands extra adds
 body_2 = record { insn = Load B R4 R1 (pos 0); insn_is = refl; moved = Load B R4 R1 (pos 0); moved_is = refl; same = true; same_is = (λ h. refl, λ h. refl); good = refl }
 
 body_3 : IsBody old new notes bounds 3 note_3
-unfolding own_in pinned reads_same result_term same_address is_common keeps paired made holds_behind are_told all_count_behind has_turn accesses_ahead is_ahead guards_sum passes facts_at left_alone known_at_start arrives stands extra adds
+unfolding own_in pinned numbered reads_same result_term same_address is_common keeps paired made holds_behind are_told all_count_behind has_turn accesses_ahead is_ahead guards_sum passes facts_at left_alone known_at_start arrives stands extra adds
 body_3 = record { insn = Alu Add W64 R3 (FromReg R4); insn_is = refl; moved = Alu Add W64 R3 (FromReg R4); moved_is = refl; same = true; same_is = (λ h. refl, λ h. refl); good = refl }
 
 extra_4 : IsExtra old new notes bounds 4 note_4 3
-unfolding own_in pinned reads_same result_term same_address is_common keeps paired made holds_behind are_told all_count_behind has_turn accesses_ahead is_ahead guards_sum passes facts_at left_alone known_at_start arrives stands extra adds
+unfolding own_in pinned numbered reads_same result_term same_address is_common keeps paired made holds_behind are_told all_count_behind has_turn accesses_ahead is_ahead guards_sum passes facts_at left_alone known_at_start arrives stands extra adds
 extra_4 = record { moved = Alu Mov W64 R5 (FromReg R3); moved_is = refl; good = refl }
 
 extra_5 : IsExtra old new notes bounds 5 note_5 2
-unfolding own_in pinned reads_same result_term same_address is_common keeps paired made holds_behind are_told all_count_behind has_turn accesses_ahead is_ahead guards_sum passes facts_at left_alone known_at_start arrives stands extra adds
+unfolding own_in pinned numbered reads_same result_term same_address is_common keeps paired made holds_behind are_told all_count_behind has_turn accesses_ahead is_ahead guards_sum passes facts_at left_alone known_at_start arrives stands extra adds
 extra_5 = record { moved = JumpIf Gt W64 R5 (Imm (pos 511)) (pos 5); moved_is = refl; good = refl }
 
 extra_6 : IsExtra old new notes bounds 6 note_6 1
-unfolding own_in pinned reads_same result_term same_address is_common keeps paired made holds_behind are_told all_count_behind has_turn accesses_ahead is_ahead guards_sum passes facts_at left_alone known_at_start arrives stands extra adds
+unfolding own_in pinned numbered reads_same result_term same_address is_common keeps paired made holds_behind are_told all_count_behind has_turn accesses_ahead is_ahead guards_sum passes facts_at left_alone known_at_start arrives stands extra adds
 extra_6 = record { moved = Alu Add W64 R5 (FromReg R10); moved_is = refl; good = refl }
 
 extra_7 : IsExtra old new notes bounds 7 note_7 0
-unfolding own_in pinned reads_same result_term same_address is_common keeps paired made holds_behind are_told all_count_behind has_turn accesses_ahead is_ahead guards_sum passes facts_at left_alone known_at_start arrives stands extra adds
+unfolding own_in pinned numbered reads_same result_term same_address is_common keeps paired made holds_behind are_told all_count_behind has_turn accesses_ahead is_ahead guards_sum passes facts_at left_alone known_at_start arrives stands extra adds
 extra_7 = record { moved = Alu Add W64 R5 (Imm (negsuc 511)); moved_is = refl; good = refl }
 
 body_8 : IsBody old new notes bounds 8 note_8
-unfolding own_in pinned reads_same result_term same_address is_common keeps paired made holds_behind are_told all_count_behind has_turn accesses_ahead is_ahead guards_sum passes facts_at left_alone known_at_start arrives stands extra adds
+unfolding own_in pinned numbered reads_same result_term same_address is_common keeps paired made holds_behind are_told all_count_behind has_turn accesses_ahead is_ahead guards_sum passes facts_at left_alone known_at_start arrives stands extra adds
 body_8 = record { insn = StoreImm B R3 (pos 0) (pos 7); insn_is = refl; moved = StoreImm B R5 (pos 0) (pos 7); moved_is = refl; same = false; same_is = (λ h. absurd (false≢true h), λ e. absurd (false≢true (sym (ap goes_by_r5 e)))); good = refl }
 
 body_9 : IsBody old new notes bounds 9 note_9
-unfolding own_in pinned reads_same result_term same_address is_common keeps paired made holds_behind are_told all_count_behind has_turn accesses_ahead is_ahead guards_sum passes facts_at left_alone known_at_start arrives stands extra adds
+unfolding own_in pinned numbered reads_same result_term same_address is_common keeps paired made holds_behind are_told all_count_behind has_turn accesses_ahead is_ahead guards_sum passes facts_at left_alone known_at_start arrives stands extra adds
 body_9 = record { insn = Load B R0 R10 (negsuc 15); insn_is = refl; moved = Load B R0 R10 (negsuc 15); moved_is = refl; same = true; same_is = (λ h. refl, λ h. refl); good = refl }
 
 body_10 : IsBody old new notes bounds 10 note_10
-unfolding own_in pinned reads_same result_term same_address is_common keeps paired made holds_behind are_told all_count_behind has_turn accesses_ahead is_ahead guards_sum passes facts_at left_alone known_at_start arrives stands extra adds
+unfolding own_in pinned numbered reads_same result_term same_address is_common keeps paired made holds_behind are_told all_count_behind has_turn accesses_ahead is_ahead guards_sum passes facts_at left_alone known_at_start arrives stands extra adds
 body_10 = record { insn = Exit; insn_is = refl; moved = Exit; moved_is = refl; same = true; same_is = (λ h. refl, λ h. refl); good = refl }
 
 each : (slot : ℕ) → HoldsAt old new notes bounds slot
@@ -124,5 +124,5 @@ each (suc (suc (suc (suc (suc (suc (suc (suc (suc (suc zero)))))))))) note e = s
 each (suc (suc (suc (suc (suc (suc (suc (suc (suc (suc (suc n))))))))))) note e = absurd (none-some note e)
 
 pub matches : Matches old new notes bounds
-unfolding own_in pinned reads_same result_term same_address is_common keeps paired made holds_behind are_told all_count_behind has_turn accesses_ahead is_ahead guards_sum passes facts_at left_alone known_at_start arrives stands extra adds
+unfolding own_in pinned numbered reads_same result_term same_address is_common keeps paired made holds_behind are_told all_count_behind has_turn accesses_ahead is_ahead guards_sum passes facts_at left_alone known_at_start arrives stands extra adds
 matches = record { short = omega arith; few_turns = omega arith; order_is = refl; few = omega arith; start = refl; each = each }

@@ -20,7 +20,7 @@ use Rattle.bpf_kept_law.specs.declared.notes.Holder.TheVariants.{Register, Slot}
 use Rattle.bpf_kept_law.specs.declared.notes.Term.{Term}
 use Rattle.bpf_kept_law.specs.declared.notes.Fact.{Fact}
 use Rattle.bpf_kept_law.specs.Terms.{Facts, Values, Differs, AreLow, DiffersBy, Holds, AllHold, value_in, shift}
-use Rattle.bpf_kept_law.specs.Rules.{same_register, same_holder, is_holder, is_register, is_base, is_high, is_enough, gives, is_own, own_in, own, is_zero, is_same, is_low_fact, is_low, stays}
+use Rattle.bpf_kept_law.specs.Rules.{same_register, same_holder, is_holder, is_register, is_base, is_high, is_enough, gives, is_own, own_in, own, is_pin, pinned, is_number, numbered, is_zero, is_same, is_low_fact, is_low, stays}
 use Rattle.bpf_kept_law.proofs.TermLaw.{differs_same, zero_differs}
 
 -- ---- lists
@@ -109,6 +109,25 @@ module _ (start : ℕ) (old new : Values) where
   unfolding own_in
   own_differs facts h t all e = option_and_then_some _ (find (is_own h) facts) t e (λ fact ef et.
       let k = found_holds (is_own h) (Holds start old new) facts fact ef all in own_is h fact t k.0 et k.1)
+
+  -- what the old program has by itself, and what the new one has
+  pub pinned_differs : (facts : Facts) (h : Holder) (t : Term) → AllHold start old new facts → pinned facts h ≡ Some t → Differs start t (old (Some h)) (new None)
+  unfolding pinned
+  pinned_differs facts h t all e = option_and_then_some _ (find (is_pin h) facts) t e (λ fact ef et.
+      let k = found_holds (is_pin h) (Holds start old new) facts fact ef all in
+      let c = and_parts (is_none fact.of) (is_holder h fact.base && is_some fact.by) k.0 in
+      let b = and_parts (is_holder h fact.base) (is_some fact.by) c.1 in
+      let d : DiffersBy start (Some t) (old fact.base) (new fact.of) = subst (λ by. DiffersBy start by (old fact.base) (new fact.of)) et k.1 in
+      subst (λ y. Differs start t (old (Some h)) y) (none_is new fact.of c.0) (subst (λ x. Differs start t x (new fact.of)) (held old h fact.base b.0) d))
+
+  pub numbered_differs : (facts : Facts) (h : Holder) (t : Term) → AllHold start old new facts → numbered facts h ≡ Some t → Differs start t (old None) (new (Some h))
+  unfolding numbered
+  numbered_differs facts h t all e = option_and_then_some _ (find (is_number h) facts) t e (λ fact ef et.
+      let k = found_holds (is_number h) (Holds start old new) facts fact ef all in
+      let c = and_parts (is_holder h fact.of) (is_none fact.base && is_some fact.by) k.0 in
+      let b = and_parts (is_none fact.base) (is_some fact.by) c.1 in
+      let d : DiffersBy start (Some t) (old fact.base) (new fact.of) = subst (λ by. DiffersBy start by (old fact.base) (new fact.of)) et k.1 in
+      subst (λ y. Differs start t (old None) y) (held new h fact.of c.0) (subst (λ x. Differs start t x (new fact.of)) (none_is old fact.base b.0) d))
 
 -- where no frame is taken away
 pub plain_shift : (start : ℕ) (t : Term) → (t.frames == 0) ≡ true → shift start t ≡ pos t.moved

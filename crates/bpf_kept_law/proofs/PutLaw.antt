@@ -2,7 +2,7 @@
 use Rattle.std.proofs.Common.{set, cond, Bool, ◌==◌, false, List, ◌≡◌, ℕ, zero, ◌+◌, ◌%◌, ◌^◌, ◌-◌, ◌*◌, ◌/◌, ◌<◌, ◌≤◌, inl, inr, refl, sym, ap, ap₂, ◌∙◌, subst, arith, true, Option, Some, None}
 use Rattle.std.specs.Prelude.{◌↔◌, IsTrue, FitsSigned, option_map, ℤ, pos, negsuc, ◌+ℤ◌, ◌-ℤ◌, ◌&&◌, get_or, bit_and, bit_or, bit_xor, if◌then◌else◌}
 use Rattle.std.specs.Int.{cast_signed, w16, w64, bit_at}
-use Rattle.std.specs.List.{AllByRecursion, list_all}
+use Rattle.std.specs.List.{AllByRecursion, list_all, list_any}
 use Rattle.std.specs.Option.{option_map_or, option_or}
 use Rattle.std.specs.Ordering.{int_eq}
 use Rattle.std.proofs.lemmas.Bool.{and_parts, or_cases, eqb-true, eqb-false, false≢true}
@@ -39,9 +39,9 @@ use Rattle.bpf_kept_law.specs.declared.notes.Holder.TheVariants.{Register, Slot}
 use Rattle.bpf_kept_law.specs.declared.notes.Term.{Term}
 use Rattle.bpf_kept_law.specs.Terms.{Facts, Differs, AreLow, DiffersBy, Holds, AllHold, IsCommon, value_in, slot_number, shift, constant, zero_term, frame_offset, plus, minus, negated, times}
 use Rattle.bpf_kept_law.specs.Slots.{slot_at}
-use Rattle.bpf_kept_law.specs.Rules.{Known, own_in, own, same_register, is_register, is_same, is_low, put_into, operand_term, by_terms, keeps_low, has_low_result, reads_low, reads_same, loads_common, result_term, is_common, is_address, same_size, same_address, goes_alike, loads_alike, is_framed, undirected, low_result, put_by}
-use Rattle.bpf_kept_law.proofs.TermLaw.{differs_same, same_differs, same_number, sum_differs, difference_differs, negation_differs, product_differs, complement_differs}
-use Rattle.bpf_kept_law.proofs.HoldsLaw.{IsHigh, any_holds, register_is, held, own_differs, plain_shift, all_same, all_low}
+use Rattle.bpf_kept_law.specs.Rules.{Known, own_in, own, same_register, is_register, is_same, is_low, put_into, operand_term, by_terms, keeps_low, has_low_result, reads_low, reads_same, loads_common, result_term, is_common, is_address, is_folded, numbered, pinned, same_size, same_address, goes_alike, loads_alike, is_framed, undirected, low_result, put_by}
+use Rattle.bpf_kept_law.proofs.TermLaw.{shift_plus, differs_same, same_differs, same_number, sum_differs, difference_differs, negation_differs, product_differs, complement_differs}
+use Rattle.bpf_kept_law.proofs.HoldsLaw.{IsHigh, any_holds, pinned_differs, numbered_differs, register_is, held, own_differs, plain_shift, all_same, all_low}
 use Rattle.bpf_kept_law.proofs.AheadLaw.{access_near}
 use Rattle.bpf_kept_law.proofs.FrameLaw.{IsRoomy, IsEnd, IsAccess, Leaves, access_common, slot_access, slot_loaded}
 use Rattle.bpf_kept_law.proofs.PutValue.{put_value, ReadsSame, put_same, put_below, operand_low, put_low}
@@ -192,9 +192,8 @@ result_differs order start known i r f g t into enc at leaves e = by_first (by_t
 
 -- ---- by another register
 
-pub address_same : (order : Order) (start : ℕ) (facts : Facts) (f g : FlatState) (base src : Reg) (off at : ℤ) → AllHold start (value_in order start f) (value_in order start g) facts → same_address facts base at src off ≡ true → address g base at ≡ address f src off
-unfolding same_address
-address_same order start facts f g base src off at all e =
+by_address : (order : Order) (start : ℕ) (facts : Facts) (f g : FlatState) (base src : Reg) (off at : ℤ) → AllHold start (value_in order start f) (value_in order start g) facts → list_any (is_address base at src off) facts ≡ true → address g base at ≡ address f src off
+by_address order start facts f g base src off at all e =
     let h = any_holds (is_address base at src off) (Holds start (value_in order start f) (value_in order start g)) facts e all in
     let a = and_parts (is_register base h.0.of) (is_register src h.0.base && option_map_or (λ t. t.frames == 0 && (t.moved + extended at) % addresses == extended off) h.0.by false) h.1 in
     let b = and_parts (is_register src h.0.base) (option_map_or (λ t. t.frames == 0 && (t.moved + extended at) % addresses == extended off) h.0.by false) a.1 in
@@ -209,6 +208,41 @@ address_same order start facts f g base src off at all e =
         let s : Same (pos (flat_register g base)) (pos (flat_register f src) +ℤ pos t.moved) = subst (λ z. Same (pos (flat_register g base)) (pos (flat_register f src) +ℤ z)) (plain_shift start t c.0) (differs_same start t (flat_register f src) (flat_register g base) d) in
         let again : (pos (flat_register f src) +ℤ pos t.moved) +ℤ at ≡ pos (flat_register f src) +ℤ (pos t.moved +ℤ at) = omega (arith, ints) in
         modulo_same (same_trans (same_plus s (same_refl at)) (same_trans (same_equal again) (same_plus (same_refl (pos (flat_register f src))) sum)))
+
+-- both are one number
+folded_same : (start x y : ℕ) (u t : Term) (at off : ℤ) → Differs start u 0 y → Differs start t x 0 → is_folded at off (Some u) (Some t) ≡ true → modulo (pos y +ℤ at) addresses ≡ modulo (pos x +ℤ off) addresses
+folded_same start x y u t at off du dt e =
+    let c = and_parts ((u.frames + t.frames) % addresses == 0) (((u.moved + t.moved) + extended at) % addresses == extended off) e in
+    let none : (u.frames + t.frames) % addresses ≡ 0 = eqb-true ((u.frames + t.frames) % addresses) 0 c.0 in
+    let good : ((u.moved + t.moved) + extended at) % addresses ≡ extended off = eqb-true (((u.moved + t.moved) + extended at) % addresses) (extended off) c.1 in
+    let first : Same (pos y) (pos 0 +ℤ shift start u) = differs_same start u 0 y du in
+    let second : Same (pos 0) (pos x +ℤ shift start t) = differs_same start t x 0 dt in
+    let whole : (plus u t).frames ≡ 0 = none in
+    let sum : Same (shift start u +ℤ shift start t) (pos (u.moved + t.moved)) = same_trans (same_sym (shift_plus start u t)) (same_trans (same_equal (zero_frames start (plus u t) none)) (modulo-same (pos (u.moved + t.moved)))) in
+    let moved : Same (pos (u.moved + t.moved) +ℤ at) off = same_trans (same_plus (same_refl (pos (u.moved + t.moved))) (same_sym (modulo-same at))) (same_trans (same_sym (modulo-same (pos ((u.moved + t.moved) + extended at)))) (same_trans (same_equal (ap pos good)) (modulo-same off))) in
+    let both : Same (pos y +ℤ pos 0) ((pos 0 +ℤ shift start u) +ℤ (pos x +ℤ shift start t)) = same_plus first second in
+    let left : pos y +ℤ pos 0 ≡ pos y = omega (arith, ints) in
+    let right : (pos 0 +ℤ shift start u) +ℤ (pos x +ℤ shift start t) ≡ pos x +ℤ (shift start u +ℤ shift start t) = omega (arith, ints) in
+    let base : Same (pos y) (pos x +ℤ pos (u.moved + t.moved)) = same_trans (same_equal (sym left)) (same_trans both (same_trans (same_equal right) (same_plus (same_refl (pos x)) sum))) in
+    let again : (pos x +ℤ pos (u.moved + t.moved)) +ℤ at ≡ pos x +ℤ (pos (u.moved + t.moved) +ℤ at) = omega (arith, ints) in
+    modulo_same (same_trans (same_plus base (same_refl at)) (same_trans (same_equal again) (same_plus (same_refl (pos x)) moved)))
+  where
+    zero_frames : (start : ℕ) (t : Term) → t.frames ≡ 0 → shift start t ≡ pos t.moved
+    zero_frames start t e =
+        let product : t.frames * start ≡ 0 = ap (λ n. n * start) e ∙ (omega arith) in
+        omega (arith, ints)
+
+pub address_same : (order : Order) (start : ℕ) (facts : Facts) (f g : FlatState) (base src : Reg) (off at : ℤ) → AllHold start (value_in order start f) (value_in order start g) facts → same_address facts base at src off ≡ true → address g base at ≡ address f src off
+unfolding same_address
+address_same order start facts f g base src off at all e = elim (or_cases (list_any (is_address base at src off) facts) (is_folded at off (numbered facts (Register base)) (pinned facts (Register src))) e) [
+  | inl there ↦ by_address order start facts f g base src off at all there
+  | inr folded ↦ by_number (numbered facts (Register base)) (pinned facts (Register src)) refl refl folded
+]
+  where
+    by_number : (u t : Option Term) → numbered facts (Register base) ≡ u → pinned facts (Register src) ≡ t → is_folded at off u t ≡ true → address g base at ≡ address f src off
+    by_number (Some u) (Some t) eu et h = folded_same start (flat_register f src) (flat_register g base) u t at off (numbered_differs start (value_in order start f) (value_in order start g) facts (Register base) u all eu) (pinned_differs start (value_in order start f) (value_in order start g) facts (Register src) t all et) h
+    by_number (Some u) None eu et h = absurd (false≢true h)
+    by_number None t eu et h = absurd (false≢true h)
 
 pub size_is : (a b : Size) → same_size a b ≡ true → b ≡ a
 size_is B B e = refl

@@ -13,7 +13,7 @@ use Rattle.bpf_insn.specs.declared.instruction.Cond.TheVariants.{Eq, Ne}
 use Rattle.bpf_insn.specs.declared.instruction.Insn.TheVariants.{Alu, Load, Store, StoreImm, JumpIf, Exit}
 use Rattle.bpf_kept_law.specs.declared.notes.Holder.TheVariants.{Register, Slot}
 use Rattle.bpf_kept_law.specs.declared.notes.Note.{Note}
-use Rattle.bpf_kept_law.specs.Rules.{own_in, pinned, reads_same, result_term, same_address, is_common, keeps, paired, made, holds_behind, are_told}
+use Rattle.bpf_kept_law.specs.Rules.{own_in, pinned, numbered, reads_same, result_term, same_address, is_common, keeps, paired, made, holds_behind, are_told}
 use Rattle.bpf_kept_law.specs.Counters.{all_count_behind, has_turn}
 use Rattle.bpf_kept_law.specs.Guards.{accesses_ahead, is_ahead, guards_sum, passes}
 use Rattle.bpf_kept_law.specs.Matching.{Notes, facts_at, left_alone, known_at_start, arrives, stands, extra, adds, IsBody, IsExtra, IsEither, HoldsAt, Matches}
@@ -66,43 +66,43 @@ notes = Some note_0 ∷ Some note_1 ∷ Some note_2 ∷ Some note_3 ∷ Some not
 -- ---- what is noted of each slot holds
 
 extra_0 : IsExtra old new notes bounds 0 note_0 0
-unfolding own_in pinned reads_same result_term same_address is_common keeps paired made holds_behind are_told all_count_behind has_turn accesses_ahead is_ahead guards_sum passes facts_at left_alone known_at_start arrives stands extra adds
+unfolding own_in pinned numbered reads_same result_term same_address is_common keeps paired made holds_behind are_told all_count_behind has_turn accesses_ahead is_ahead guards_sum passes facts_at left_alone known_at_start arrives stands extra adds
 extra_0 = record { moved = StoreImm DW R10 (negsuc 7) (pos 65536); moved_is = refl; good = refl }
 
 body_1 : IsBody old new notes bounds 1 note_1
-unfolding own_in pinned reads_same result_term same_address is_common keeps paired made holds_behind are_told all_count_behind has_turn accesses_ahead is_ahead guards_sum passes facts_at left_alone known_at_start arrives stands extra adds
+unfolding own_in pinned numbered reads_same result_term same_address is_common keeps paired made holds_behind are_told all_count_behind has_turn accesses_ahead is_ahead guards_sum passes facts_at left_alone known_at_start arrives stands extra adds
 body_1 = record { insn = Alu Mov W64 R0 (Imm (pos 0)); insn_is = refl; moved = Alu Mov W64 R0 (Imm (pos 0)); moved_is = refl; same = true; same_is = (λ h. refl, λ h. refl); good = refl }
 
 extra_2 : IsExtra old new notes bounds 2 note_2 3
-unfolding own_in pinned reads_same result_term same_address is_common keeps paired made holds_behind are_told all_count_behind has_turn accesses_ahead is_ahead guards_sum passes facts_at left_alone known_at_start arrives stands extra adds
+unfolding own_in pinned numbered reads_same result_term same_address is_common keeps paired made holds_behind are_told all_count_behind has_turn accesses_ahead is_ahead guards_sum passes facts_at left_alone known_at_start arrives stands extra adds
 extra_2 = record { moved = Load DW R9 R10 (negsuc 7); moved_is = refl; good = refl }
 
 extra_3 : IsExtra old new notes bounds 3 note_3 2
-unfolding own_in pinned reads_same result_term same_address is_common keeps paired made holds_behind are_told all_count_behind has_turn accesses_ahead is_ahead guards_sum passes facts_at left_alone known_at_start arrives stands extra adds
+unfolding own_in pinned numbered reads_same result_term same_address is_common keeps paired made holds_behind are_told all_count_behind has_turn accesses_ahead is_ahead guards_sum passes facts_at left_alone known_at_start arrives stands extra adds
 extra_3 = record { moved = JumpIf Eq W64 R9 (Imm (pos 0)) (pos 6); moved_is = refl; good = refl }
 
 extra_4 : IsExtra old new notes bounds 4 note_4 1
-unfolding own_in pinned reads_same result_term same_address is_common keeps paired made holds_behind are_told all_count_behind has_turn accesses_ahead is_ahead guards_sum passes facts_at left_alone known_at_start arrives stands extra adds
+unfolding own_in pinned numbered reads_same result_term same_address is_common keeps paired made holds_behind are_told all_count_behind has_turn accesses_ahead is_ahead guards_sum passes facts_at left_alone known_at_start arrives stands extra adds
 extra_4 = record { moved = Alu Add W64 R9 (Imm (negsuc 0)); moved_is = refl; good = refl }
 
 extra_5 : IsExtra old new notes bounds 5 note_5 0
-unfolding own_in pinned reads_same result_term same_address is_common keeps paired made holds_behind are_told all_count_behind has_turn accesses_ahead is_ahead guards_sum passes facts_at left_alone known_at_start arrives stands extra adds
+unfolding own_in pinned numbered reads_same result_term same_address is_common keeps paired made holds_behind are_told all_count_behind has_turn accesses_ahead is_ahead guards_sum passes facts_at left_alone known_at_start arrives stands extra adds
 extra_5 = record { moved = Store DW R10 (negsuc 7) R9; moved_is = refl; good = refl }
 
 body_6 : IsBody old new notes bounds 6 note_6
-unfolding own_in pinned reads_same result_term same_address is_common keeps paired made holds_behind are_told all_count_behind has_turn accesses_ahead is_ahead guards_sum passes facts_at left_alone known_at_start arrives stands extra adds
+unfolding own_in pinned numbered reads_same result_term same_address is_common keeps paired made holds_behind are_told all_count_behind has_turn accesses_ahead is_ahead guards_sum passes facts_at left_alone known_at_start arrives stands extra adds
 body_6 = record { insn = Load B R3 R1 (pos 0); insn_is = refl; moved = Load B R3 R1 (pos 0); moved_is = refl; same = true; same_is = (λ h. refl, λ h. refl); good = refl }
 
 body_7 : IsBody old new notes bounds 7 note_7
-unfolding own_in pinned reads_same result_term same_address is_common keeps paired made holds_behind are_told all_count_behind has_turn accesses_ahead is_ahead guards_sum passes facts_at left_alone known_at_start arrives stands extra adds
+unfolding own_in pinned numbered reads_same result_term same_address is_common keeps paired made holds_behind are_told all_count_behind has_turn accesses_ahead is_ahead guards_sum passes facts_at left_alone known_at_start arrives stands extra adds
 body_7 = record { insn = Alu Add W64 R0 (FromReg R3); insn_is = refl; moved = Alu Add W64 R0 (FromReg R3); moved_is = refl; same = true; same_is = (λ h. refl, λ h. refl); good = refl }
 
 body_8 : IsBody old new notes bounds 8 note_8
-unfolding own_in pinned reads_same result_term same_address is_common keeps paired made holds_behind are_told all_count_behind has_turn accesses_ahead is_ahead guards_sum passes facts_at left_alone known_at_start arrives stands extra adds
+unfolding own_in pinned numbered reads_same result_term same_address is_common keeps paired made holds_behind are_told all_count_behind has_turn accesses_ahead is_ahead guards_sum passes facts_at left_alone known_at_start arrives stands extra adds
 body_8 = record { insn = JumpIf Ne W64 R0 (Imm (pos 7)) (negsuc 2); insn_is = refl; moved = JumpIf Ne W64 R0 (Imm (pos 7)) (negsuc 6); moved_is = refl; same = true; same_is = (λ h. refl, λ h. refl); good = refl }
 
 body_9 : IsBody old new notes bounds 9 note_9
-unfolding own_in pinned reads_same result_term same_address is_common keeps paired made holds_behind are_told all_count_behind has_turn accesses_ahead is_ahead guards_sum passes facts_at left_alone known_at_start arrives stands extra adds
+unfolding own_in pinned numbered reads_same result_term same_address is_common keeps paired made holds_behind are_told all_count_behind has_turn accesses_ahead is_ahead guards_sum passes facts_at left_alone known_at_start arrives stands extra adds
 body_9 = record { insn = Exit; insn_is = refl; moved = Exit; moved_is = refl; same = true; same_is = (λ h. refl, λ h. refl); good = refl }
 
 each : (slot : ℕ) → HoldsAt old new notes bounds slot
@@ -119,5 +119,5 @@ each (suc (suc (suc (suc (suc (suc (suc (suc (suc zero))))))))) note e = subst (
 each (suc (suc (suc (suc (suc (suc (suc (suc (suc (suc n)))))))))) note e = absurd (none-some note e)
 
 pub matches : Matches old new notes bounds
-unfolding own_in pinned reads_same result_term same_address is_common keeps paired made holds_behind are_told all_count_behind has_turn accesses_ahead is_ahead guards_sum passes facts_at left_alone known_at_start arrives stands extra adds
+unfolding own_in pinned numbered reads_same result_term same_address is_common keeps paired made holds_behind are_told all_count_behind has_turn accesses_ahead is_ahead guards_sum passes facts_at left_alone known_at_start arrives stands extra adds
 matches = record { short = omega arith; few_turns = omega arith; order_is = refl; few = omega arith; start = refl; each = each }

@@ -196,6 +196,22 @@ abbrev pub has_low_result : Facts → Insn → Bool
 has_low_result facts (Alu op W64 dst src) = keeps_low op && list_all (is_low facts) (registers_read (Alu op W64 dst src))
 has_low_result facts i = false
 
+-- ---- numbers by themselves
+
+-- What the old program has in a register or slot is one number: with a term it is 0. An index that isn't known has no such term.
+abbrev pub is_pin : Holder → Fact → Bool
+is_pin h fact = is_none fact.of && (is_holder h fact.base && is_some fact.by)
+
+unfoldable pub pinned : Facts → Holder → Option Term
+pinned facts h = find (is_pin h) facts >>= λ fact. fact.by
+
+-- and what the new program has is one number: with a term, by 0
+abbrev pub is_number : Holder → Fact → Bool
+is_number h fact = is_holder h fact.of && (is_none fact.base && is_some fact.by)
+
+unfoldable pub numbered : Facts → Holder → Option Term
+numbered facts h = find (is_number h) facts >>= λ fact. fact.by
+
 -- ---- loads and stores by another register
 
 -- it has what the old one's base has, but for a constant that the displacement makes good
@@ -205,8 +221,13 @@ is_address base at src off fact = is_register base fact.of && (is_register src f
 abbrev pub same_size : Size → Size → Bool
 same_size a b = byte_count a == byte_count b
 
+-- both are one number, and so is the address. An index that is in the old register makes it another one.
+abbrev pub is_folded : ℤ → ℤ → Option Term → Option Term → Bool
+is_folded at off (Some u) (Some t) = (u.frames + t.frames) % addresses == 0 && ((u.moved + t.moved) + extended at) % addresses == extended off
+is_folded at off u t = false
+
 unfoldable pub same_address : Facts → Reg → ℤ → Reg → ℤ → Bool
-same_address facts base at src off = list_any (is_address base at src off) facts
+same_address facts base at src off = list_any (is_address base at src off) facts || is_folded at off (numbered facts (Register base)) (pinned facts (Register src))
 
 abbrev pub goes_alike : Known → ℕ → Reg → ℤ → Reg → ℤ → Bool
 goes_alike known count src off base at = same_address known.facts base at src off && is_common known count src off base at
@@ -300,13 +321,6 @@ low_result facts i = if has_low_result facts i then Some None else None
 abbrev pub put_by : Known → Bool → Insn → Insn → Option (Option Term)
 put_by known true i moved = option_or (option_map Some (result_term known i)) (low_result known.facts i)
 put_by known false i moved = if loads_alike known i moved then Some (Some zero_term) else if is_framed i moved then Some (Some frame_offset) else None
-
--- What the old program has in a register or slot is one number: with a term it is 0. An index that isn't known has no such term.
-abbrev pub is_pin : Holder → Fact → Bool
-is_pin h fact = is_none fact.of && (is_holder h fact.base && is_some fact.by)
-
-unfoldable pub pinned : Facts → Holder → Option Term
-pinned facts h = find (is_pin h) facts >>= λ fact. fact.by
 
 -- and so is what it puts or stores
 abbrev pub pin_of : Facts → Insn → Option Term
