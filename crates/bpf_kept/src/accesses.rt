@@ -84,8 +84,8 @@ fn same_address(facts: &[Fact], new: Displaced, old: Displaced) -> bool
 }
 
 /// Whether they are, and the bytes there are.
-fn goes_alike(known: KnownHere<'_>, count: u8, new: Displaced, old: Displaced) -> bool
-    ensures { result ≡ goes_alike (known_of known) count old.base old.off new.base new.off }
+fn goes_alike(known: &KnownHere<'_>, count: u8, new: Displaced, old: Displaced) -> bool
+    ensures { result ≡ goes_alike (known_of known.now) count old.base old.off new.base new.off }
 {
     same_address(known.facts, new, old) && is_common(known, count, old, new)
 }
@@ -100,8 +100,8 @@ fn same_size(a: Size, b: Size) -> bool
 // ---- loads
 
 /// Whether one instruction loads what the other does, into the same register.
-pub fn loads_alike(known: KnownHere<'_>, insn: &Insn, moved: &Insn) -> bool
-    ensures { result ≡ loads_alike (known_of known) insn.now moved.now }
+pub fn loads_alike(known: &KnownHere<'_>, insn: &Insn, moved: &Insn) -> bool
+    ensures { result ≡ loads_alike (known_of known.now) insn.now moved.now }
 {
     match (*insn, *moved) {
         (
@@ -254,15 +254,15 @@ pub fn pin_of(facts: &[Fact], insn: &Insn) -> Option<Term>
         Insn::Alu {
             op: AluOp::Mov,
             width: Width::W64,
-            dst: _dst,
             src: Operand::Imm(imm),
+            ..
         }
         | Insn::StoreImm { imm, .. } => Some(negated(constant(extended(imm)))),
         Insn::Alu {
             op: AluOp::Mov,
             width: Width::W64,
-            dst: _dst,
             src: Operand::Reg(src),
+            ..
         }
         | Insn::Store { src, .. } => pinned(facts, Holder::Register(src)),
         Insn::Alu {
@@ -344,8 +344,8 @@ fn puts_slot(facts: &[Fact], insn: &Insn) -> Option<Change>
 }
 
 /// What both store at one address.
-fn stores_there(known: KnownHere<'_>, insn: &Insn, moved: &Insn) -> Option<Change>
-    ensures { result ≡ (if stores_alike known.facts.now insn.now moved.now then reached known.left insn.now moved.now else None) }
+fn stores_there(known: &KnownHere<'_>, insn: &Insn, moved: &Insn) -> Option<Change>
+    ensures { result ≡ (if stores_alike known.now.facts.now insn.now moved.now then reached known.now.left insn.now moved.now else None) }
 {
     if stores_alike(known.facts, insn, moved) {
         reached(known.left, insn, moved)
@@ -355,8 +355,8 @@ fn stores_there(known: KnownHere<'_>, insn: &Insn, moved: &Insn) -> Option<Chang
 }
 
 /// What both store.
-pub fn stores(known: KnownHere<'_>, same: bool, insn: &Insn, moved: &Insn) -> Option<Change>
-    ensures { result ≡ stores (known_of known) same insn.now moved.now }
+pub fn stores(known: &KnownHere<'_>, same: bool, insn: &Insn, moved: &Insn) -> Option<Change>
+    ensures { result ≡ stores (known_of known.now) same insn.now moved.now }
 {
     let slot = if same {
         puts_slot(known.facts, insn)

@@ -187,8 +187,8 @@ fn keeps(facts: &[Fact], same: bool, insn: &Insn, moved: &Insn) -> bool
 }
 
 /// By what the new result differs from the old one.
-fn put_by(known: KnownHere<'_>, same: bool, insn: &Insn, moved: &Insn) -> Option<Option<Term>>
-    ensures { result ≡ put_by (known_of known) same insn.now moved.now }
+fn put_by(known: &KnownHere<'_>, same: bool, insn: &Insn, moved: &Insn) -> Option<Option<Term>>
+    ensures { result ≡ put_by (known_of known.now) same insn.now moved.now }
 {
     if same {
         match result_term(known, insn) {
@@ -205,8 +205,8 @@ fn put_by(known: KnownHere<'_>, same: bool, insn: &Insn, moved: &Insn) -> Option
 }
 
 /// What both put into a register, where the one stands for the other.
-fn puts(known: KnownHere<'_>, same: bool, insn: &Insn, moved: &Insn) -> Option<Change>
-    ensures { result ≡ puts (known_of known) same insn.now moved.now }
+fn puts(known: &KnownHere<'_>, same: bool, insn: &Insn, moved: &Insn) -> Option<Change>
+    ensures { result ≡ puts (known_of known.now) same insn.now moved.now }
 {
     let r = put_into(insn)?;
     if r.is_frame_pointer() {
@@ -218,8 +218,8 @@ fn puts(known: KnownHere<'_>, same: bool, insn: &Insn, moved: &Insn) -> Option<C
 
 /// What both change, where the one stands for the other.
 #[tactic(auto, unfolding(bpf_kept_law::specs::Rules::paired))]
-pub fn paired(known: KnownHere<'_>, same: bool, insn: &Insn, moved: &Insn) -> Option<Change>
-    ensures { result ≡ paired (known_of known) same insn.now moved.now }
+pub fn paired(known: &KnownHere<'_>, same: bool, insn: &Insn, moved: &Insn) -> Option<Change>
+    ensures { result ≡ paired (known_of known.now) same insn.now moved.now }
 {
     if keeps(known.facts, same, insn, moved) {
         return Some(Change::Kept);

@@ -140,8 +140,8 @@ fn is_parted(apart: &[bool], change: Change, n: u8) -> bool
 }
 
 /// Whether a slot is noted as one, or has the same.
-fn is_told(known: KnownHere<'_>, change: Change, apart: &[bool], n: u8) -> bool
-    ensures { result ≡ is_told (known_of known) change apart.now n }
+fn is_told(known: &KnownHere<'_>, change: Change, apart: &[bool], n: u8) -> bool
+    ensures { result ≡ is_told (known_of known.now) change apart.now n }
 {
     !is_parted(known.apart, change, n)
         || is_noted(apart, n)
@@ -149,8 +149,8 @@ fn is_told(known: KnownHere<'_>, change: Change, apart: &[bool], n: u8) -> bool
 }
 
 /// Whether each slot is.
-pub fn are_told(known: KnownHere<'_>, change: Change, apart: &[bool]) -> bool
-    ensures { result ≡ are_told (known_of known) change apart.now }
+pub fn are_told(known: &KnownHere<'_>, change: Change, apart: &[bool]) -> bool
+    ensures { result ≡ are_told (known_of known.now) change apart.now }
 {
     for n in 0..SLOTS as u8 {
         if !is_told(known, change, apart, n) {

@@ -11,15 +11,15 @@ use crate::slots::{Displaced, is_noted, misses};
 use bpf_kept_law::SLOTS;
 
 /// Whether an access doesn't go to a slot in which the programs may have something else.
-fn spares(known: KnownHere<'_>, count: u8, old: Displaced, new: Displaced, n: u8) -> bool
-    ensures { result ≡ (not (is_noted known.apart.now n) || misses known.left count old.base old.off new.base new.off n) }
+fn spares(known: &KnownHere<'_>, count: u8, old: Displaced, new: Displaced, n: u8) -> bool
+    ensures { result ≡ (not (is_noted known.now.apart.now n) || misses known.now.left count old.base old.off new.base new.off n) }
 {
     !is_noted(known.apart, n) || misses(known.left, count, old, new, n)
 }
 
 /// Whether it goes to no such slot.
-pub fn is_common(known: KnownHere<'_>, count: u8, old: Displaced, new: Displaced) -> bool
-    ensures { result ≡ is_common (known_of known) count old.base old.off new.base new.off }
+pub fn is_common(known: &KnownHere<'_>, count: u8, old: Displaced, new: Displaced) -> bool
+    ensures { result ≡ is_common (known_of known.now) count old.base old.off new.base new.off }
 {
     for n in 0..SLOTS as u8 {
         if !spares(known, count, old, new, n) {

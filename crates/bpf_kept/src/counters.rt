@@ -1,6 +1,6 @@
 //! Counters: registers and slots of the new program that count the turns that are left.
 
-ghost use Rattle.std.specs.Prelude.{◌≡◌, ◌+◌, ◌-◌, false, if◌then◌else◌};
+ghost use Rattle.std.specs.Prelude.{◌≡◌, ℕ, ◌+◌, ◌-◌, None, false, if◌then◌else◌};
 ghost use Rattle.std.specs.Option.{option_map_or};
 ghost use Rattle.std.specs.List.{list_all};
 ghost use Rattle.bpf_insn.specs.Arithmetic.{extended};
@@ -103,15 +103,15 @@ fn makes_counter(turns: u64, counters: &[Option<TurnsLeft>], insn: &Insn, want: 
         Insn::Alu {
             op: AluOp::Mov,
             width: Width::W64,
-            dst: _dst,
             src: Operand::Imm(imm),
+            ..
         }
         | Insn::StoreImm { imm, .. } => turns <= extended(imm),
         Insn::Alu {
             op: AluOp::Mov,
             width: Width::W64,
-            dst: _dst,
             src: Operand::Reg(src),
+            ..
         }
         | Insn::Store { src, .. } => is_counted(counters, Holder::Register(src), 0, want),
         Insn::Alu {
@@ -146,8 +146,8 @@ fn is_spared(change: Change, h: Holder) -> bool
 }
 
 /// Whether an extra instruction makes what is wanted.
-fn is_made(known: KnownHere<'_>, change: Change, want: TurnsLeft) -> bool
-    ensures { result ≡ is_made (known_of known) change want }
+fn is_made(known: &KnownHere<'_>, change: Change, want: TurnsLeft) -> bool
+    ensures { result ≡ is_made (known_of known.now) change want }
 {
     match change {
         Change::Made { into, insn } => {
@@ -175,8 +175,8 @@ fn is_left_in(change: Change, step: Option<u32>, want: TurnsLeft, place: Option<
 }
 
 /// Whether one of them does.
-fn any_left(known: KnownHere<'_>, change: Change, step: Option<u32>, want: TurnsLeft) -> bool
-    ensures { result ≡ any_counter (is_left change step want) known.counters.now }
+fn any_left(known: &KnownHere<'_>, change: Change, step: Option<u32>, want: TurnsLeft) -> bool
+    ensures { result ≡ any_counter (is_left change step want) known.now.counters.now }
 {
     known
         .counters
@@ -186,12 +186,12 @@ fn any_left(known: KnownHere<'_>, change: Change, step: Option<u32>, want: Turns
 
 /// Whether what is wanted, if it is something, counts behind a change.
 fn counts_behind(
-    known: KnownHere<'_>,
+    known: &KnownHere<'_>,
     change: Change,
     step: Option<u32>,
     want: Option<TurnsLeft>,
 ) -> bool
-    ensures { result ≡ counts_behind (known_of known) change step want }
+    ensures { result ≡ counts_behind (known_of known.now) change step want }
 {
     match want {
         Some(want) => is_made(known, change, want) || any_left(known, change, step, want),
@@ -202,12 +202,12 @@ fn counts_behind(
 /// Whether all that is wanted does.
 #[tactic(auto, unfolding(bpf_kept_law::specs::Counters::all_count_behind))]
 pub fn all_count_behind(
-    known: KnownHere<'_>,
+    known: &KnownHere<'_>,
     change: Change,
     step: Option<u32>,
     wants: &[Option<TurnsLeft>],
 ) -> bool
-    ensures { result ≡ all_count_behind (known_of known) change step wants.now }
+    ensures { result ≡ all_count_behind (known_of known.now) change step wants.now }
 {
     wants
         .iter()

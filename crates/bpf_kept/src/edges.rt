@@ -47,8 +47,8 @@ fn said_holds(facts: &[Fact], change: Change, note: &Note) -> bool
 }
 
 /// Whether what is noted asks for no more than what holds: its facts, each slot of the frame, and its counters.
-fn is_given(known: KnownHere<'_>, change: Change, step: Option<u32>, note: &Note) -> bool
-    ensures { result ≡ is_given (known_of known) change step note.now }
+fn is_given(known: &KnownHere<'_>, change: Change, step: Option<u32>, note: &Note) -> bool
+    ensures { result ≡ is_given (known_of known.now) change step note.now }
 {
     said_holds(known.facts, change, note)
         && are_told(known, change, &note.apart)
@@ -56,16 +56,16 @@ fn is_given(known: KnownHere<'_>, change: Change, step: Option<u32>, note: &Note
 }
 
 /// Whether it does, in front of the old instruction, with few enough extra ones.
-fn suits(known: KnownHere<'_>, change: Change, edge: Arrival, note: &Note) -> bool
-    ensures { result ≡ suits (known_of known) change edge.step edge.slot edge.most note.now }
+fn suits(known: &KnownHere<'_>, change: Change, edge: Arrival, note: &Note) -> bool
+    ensures { result ≡ suits (known_of known.now) change edge.step edge.slot edge.most note.now }
 {
     note.old == edge.slot && note.extras <= edge.most && is_given(known, change, edge.step, note)
 }
 
 /// Whether an edge leads where that is so.
 #[tactic(auto, unfolding(bpf_kept_law::specs::Matching::arrives))]
-pub fn arrives(notes: &[Option<Note>], known: KnownHere<'_>, change: Change, edge: Arrival) -> bool
-    ensures { result ≡ arrives notes.now (known_of known) change edge.step edge.slot edge.most edge.new_slot }
+pub fn arrives(notes: &[Option<Note>], known: &KnownHere<'_>, change: Change, edge: Arrival) -> bool
+    ensures { result ≡ arrives notes.now (known_of known.now) change edge.step edge.slot edge.most edge.new_slot }
 {
     match note_at(notes, edge.new_slot) {
         Some(note) => suits(known, change, edge, note),

@@ -1,27 +1,66 @@
 //! What is known in front of an instruction of the new program.
 
-ghost use Rattle.std.specs.Prelude.{◌≡◌, ◌+◌, ◌++◌, ◌≤◌, [], not, false, length as list_length};
+ghost use Rattle.std.specs.Prelude.{◌≡◌, ◌+◌, ◌++◌, ◌<◌, ◌≤◌, [], ◌∷◌, not, false, length as list_length};
 ghost use Rattle.std.specs.List.{list_all};
 ghost use Rattle.std.specs.Option.{option_map_or};
 ghost use Rattle.bpf_insn.specs.Instruction.{insn_at};
 ghost use Rattle.bpf_kept_law.specs.Terms.{is_noted, frame_slots};
 ghost use Rattle.bpf_kept_law.specs.Slots.{slot_facts};
 ghost use Rattle.bpf_kept_law.specs.Matching.{is_zero_slot, same_slot, said, facts_at, hands_frame, left_alone, start_facts};
-ghost use Rattle.bpf_kept.specs.Knowns.{first_facts};
+ghost use Rattle.bpf_kept.specs.Knowns.{facts_in, first_facts};
 
 use crate::facts::by_itself;
 use crate::slots::is_noted;
 use crate::terms::{context_offset, zero};
-use arrayvec::ArrayVec;
 use bpf_insn::{Code, FRAME_BYTES, Insn, Operand, Reg};
-use bpf_kept_law::{FACTS, Fact, Holder, Note, SLOTS, Term, TurnsLeft};
+use bpf_kept_law::{Fact, Holder, Note, SLOTS, TurnsLeft};
 
 /// How many facts hold at most in front of an instruction: those of the note, one for each slot of the frame that the old program has 0 in, one for
 /// each that is the same in both, and those of the start.
 const MOST_FACTS: usize = 160;
 
-/// Facts that hold in front of an instruction.
-pub type FactsHere = ArrayVec<Fact, MOST_FACTS>;
+/// Facts, in order: so many of the first ones.
+#[derive(Drop)]
+pub struct FactList {
+    all: [Fact; MOST_FACTS],
+    count: usize,
+}
+
+impl FactList {
+    /// None.
+    fn new() -> Self
+        ensures facts { facts_in result ≡ [] }
+        ensures count { result.count ≡ 0 }
+    {
+        let nothing = Fact {
+            of: None,
+            base: None,
+            by: Some(zero()),
+        };
+        FactList {
+            all: [nothing; MOST_FACTS],
+            count: 0,
+        }
+    }
+
+    /// One more.
+    fn push(&mut self, fact: Fact)
+        requires { self.old.count < 160 }
+        ensures facts { facts_in self.new ≡ facts_in self.old ++ fact ∷ [] }
+        ensures count { self.new.count ≡ self.old.count + 1 }
+    {
+        self.all[self.count] = fact;
+        self.count += 1;
+    }
+
+    /// All of them.
+    pub fn as_slice(&self) -> &[Fact]
+        requires { self.now.count ≤ 160 }
+        ensures { result.now ≡ facts_in self.now }
+    {
+        &self.all[..self.count]
+    }
+}
 
 /// What is known in front of an instruction: facts; which slots of the frame may differ; what counts turns, where the old program may come to an
 /// instruction so often; and how many of the frame's lowest bytes no access by another register than r10 goes to.
@@ -54,28 +93,11 @@ pub fn same_slot(n: u8) -> Fact
     by_itself(Holder::Slot(n))
 }
 
-/// No fact.
-fn no_facts() -> FactsHere
-    ensures { result.items ≡ [] }
-{
-    let nothing = Fact {
-        of: None,
-        base: None,
-        by: Some(Term {
-            frames: 0,
-            moved: 0,
-        }),
-    };
-    let mut facts = ArrayVec::from([nothing; MOST_FACTS]);
-    facts.clear();
-    facts
-}
-
 /// Adds that the old program has 0 in the slots of which that is noted.
-fn add_zeros(facts: &mut FactsHere, zeros: &[bool])
-    requires { list_length facts.old.items ≤ 96 }
-    ensures items { facts.new.items ≡ facts.old.items ++ slot_facts is_zero_slot (is_noted zeros.now) frame_slots }
-    ensures few { list_length facts.new.items ≤ list_length facts.old.items + frame_slots }
+fn add_zeros(facts: &mut FactList, zeros: &[bool])
+    requires { facts.old.count ≤ 96 }
+    ensures facts { facts_in facts.new ≡ facts_in facts.old ++ slot_facts is_zero_slot (is_noted zeros.now) frame_slots }
+    ensures count { facts.new.count ≤ facts.old.count + frame_slots }
 {
     let mut left = SLOTS as u8;
     'slots: while left > 0 {
@@ -87,10 +109,10 @@ fn add_zeros(facts: &mut FactsHere, zeros: &[bool])
 }
 
 /// Adds that both have the same in the slots of which nothing else is noted.
-fn add_same(facts: &mut FactsHere, apart: &[bool])
-    requires { list_length facts.old.items ≤ 96 }
-    ensures items { facts.new.items ≡ facts.old.items ++ slot_facts same_slot (λ n. not (is_noted apart.now n)) frame_slots }
-    ensures few { list_length facts.new.items ≤ list_length facts.old.items + frame_slots }
+fn add_same(facts: &mut FactList, apart: &[bool])
+    requires { facts.old.count ≤ 96 }
+    ensures facts { facts_in facts.new ≡ facts_in facts.old ++ slot_facts same_slot (λ n. not (is_noted apart.now n)) frame_slots }
+    ensures count { facts.new.count ≤ facts.old.count + frame_slots }
 {
     let mut left = SLOTS as u8;
     'slots: while left > 0 {
@@ -104,11 +126,12 @@ fn add_same(facts: &mut FactsHere, apart: &[bool])
 // ---- a note
 
 /// These facts.
-fn facts_of(facts: &[Fact]) -> FactsHere
+fn facts_of(facts: &[Fact]) -> FactList
     requires { list_length facts.now ≤ 32 }
-    ensures { result.items ≡ facts.now }
+    ensures facts { facts_in result ≡ facts.now }
+    ensures count { result.count ≡ list_length facts.now }
 {
-    let mut all = no_facts();
+    let mut all = FactList::new();
     for fact in facts {
         all.push(*fact);
     }
@@ -116,9 +139,9 @@ fn facts_of(facts: &[Fact]) -> FactsHere
 }
 
 /// What a note says.
-pub fn said(note: &Note) -> FactsHere
-    ensures items { result.items ≡ said note.now }
-    ensures few { list_length result.items ≤ 88 }
+pub fn said(note: &Note) -> FactList
+    ensures facts { facts_in result ≡ said note.now }
+    ensures count { result.count ≤ 88 }
 {
     let mut facts = facts_of(&note.facts);
     add_zeros(&mut facts, &note.zeros);
@@ -126,8 +149,9 @@ pub fn said(note: &Note) -> FactsHere
 }
 
 /// What holds where it is noted.
-pub fn facts_at(note: &Note) -> FactsHere
-    ensures { result.items ≡ facts_at note.now }
+pub fn facts_at(note: &Note) -> FactList
+    ensures facts { facts_in result ≡ facts_at note.now }
+    ensures count { result.count ≤ 160 }
 {
     let mut facts = said(note);
     facts.push(by_itself(Holder::Register(Reg::R10)));
@@ -168,8 +192,9 @@ fn first_facts() -> [Fact; 13]
 }
 
 /// What holds at the start: that, and the frame is 0 in both.
-pub fn start_facts() -> FactsHere
-    ensures { result.items ≡ start_facts }
+pub fn start_facts() -> FactList
+    ensures facts { facts_in result ≡ start_facts }
+    ensures count { result.count ≤ 160 }
 {
     let mut facts = facts_of(&first_facts());
     add_zeros(&mut facts, &[true; SLOTS]);

@@ -72,7 +72,7 @@ fn starts(notes: &[Option<Note>], bounds: RunBounds, left: u32) -> bool
         most: MOST_AT_START,
         new_slot: 0,
     };
-    arrives(notes, known, Change::Kept, arrival)
+    arrives(notes, &known, Change::Kept, arrival)
 }
 
 /// Whether the notes match.

@@ -245,8 +245,8 @@ pub fn reads_same(facts: &[Fact], insn: &Insn) -> bool
 }
 
 /// Whether the bytes that it loads are the same.
-fn loads_common(known: KnownHere<'_>, insn: &Insn) -> bool
-    ensures { result ≡ loads_common (known_of known) insn.now }
+fn loads_common(known: &KnownHere<'_>, insn: &Insn) -> bool
+    ensures { result ≡ loads_common (known_of known.now) insn.now }
 {
     match *insn {
         Insn::Load { size, src, off, .. } | Insn::LoadSx { size, src, off, .. } => {
@@ -259,8 +259,8 @@ fn loads_common(known: KnownHere<'_>, insn: &Insn) -> bool
 
 /// How far the result is from the old program's.
 #[tactic(auto, unfolding(bpf_kept_law::specs::Rules::result_term))]
-pub fn result_term(known: KnownHere<'_>, insn: &Insn) -> Option<Term>
-    ensures { result ≡ result_term (known_of known) insn.now }
+pub fn result_term(known: &KnownHere<'_>, insn: &Insn) -> Option<Term>
+    ensures { result ≡ result_term (known_of known.now) insn.now }
 {
     match by_terms(known.facts, insn) {
         Some(t) => Some(t),

@@ -1,6 +1,6 @@
 //! The slots of the own frame, and to which of them accesses go.
 
-ghost use Rattle.std.specs.Prelude.{◌≡◌, ◌<◌, ◌≤◌, ◌+ℤ◌, pos, IfSome, map_option, option_map};
+ghost use Rattle.std.specs.Prelude.{◌≡◌, ◌<◌, ◌≤◌, ◌+ℤ◌, pos, IfSome};
 ghost use Rattle.bpf_insn.specs.Limits.{frame_bytes};
 ghost use Rattle.bpf_insn.specs.Instruction.{not_negative};
 ghost use Rattle.bpf_kept_law.specs.Terms.{is_noted, frame_slots};

@@ -1,7 +1,6 @@
 //! What is noted of a slot of the new program: an instruction that stands for an old one, or an extra one.
 
-ghost use Rattle.std.specs.Prelude.{◌≡◌, ◌<◌, ◌≤◌, ◌↔◌, ◌-◌, IsTrue, Some, None, if◌then◌else◌};
-ghost use Rattle.bpf_insn.specs.Options.{◌>>=◌};
+ghost use Rattle.std.specs.Prelude.{◌≡◌, ◌<◌, ◌≤◌, ◌↔◌, ◌-◌, IsTrue, Some, None, option_and_then, if◌then◌else◌};
 ghost use Rattle.bpf_insn.specs.Effects.{is_frame_pointer};
 ghost use Rattle.bpf_kept_law.specs.Rules.{put_into};
 ghost use Rattle.bpf_kept_law.specs.declared.notes.Holder.TheVariants.{Register};
@@ -9,7 +8,7 @@ ghost use Rattle.bpf_insn.specs.Limits.{max_slots};
 ghost use Rattle.bpf_kept.specs.Fronts.{front};
 ghost use Rattle.bpf_kept.specs.Knowns.{known_of, known_for};
 ghost use Rattle.bpf_kept.specs.Shown.{bounds_of};
-ghost use Rattle.bpf_kept_law.specs.Matching.{facts_at, left_alone, led, falls, leads, stands, made_in, makes, extra, adds, IsBody, IsExtra, HoldsAt};
+ghost use Rattle.bpf_kept_law.specs.Matching.{left_alone, led, falls, leads, stands, made_in, makes, extra, adds, IsBody, IsExtra, HoldsAt};
 
 use crate::alike::{are_same, paired};
 use crate::bounds::RunBounds;
@@ -21,7 +20,7 @@ use crate::known::{KnownHere, facts_at};
 use crate::results::put_into;
 use crate::slots::{Displaced, slot_at};
 use bpf_insn::{Code, Insn, target};
-use bpf_kept_law::{Change, Fact, Holder, Note};
+use bpf_kept_law::{Change, Holder, Note};
 
 /// The greatest number of extra instructions in front of one.
 const MOST_EXTRAS: u32 = 128;
@@ -45,10 +44,10 @@ fn led(slot: u32, insn: &Insn) -> Option<u32>
 }
 
 /// Whether the next new instruction stands for the next old one, if that may follow.
-fn falls(notes: &[Option<Note>], known: KnownHere<'_>, change: Change, pair: StandIn) -> bool
+fn falls(notes: &[Option<Note>], known: &KnownHere<'_>, change: Change, pair: StandIn) -> bool
     requires old { pair.slot < max_slots }
     requires new { pair.new_slot < max_slots }
-    ensures { result ≡ falls notes.now (known_of known) change pair.slot pair.new_slot pair.insn pair.moved }
+    ensures { result ≡ falls notes.now (known_of known.now) change pair.slot pair.new_slot pair.insn pair.moved }
 {
     if !pair.insn.goes_on() {
         return true;
@@ -63,10 +62,10 @@ fn falls(notes: &[Option<Note>], known: KnownHere<'_>, change: Change, pair: Sta
 }
 
 /// Whether the new one leads where the old one leads.
-fn leads(notes: &[Option<Note>], known: KnownHere<'_>, change: Change, pair: StandIn) -> bool
+fn leads(notes: &[Option<Note>], known: &KnownHere<'_>, change: Change, pair: StandIn) -> bool
     requires old { pair.slot < max_slots }
     requires new { pair.new_slot < max_slots }
-    ensures { result ≡ leads notes.now (known_of known) change pair.slot pair.new_slot pair.insn pair.moved }
+    ensures { result ≡ leads notes.now (known_of known.now) change pair.slot pair.new_slot pair.insn pair.moved }
 {
     let Some(slot) = led(pair.slot, &pair.insn) else {
         return true;
@@ -85,10 +84,10 @@ fn leads(notes: &[Option<Note>], known: KnownHere<'_>, change: Change, pair: Sta
 
 /// Whether the one stands for the other; `same` says whether they are the same but for where they lead.
 #[tactic(auto, unfolding(bpf_kept_law::specs::Matching::stands))]
-fn stands(notes: &[Option<Note>], known: KnownHere<'_>, same: bool, pair: StandIn) -> bool
+fn stands(notes: &[Option<Note>], known: &KnownHere<'_>, same: bool, pair: StandIn) -> bool
     requires old { pair.slot < max_slots }
     requires new { pair.new_slot < max_slots }
-    ensures { result ≡ stands notes.now (known_of known) same pair.slot pair.new_slot pair.insn pair.moved }
+    ensures { result ≡ stands notes.now (known_of known.now) same pair.slot pair.new_slot pair.insn pair.moved }
 {
     match paired(known, same, &pair.insn, &pair.moved) {
         Some(change) => falls(notes, known, change, pair) && leads(notes, known, change, pair),
@@ -98,7 +97,7 @@ fn stands(notes: &[Option<Note>], known: KnownHere<'_>, same: bool, pair: StandI
 
 /// The register into which it puts something, but for r10.
 fn written_by(moved: &Insn) -> Option<Holder>
-    ensures { result ≡ (put_into moved.now >>= λ r. if is_frame_pointer r then None else Some (Register r)) }
+    ensures { result ≡ option_and_then (λ r. if is_frame_pointer r then None else Some (Register r)) (put_into moved.now) }
 {
     let into = put_into(moved)?;
     if into.is_frame_pointer() {
@@ -130,8 +129,8 @@ fn makes(moved: &Insn) -> Option<Change>
 
 /// What an extra instruction changes.
 #[tactic(auto, unfolding(bpf_kept_law::specs::Matching::extra))]
-fn extra<O: Code>(old: &O, site: GuardSite, known: KnownHere<'_>, moved: &Insn) -> Option<Change>
-    ensures { result ≡ extra (front (O.program old.now) site.slot site.length) (known_of known) moved.now }
+fn extra<O: Code>(old: &O, site: GuardSite, known: &KnownHere<'_>, moved: &Insn) -> Option<Change>
+    ensures { result ≡ extra (front (O.program old.now) site.slot site.length) (known_of known.now) moved.now }
 {
     if passes(old, site, known.facts, moved) || has_turn(known.counters, site.slot, moved) {
         Some(Change::Kept)
@@ -153,12 +152,12 @@ struct ExtraAt {
 fn adds<O: Code>(
     old: &O,
     notes: &[Option<Note>],
-    known: KnownHere<'_>,
+    known: &KnownHere<'_>,
     at: ExtraAt,
     moved: &Insn,
 ) -> bool
     requires { at.new_slot < max_slots }
-    ensures { result ≡ adds notes.now (front (O.program old.now) at.site.slot at.site.length) (known_of known) at.left at.new_slot moved.now }
+    ensures { result ≡ adds notes.now (front (O.program old.now) at.site.slot at.site.length) (known_of known.now) at.left at.new_slot moved.now }
 {
     match extra(old, at.site, known, moved) {
         Some(change) => {
@@ -185,20 +184,6 @@ pub struct NewSlot {
     pub left: u32,
 }
 
-/// What is known where something is noted.
-fn known_at<'a>(at: NewSlot, note: &'a Note, facts: &'a [Fact]) -> KnownHere<'a>
-    requires { facts.now ≡ facts_at note.now }
-    ensures { known_of result ≡ known_for at.bounds.turns at.left note.now }
-{
-    KnownHere {
-        facts,
-        apart: &note.apart,
-        counters: &note.counters,
-        turns: at.bounds.turns,
-        left: at.left,
-    }
-}
-
 /// Whether a pair stands for one another, where something is noted.
 fn stands_at(notes: &[Option<Note>], at: NewSlot, note: &Note, same: bool, pair: StandIn) -> bool
     requires old { pair.slot < max_slots }
@@ -206,8 +191,14 @@ fn stands_at(notes: &[Option<Note>], at: NewSlot, note: &Note, same: bool, pair:
     ensures { result ≡ stands notes.now (known_for at.bounds.turns at.left note.now) same pair.slot pair.new_slot pair.insn pair.moved }
 {
     let facts = facts_at(note);
-    let known = known_at(at, note, facts.as_slice());
-    stands(notes, known, same, pair)
+    let known = KnownHere {
+        facts: facts.as_slice(),
+        apart: &note.apart,
+        counters: &note.counters,
+        turns: at.bounds.turns,
+        left: at.left,
+    };
+    stands(notes, &known, same, pair)
 }
 
 /// Whether the instruction at a new slot stands for the old one that is noted.
@@ -242,7 +233,13 @@ fn adds_at<O: Code>(old: &O, notes: &[Option<Note>], at: NewSlot, note: &Note, m
     ensures { result ≡ adds notes.now (front (O.program old.now) note.now.old at.bounds.length) (known_for at.bounds.turns at.left note.now) (note.now.extras - 1) at.slot moved.now }
 {
     let facts = facts_at(note);
-    let known = known_at(at, note, facts.as_slice());
+    let known = KnownHere {
+        facts: facts.as_slice(),
+        apart: &note.apart,
+        counters: &note.counters,
+        turns: at.bounds.turns,
+        left: at.left,
+    };
     let site = GuardSite {
         slot: note.old,
         length: at.bounds.length,
@@ -252,7 +249,7 @@ fn adds_at<O: Code>(old: &O, notes: &[Option<Note>], at: NewSlot, note: &Note, m
         left: note.extras - 1,
         new_slot: at.slot,
     };
-    adds(old, notes, known, extra_at, moved)
+    adds(old, notes, &known, extra_at, moved)
 }
 
 /// Whether the instruction at a new slot is an extra one.
