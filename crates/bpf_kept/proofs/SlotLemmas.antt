@@ -1,7 +1,8 @@
 -- What holds of each slot of a frame, and facts of slots.
-use Rattle.std.proofs.Common.{◌≡◌, ℕ, zero, suc, ◌+◌, ◌-◌, ◌<◌, ◌≤◌, Bool, true, false, List, [], ◌∷◌, ◌++◌, refl, sym, ap, ◌∙◌, inl, inr, subst, arith}
-use Rattle.std.specs.Prelude.{not, ◌&&◌, cond}
+use Rattle.std.proofs.Common.{◌≡◌, ℕ, zero, suc, ◌+◌, ◌-◌, ◌<◌, ◌≤◌, Bool, true, false, List, [], ◌∷◌, ◌++◌, cond, refl, sym, ap, ◌∙◌, inl, inr, arith}
+use Rattle.std.specs.Prelude.{◌&&◌, if◌then◌else◌}
 use Rattle.std.proofs.lemmas.Bool.{cases_lt}
+use Rattle.std.proofs.lemmas.List.{append_assoc}
 use Rattle.bpf_kept_law.specs.declared.notes.Fact.{Fact}
 use Rattle.bpf_kept_law.specs.Slots.{each_slot, slot_facts}
 
@@ -25,11 +26,13 @@ not_each test n (suc m) less no =
       | inr past ↦ let same : n ≡ m = omega arith in ap (λ b. b && each_slot test m) (ap test (sym same) ∙ no)
     ]
 
--- the facts of slots from one on downwards
-pub with_fact : (fact : ℕ → Fact) (noted : ℕ → Bool) (left : ℕ) → 0 < left → noted (left - 1) ≡ true → fact (left - 1) ∷ slot_facts fact noted (left - 1) ≡ slot_facts fact noted left
-with_fact fact noted zero more is = absurd (omega arith)
-with_fact fact noted (suc n) more is = let same : suc n - 1 ≡ n = omega arith in subst (λ k. noted k ≡ true → fact k ∷ slot_facts fact noted k ≡ slot_facts fact noted (suc n)) (sym same) (λ is. sym (ap (λ b. cond b (fact n ∷ slot_facts fact noted n) (slot_facts fact noted n)) is)) is
+-- the facts of slots, from one on downwards
+one_or_none : (b : Bool) (f : Fact) (rest : List Fact) → cond b (f ∷ []) [] ++ rest ≡ cond b (f ∷ rest) rest
+one_or_none true f rest = refl
+one_or_none false f rest = refl
 
-pub without_fact : (fact : ℕ → Fact) (noted : ℕ → Bool) (left : ℕ) → 0 < left → noted (left - 1) ≡ false → slot_facts fact noted (left - 1) ≡ slot_facts fact noted left
-without_fact fact noted zero more is = absurd (omega arith)
-without_fact fact noted (suc n) more is = let same : suc n - 1 ≡ n = omega arith in subst (λ k. noted k ≡ false → slot_facts fact noted k ≡ slot_facts fact noted (suc n)) (sym same) (λ is. sym (ap (λ b. cond b (fact n ∷ slot_facts fact noted n) (slot_facts fact noted n)) is)) is
+pub one_fact : (xs : List Fact) (fact : ℕ → Fact) (noted : ℕ → Bool) (left : ℕ) → 0 < left → (xs ++ (if noted (left - 1) then fact (left - 1) ∷ [] else [])) ++ slot_facts fact noted (left - 1) ≡ xs ++ slot_facts fact noted left
+one_fact xs fact noted zero more = absurd (omega arith)
+one_fact xs fact noted (suc n) more =
+    let same : suc n - 1 ≡ n = omega arith in
+    ap (λ k. (xs ++ (if noted k then fact k ∷ [] else [])) ++ slot_facts fact noted k) same ∙ append_assoc xs (if noted n then fact n ∷ [] else []) (slot_facts fact noted n) ∙ ap (λ ys. xs ++ ys) (one_or_none (noted n) (fact n) (slot_facts fact noted n))

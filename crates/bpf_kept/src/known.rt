@@ -1,6 +1,6 @@
 //! What is known in front of an instruction of the new program.
 
-ghost use Rattle.std.specs.Prelude.{◌≡◌, ◌+◌, ◌++◌, ◌<◌, ◌≤◌, [], ◌∷◌, not, false, length as list_length};
+ghost use Rattle.std.specs.Prelude.{◌≡◌, ◌+◌, ◌++◌, ◌<◌, ◌≤◌, [], ◌∷◌, not, false, if◌then◌else◌, length as list_length};
 ghost use Rattle.std.specs.List.{list_all};
 ghost use Rattle.std.specs.Option.{option_map_or};
 ghost use Rattle.bpf_insn.specs.Instruction.{insn_at};
@@ -93,7 +93,18 @@ pub fn same_slot(n: u8) -> Fact
     by_itself(Holder::Slot(n))
 }
 
-/// Adds that the old program has 0 in the slots of which that is noted.
+/// Adds that the old program has 0 in a slot, where that is noted.
+fn add_zero(facts: &mut FactList, zeros: &[bool], n: u8)
+    requires { facts.old.count < 160 }
+    ensures facts { facts_in facts.new ≡ facts_in facts.old ++ (if is_noted zeros.now n then is_zero_slot n ∷ [] else []) }
+    ensures count { facts.new.count ≤ facts.old.count + 1 }
+{
+    if is_noted(zeros, n) {
+        facts.push(is_zero_slot(n));
+    }
+}
+
+/// Adds it of each slot of which it is noted.
 fn add_zeros(facts: &mut FactList, zeros: &[bool])
     requires { facts.old.count ≤ 96 }
     ensures facts { facts_in facts.new ≡ facts_in facts.old ++ slot_facts is_zero_slot (is_noted zeros.now) frame_slots }
@@ -102,13 +113,22 @@ fn add_zeros(facts: &mut FactList, zeros: &[bool])
     let mut left = SLOTS as u8;
     'slots: while left > 0 {
         left -= 1;
-        if is_noted(zeros, left) {
-            facts.push(is_zero_slot(left));
-        }
+        add_zero(facts, zeros, left);
     }
 }
 
-/// Adds that both have the same in the slots of which nothing else is noted.
+/// Adds that both have the same in a slot, where nothing else is noted.
+fn add_common(facts: &mut FactList, apart: &[bool], n: u8)
+    requires { facts.old.count < 160 }
+    ensures facts { facts_in facts.new ≡ facts_in facts.old ++ (if not (is_noted apart.now n) then same_slot n ∷ [] else []) }
+    ensures count { facts.new.count ≤ facts.old.count + 1 }
+{
+    if !is_noted(apart, n) {
+        facts.push(same_slot(n));
+    }
+}
+
+/// Adds it of each slot of which nothing else is noted.
 fn add_same(facts: &mut FactList, apart: &[bool])
     requires { facts.old.count ≤ 96 }
     ensures facts { facts_in facts.new ≡ facts_in facts.old ++ slot_facts same_slot (λ n. not (is_noted apart.now n)) frame_slots }
@@ -117,9 +137,7 @@ fn add_same(facts: &mut FactList, apart: &[bool])
     let mut left = SLOTS as u8;
     'slots: while left > 0 {
         left -= 1;
-        if !is_noted(apart, left) {
-            facts.push(same_slot(left));
-        }
+        add_common(facts, apart, left);
     }
 }
 
