@@ -105,7 +105,7 @@ fn term_of(words: &mut SplitWhitespace<'_>) -> Option<Term> {
 }
 
 /// The next fact or counter is put in the first place that is left.
-struct Places {
+struct NextPlaces {
     facts: usize,
     counters: usize,
 }
@@ -149,7 +149,7 @@ fn note_of(words: &mut SplitWhitespace<'_>) -> Note {
         facts: [NOTHING; FACTS],
         counters: [None; COUNTERS],
     };
-    let mut places = Places {
+    let mut places = NextPlaces {
         facts: 0,
         counters: 0,
     };
