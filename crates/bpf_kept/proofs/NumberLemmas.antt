@@ -1,6 +1,6 @@
 -- Numbers of the rules, as the code has them.
-use Rattle.std.proofs.Common.{◌≡◌, ℕ, ◌<◌, ◌^◌, Some, arith}
-use Rattle.std.specs.Prelude.{ℤ, pos, negsuc, ◌+ℤ◌, ◌-ℤ◌, ◌≤ℤ◌, FitsSigned}
+use Rattle.std.proofs.Common.{◌≡◌, ℕ, ◌<◌, ◌^◌, Option, Some, None, sym, arith}
+use Rattle.std.specs.Prelude.{ℤ, pos, negsuc, ◌+ℤ◌, ◌-ℤ◌, ◌≤ℤ◌, FitsSigned, IfSome}
 use Rattle.std.specs.Int.{w16, w64, w128}
 use Rattle.std.proofs.lemmas.Int.{ints}
 use Rattle.std.proofs.lemmas.Option.{none-some, same_Some}
@@ -52,3 +52,7 @@ first_is_low z b fits e =
     let h = near_16 z fits in
     let high = h.1 in
     few_bytes (z +ℤ pos 512) b (omega (arith, ints)) e
+
+pub is_low_if : (z : ℤ) (o : Option ℕ) → FitsSigned w16 z → o ≡ not_negative (z +ℤ pos 512) → IfSome o (λ b. b < 2 ^ 17)
+is_low_if z None fits e = tt
+is_low_if z (Some b) fits e = first_is_low z b fits (sym e)

@@ -1,7 +1,6 @@
 //! The slots of the own frame, and to which of them accesses go.
 
-ghost use Rattle.std.specs.Prelude.{◌≡◌, ◌<◌, ◌≤◌, ◌+ℤ◌, pos, IfSome};
-ghost use Rattle.bpf_insn.specs.Limits.{frame_bytes};
+ghost use Rattle.std.specs.Prelude.{◌≡◌, ◌<◌, ◌^◌, pos, IfSome};
 ghost use Rattle.bpf_insn.specs.Instruction.{not_negative};
 ghost use Rattle.bpf_kept_law.specs.Terms.{is_noted, frame_slots};
 ghost use Rattle.bpf_kept_law.specs.Slots.{frame_byte, slot_of, slot_at, is_beside, misses, from_byte, reaches, is_clear};
@@ -88,11 +87,20 @@ pub fn misses(left: u32, count: u8, old: Displaced, new: Displaced, n: u8) -> bo
     }
 }
 
+/// The same: it is a low number.
+#[tactic(auto, using(crate::proofs::NumberLemmas::is_low_if))]
+fn low_byte(off: i16) -> Option<u32>
+    ensures exact { result ≡ not_negative (frame_byte off) }
+    ensures below { IfSome result (λ b. b < 2 ^ 17) }
+{
+    first_byte(off)
+}
+
 /// To which bytes of the frame a store by r10 may go.
 fn from_byte(off: i16, count: u8) -> Option<Change>
     ensures { result ≡ from_byte (frame_byte off) count }
 {
-    let from = first_byte(off)?;
+    let from = low_byte(off)?;
     Some(Change::Stored {
         from,
         to: from + u32::from(count),
