@@ -1,0 +1,13 @@
+#!/bin/bash
+# bp.sh PROTO.rs OUT
+set -e
+cd /tmp/tw; T=/tmp/tw/t_$2; mkdir -p $T; sed -e '/use crate::bpf_insn/d' -e '/ProgramView::of/d' $1 > $T/proto.rs
+cat > $T/lib.rs <<'Y'
+#![allow(warnings)]
+pub mod proto;
+#[unsafe(no_mangle)] pub extern "C" fn bench_main(){ let a:std::vec::Vec<String>=std::env::args().collect(); let image=std::fs::read(&a[2]).unwrap(); proto::main(&a,&image); }
+Y
+RUSTC_BOOTSTRAP=1 nice -n 10 rustc --edition 2024 --crate-type lib -C opt-level=3 -C no-prepopulate-passes -C codegen-units=1 -C panic=abort -C target-cpu=x86-64-v2 -C relocation-model=pie --emit=llvm-ir -o $T/m.ll $T/lib.rs 2>&1 | grep -E '^error' -A8 | head -60 || true
+python3 irfix.py $T/m.ll $T/f.ll 2>$T/panics
+nice -n 10 /opt/rattle/toolchain/bin/clang --target=x86_64-unknown-linux-gnu -mllvm -no-trap-after-noreturn -ffunction-sections -fdata-sections -mllvm -trap-unreachable -mllvm -no-x86-call-frame-opt -mllvm -disable-machine-licm -mllvm -disable-postra-machine-licm -mllvm -sink-common-insts=false --no-default-config -Wno-everything -c -x ir $T/f.ll -o $T/f.o -fPIE -O3 $XF
+RUSTC_BOOTSTRAP=1 rustc --edition 2024 -C opt-level=1 -C panic=abort stub.rs -C link-arg=$T/f.o -C link-arg=-Wl,--gc-sections -o /tmp/tw/$2
