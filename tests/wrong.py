@@ -156,7 +156,7 @@ def goals_of(edit, ended):
         return [goal for goal in re.findall(r"`([^`]+)`", said.partition("did not prove")[2]) if any(f"(`{goal}`)" in it for it in notes)]
     if not said.startswith("not proved"):
         return []
-    place = re.compile(rf"(?:\./)?proofs/{edit.function.replace('::', '/')}/\w+\.antt:\d+:\d+: error: `([^`]+)`: (.*)")
+    place = re.compile(rf"(?:\./)?proofs/{re.escape(edit.function.replace('::', '/'))}/\w+\.antt:\d+:\d+: error: `([^`]+)`: (.*)")
     errors = [found for it in ended.lines for found in [place.match(it)] if found]
     return [found[1] for found in errors if not NAMES.search(re.sub(r"`[^`]*`", "", found[2]))]
 
@@ -277,7 +277,7 @@ def main():
     if faults:
         print("\n".join(faults))
         return 1
-    found = [it for it in good if it.name in asked.names or it.crate in asked.names or not asked.names and it.crate not in edits.BY_NAME]
+    found = [it for it in good if it.name in asked.names or it.crate in asked.names or not asked.names and (it.crate not in edits.BY_NAME or it.name in edits.STILL)]
     wants_libraries({it.crate for it in found}, asked.libraries)
     kept = [] if asked.anew or asked.sane else [it for it in found if (KEPT / key_of(it, asked.libraries)).is_file()]
     left = [it for it in found if it not in kept]

@@ -1,9 +1,8 @@
 //! The command `bpf`: a toolchain for eBPF programs that hosts can trust.
 #![tactic(auto)]
 
-use bpf_answers::Failure;
+use bpf_answers::{Cause, Failure, FilePlaces, LastFault, Noted};
 use bpf_command::{Progress, fail, respond};
-use bpf_places::{Cause, Fault, FilePlaces, Noted};
 use std::io::{ErrorKind, IsTerminal};
 use std::process::ExitCode;
 use std::rt::Env;
@@ -15,7 +14,7 @@ fn words_of(rt: &(impl Env + AllocGlobal)) -> io::Result<Vec<String>> {
 }
 
 fn main(rt: HostRuntime) -> ExitCode {
-    let fault = Fault::new();
+    let fault = LastFault::new();
     let mut out = Noted::new(rt.stdout(), &fault);
     let mut err = rt.stderr();
     let status = match words_of(&rt) {

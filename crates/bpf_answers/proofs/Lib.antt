@@ -1,8 +1,8 @@
+pub mod ReadingLemmas
 pub mod ToldLemmas
 pub mod LoadedLemmas
 pub mod TextLemmas
 pub mod MadeLemmas
 pub mod LinesLemmas
-pub mod HeldLemmas
 pub mod OpenedLemmas
 pub mod PiecesLemmas

@@ -6,24 +6,22 @@ ghost use Rattle.bpf_insn.specs.Written.{AppendsBeginning, Gathers};
 ghost use Rattle.bpf_answers.specs.Answer.{Says, is_written, status_of, status_of_run, text_of};
 ghost use Rattle.bpf_answers.specs.Told.{OutputFails};
 
-use crate::annotated::Annotated;
+use crate::annotated::CommentedListing;
 use crate::certified::Certification;
 use crate::counted::Counted;
 use crate::failure::{DONE, Failure, REFUSED};
 use crate::lines;
 use crate::pieces::{put_at, write_at};
 use crate::refusal::{write_refusal, write_refusal_at};
+use bpf_captures::CaptureRefusal;
 use bpf_cert::CertError;
+use bpf_changes::HardenError;
 use bpf_check::Refusal;
-use bpf_follows::Mismatch;
-use bpf_follows_law::Bounds;
-use bpf_follows_notes::NotesError;
-use bpf_harden_notes::HardenError;
-use bpf_infer_error::InferError;
+use bpf_follows::{Bounds, Mismatch, NotesError};
+use bpf_infer_base::InferError;
 use bpf_insn::written::Pending;
 use bpf_insn::{DecodeError, Groups, Program};
 use bpf_machine::Outcome;
-use bpf_pcap::CaptureRefusal;
 use bpf_refusals::{At, Letter, TOO_DEAR, Tells, Told, UNCERTIFIED};
 use bpf_text::TextError;
 use std::io::{self, Write};
@@ -88,7 +86,7 @@ pub enum Answer {
     /// The instructions of a program.
     Lists(Program),
     /// The same with comments.
-    Annotates(Annotated),
+    Annotates(CommentedListing),
     /// What was asked for was written at a name.
     Written,
     /// The same of a hardened image that is shown to keep the meaning of runs that leave so many bytes of each frame to r10, which nobody

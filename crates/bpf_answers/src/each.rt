@@ -10,13 +10,13 @@ ghost use Rattle.bpf_answers.specs.Each.{AnswersAt, FailsAt, IsPut, LeftAt, Line
 
 use crate::answer::Answer;
 use crate::context::ContextError;
+use crate::error::PlaceError;
 use crate::failure::{DONE, Failure};
-use crate::held::HeldLines;
+use crate::places::Places;
 use arrayvec::ArrayVec;
 use bpf_insn::MAX_CONTEXT;
 use bpf_insn::written::Pending;
-use bpf_lines::Stop;
-use bpf_places::{PlaceError, Places};
+use bpf_streams::{LineReader, LineStop};
 use std::io::{Read, Write};
 
 /// The greatest length of a line, which spells the longest context.
@@ -38,7 +38,7 @@ pub trait Runner {
 
 /// What is found of the next context.
 #[derive(Clone, Copy)]
-pub enum Turn {
+pub enum NextContext {
     /// It has so many bytes, which stand at the front of the buffer.
     Context(usize),
     /// There is none.
@@ -50,38 +50,38 @@ pub enum Turn {
 }
 
 /// Puts the context that a line spells at the front of the buffer.
-fn put_context(line: &[u8], buffer: &mut [u8]) -> Turn
+fn put_context(line: &[u8], buffer: &mut [u8]) -> NextContext
     requires short { length line.now ≤ max_line }
     requires room { length buffer.old ≡ max_context }
     ensures { Spelled line.now buffer.new result }
 {
     if line == b"none".as_slice() {
-        return Turn::Context(0);
+        return NextContext::Context(0);
     }
     let count = line.len() / 2;
     match hex::decode_to_slice(line, &mut buffer[..count]) {
-        Ok(()) => Turn::Context(count),
-        Err(_) => Turn::Refused(ContextError::BadHex),
+        Ok(()) => NextContext::Context(count),
+        Err(_) => NextContext::Refused(ContextError::BadHex),
     }
 }
 
 /// Takes the next line, and puts its context at the front of the buffer.
 fn next_context<R: Read + Drop>(
-    lines: &mut HeldLines<R>,
+    lines: &mut LineReader<R>,
     line: &mut ArrayVec<u8, MAX_LINE>,
     buffer: &mut [u8],
-) -> Turn
+) -> NextContext
     requires { length buffer.old ≡ max_context }
     ensures { Turns lines.old lines.new buffer.new result }
 {
     line.clear();
     let stop = lines.next_line(line);
     match stop {
-        Stop::Failed => Turn::Failed,
-        Stop::Long => Turn::Refused(ContextError::TooLong),
-        Stop::End if line.is_empty() => Turn::End,
-        Stop::End => put_context(line.as_slice(), buffer),
-        Stop::LineEnd => put_context(line.as_slice(), buffer),
+        LineStop::Failed => NextContext::Failed,
+        LineStop::Long => NextContext::Refused(ContextError::TooLong),
+        LineStop::End if line.is_empty() => NextContext::End,
+        LineStop::End => put_context(line.as_slice(), buffer),
+        LineStop::LineEnd => put_context(line.as_slice(), buffer),
     }
 }
 
@@ -119,7 +119,7 @@ fn send<'a, W: Write>(pending: &mut Pending, out: &mut W) -> Result<(), Failure<
 
 /// Prints the answers that wait, where the next line isn't there yet.
 fn send_before_a_read<'a, R: Read + Drop, W: Write>(
-    lines: &HeldLines<R>,
+    lines: &LineReader<R>,
     pending: &mut Pending,
     out: &mut W,
 ) -> Result<(), Failure<'a>>
@@ -135,7 +135,7 @@ fn send_before_a_read<'a, R: Read + Drop, W: Write>(
 
 /// Answers each context of the lines, until one is refused. Each answer is printed before a line is waited for.
 fn answer_lines<'a, R: Read + Drop, Q: Runner, W: Write>(
-    lines: &mut HeldLines<R>,
+    lines: &mut LineReader<R>,
     out: &mut W,
     runner: &Q,
     name: &'a str,
@@ -151,19 +151,19 @@ fn answer_lines<'a, R: Read + Drop, Q: Runner, W: Write>(
     'answers: for before in 0..u64::MAX {
         send_before_a_read(lines, &mut pending, out)?;
         match next_context(lines, &mut line, &mut buffer) {
-            Turn::Context(count) => {
+            NextContext::Context(count) => {
                 status = status.max(answer_context(&mut pending, out, runner, &buffer[..count])?);
             }
-            Turn::End => {
+            NextContext::End => {
                 send(&mut pending, out)?;
                 return Ok(status);
             }
-            Turn::Refused(error) => {
+            NextContext::Refused(error) => {
                 send(&mut pending, out)?;
                 let line = before + 1;
                 return Err(Failure::BadLine { error, line });
             }
-            Turn::Failed => {
+            NextContext::Failed => {
                 send(&mut pending, out)?;
                 return Err(Failure::CannotRead(name));
             }
@@ -192,6 +192,6 @@ pub fn answered<'a, P: Places, Q: Runner, W: Write>(
         Err(PlaceError::Refused) => return Err(Failure::CannotRead(name)),
         Err(PlaceError::Memory) => return Err(Failure::NoMemory),
     };
-    let mut lines = HeldLines::new(reader);
+    let mut lines = LineReader::new(reader);
     answer_lines(&mut lines, out, runner, name)
 }

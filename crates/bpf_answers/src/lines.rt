@@ -6,17 +6,17 @@ ghost use Rattle.bpf_insn.specs.Written.{AppendsBeginning, Gathers};
 ghost use Rattle.bpf_answers.specs.Answer.{capture_line, certified_line, follows_end, follows_line, groups_line, infer_refusal_line, no_context_line, padded_word, proved_end, run_line, text_of, text_refusal_line, work_line, yes_line};
 ghost use Rattle.bpf_answers.specs.declared.answer.Answer.TheVariants.{Yes};
 ghost use Rattle.bpf_text.specs.declared.error.TextError.TheVariants.{Program as InProgram};
-ghost use Rattle.bpf_infer_error.specs.declared.error.InferError.TheVariants.{Fault as NoState};
+ghost use Rattle.bpf_infer_base.specs.declared.error.InferError.TheVariants.{Fault as NoState};
 
 use crate::certified::{Certification, Rewriting};
 use crate::counted::Counted;
 use crate::pieces::{put_pieces, write_at, write_pieces};
-use bpf_follows_law::Bounds;
-use bpf_infer_error::{Condition, InferError};
+use bpf_captures::CaptureRefusal;
+use bpf_follows::Bounds;
+use bpf_infer_base::{ForeseenCondition, InferError};
 use bpf_insn::written::{Pending, write_bytes};
 use bpf_insn::{BuildError, Groups};
 use bpf_machine::Outcome;
-use bpf_pcap::CaptureRefusal;
 use bpf_text::TextError;
 use itoa::Buffer;
 use std::io::{self, Write};
@@ -131,7 +131,7 @@ pub fn write_text_refusal<W: Write>(out: &mut W, error: TextError) -> io::Result
 }
 
 /// `no I4 (C5) at slot 0`.
-fn write_no_state<W: Write>(out: &mut W, slot: u32, condition: Condition) -> io::Result<()>
+fn write_no_state<W: Write>(out: &mut W, slot: u32, condition: ForeseenCondition) -> io::Result<()>
     ensures ok { OnOk result (Appends (W.contents out.old) (W.contents out.new) (infer_refusal_line (NoState slot condition))) }
     ensures err { OnErr result (AppendsBeginning (W.contents out.old) (W.contents out.new) (infer_refusal_line (NoState slot condition))) }
 {

@@ -1,25 +1,25 @@
 //! The words of the command line as a terminal is shown them: their control characters by their bytes.
 
-use bpf_escape::{Escaped, write_escaped};
 use bpf_request::request_of;
+use bpf_streams::{Escaped, write_escaped};
 use clap::Error;
 use std::alloc::Global;
 use std::io::{self, Write};
 
 /// A writer in front of another one, which writes what is to be one line.
 #[derive(Drop)]
-pub struct Line<'a, W: Write> {
+pub struct OneLine<'a, W: Write> {
     out: &'a mut W,
 }
 
-impl<'a, W: Write> Line<'a, W> {
+impl<'a, W: Write> OneLine<'a, W> {
     /// In front of a writer.
     pub fn new(out: &'a mut W) -> Self {
-        Line { out }
+        OneLine { out }
     }
 }
 
-impl<'a, W: Write> Write for Line<'a, W> {
+impl<'a, W: Write> Write for OneLine<'a, W> {
     fn write(&mut self, buf: &[u8]) -> io::Result<usize> {
         write_escaped(self.out, buf, false)?;
         Ok(buf.len())

@@ -8,7 +8,7 @@ use Rattle.bpf_text.specs.declared.annotated.Notes.{Notes}
 use Rattle.bpf_text.specs.declared.annotated.Notes.TheVariants.{Slots, Bytes, Both}
 use Rattle.bpf_text.specs.declared.error.TextError.TheVariants.{Memory as NoRoom}
 use Rattle.bpf_machine.specs.Answers.{IsRun}
-use Rattle.bpf_sound.specs.Describes.{LengthWithin}
+use Rattle.bpf_safety.specs.Describes.{LengthWithin}
 use Rattle.bpf_cert.specs.View.{CertificateView}
 use Rattle.bpf_cert.specs.Spelling.{certificate_text}
 use Rattle.bpf_cert.specs.declared.error.CertError.TheVariants.{Memory as NoCopy}
@@ -21,16 +21,16 @@ use Rattle.bpf_answers.specs.Context.{context_in}
 use Rattle.bpf_answers.specs.declared.context.ContextError.{ContextError}
 use Rattle.bpf_answers.specs.declared.context.ContextError.TheVariants.{Memory as NoSpace}
 use Rattle.bpf_request.specs.declared.asking.Assembling.{Assembling}
-use Rattle.bpf_places.specs.Opened.{Opening}
+use Rattle.bpf_answers.specs.Opened.{Opening}
 use Rattle.bpf_answers.specs.Loaded.{ImageRefused, LoadsImage, ImageFails, ShortTextAt, TextFails, CertificateAt, CertificateRefused, CertificateUnread, CertificateFails, Tried}
-use Rattle.bpf_places.specs.Made.{Making}
+use Rattle.bpf_answers.specs.Made.{Making}
 use Rattle.bpf_answers.specs.declared.answer.Answer.{Answer}
 use Rattle.bpf_answers.specs.declared.answer.Answer.TheVariants.{Yes, NoImage, NoText, NoCertificate, NotCertified, NoContext, Ends, Ran, Occur, Lists, Annotates, Written}
 use Rattle.bpf_answers.specs.Told.{OutputFails}
 use Rattle.bpf_answers.specs.declared.failure.Failure.{Failure}
 use Rattle.bpf_answers.specs.declared.failure.Failure.TheVariants.{CannotRead, CannotWrite, NoMemory, BadContext}
-use Rattle.bpf_command_core.specs.declared.judged.Wish.{Wish}
-use Rattle.bpf_command_core.specs.declared.judged.Wish.TheVariants.{Promise, Run}
+use Rattle.bpf_command_core.specs.declared.judged.WantedOfChecked.{WantedOfChecked}
+use Rattle.bpf_command_core.specs.declared.judged.WantedOfChecked.TheVariants.{Promise, Run}
 
 -- ---- contexts
 
@@ -112,7 +112,7 @@ ResultSays context k (NoContext count least most) =
     (count ≡ length context) × (least ≡ k.certificate.least) × (most ≡ k.certificate.most) × (LengthWithin least most context → ⊥)
 ResultSays context k answer = ⊥
 
-abbrev pub WishSays : Wish → CheckedProgram → Answer → Type 0
+abbrev pub WishSays : WantedOfChecked → CheckedProgram → Answer → Type 0
 WishSays (Promise counted) k answer = YesSays counted k answer
 WishSays (Run context) k answer = ResultSays context.now k answer
 

@@ -2,12 +2,13 @@
 
 ghost use Rattle.std.specs.Prelude.{◌≡◌, ◌<◌};
 ghost use Rattle.bpf_insn.specs.Instruction.{register_number};
-ghost use Rattle.bpf_follows_law.specs.Relation.{places, natural_top, known};
-ghost use Rattle.bpf_follows_law.specs.Numbers.{bounded, number_of, bounds_of, is_bounded, is_numeric, read_number, operand_number, left_number, alu_number, is_number_test, loaded_number, alu_kind, number_kind, told_by, may_answer, is_operand, told};
+ghost use Rattle.bpf_follows.specs.Relation.{places, natural_top, known};
+ghost use Rattle.bpf_follows.specs.Numbers.{bounded, number_of, bounds_of, is_bounded, is_numeric, read_number, operand_number, left_number, alu_number, is_number_test, loaded_number, alu_kind, number_kind, told_by, may_answer, is_operand, told};
 
 use crate::inner::inner_made;
 use crate::kinds::{known, known_in};
-use bpf_follows_law::{Kind, Site};
+use crate::notes::Kind;
+use crate::site::Site;
 use bpf_insn::{AluOp, Cond, Insn, Operand, Reg, Size, Width, extended};
 use bpf_num::{KnownBits, Num, Signed, Unsigned, WordDomain};
 
@@ -184,7 +185,7 @@ pub fn number_kind(site: &Site) -> Kind
 
 /// A test, on the edge where it holds (`taken`) or fails.
 #[derive(Clone, Copy)]
-pub(crate) struct Test {
+pub(crate) struct EdgeTest {
     pub(crate) cond: Cond,
     pub(crate) width: Width,
     pub(crate) taken: bool,
@@ -203,7 +204,7 @@ fn is_number_test(width: Width, cond: Cond, src: Operand) -> bool
 }
 
 /// The numbers of both operands.
-fn told_by(site: &Site, test: Test) -> Option<(Num, Num)>
+fn told_by(site: &Site, test: EdgeTest) -> Option<(Num, Num)>
     ensures { result ≡ told_by (known site.now.slot site.now.kinds) test.cond test.width test.taken test.dst test.src }
 {
     let numeric = is_number_test(test.width, test.cond, test.src);
@@ -213,7 +214,7 @@ fn told_by(site: &Site, test: Test) -> Option<(Num, Num)>
 }
 
 /// Whether numbers between the bounds of both operands may answer so.
-pub(crate) fn may_answer(site: &Site, test: Test) -> bool
+pub(crate) fn may_answer(site: &Site, test: EdgeTest) -> bool
     ensures { result ≡ may_answer (known site.now.slot site.now.kinds) test.cond test.width test.taken test.dst test.src }
 {
     let Some(b) = operand_number(site, false, test.src) else {
@@ -251,7 +252,7 @@ pub fn told(site: &Site, taken: bool, r: u8) -> Kind
     else {
         return kind;
     };
-    let test = Test {
+    let test = EdgeTest {
         cond,
         width,
         taken,

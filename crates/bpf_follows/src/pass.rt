@@ -2,21 +2,22 @@
 //! are a simulation relation (Milner), and the law says what that means for runs.
 
 ghost use Rattle.std.specs.Prelude.{◌≡◌, ◌↔◌, ℕ, IsOk, IfErr, IsTrue};
-ghost use Rattle.bpf_follows_law.specs.Meaning.{KeepsMeaning};
-ghost use Rattle.bpf_follows_law.specs.Matching.{StandsAt, Matches};
+ghost use Rattle.bpf_follows.specs.Meaning.{KeepsMeaning};
+ghost use Rattle.bpf_follows.specs.Matching.{StandsAt, Matches};
 ghost use Rattle.bpf_follows.specs.Mismatches.{IsMismatch, IsAt, IsLowest};
 
 use crate::edges::starts;
+use crate::laws::matching_keeps_meaning;
 use crate::mismatch::Mismatch;
+use crate::notes::{Bounds, Counterpart};
 use crate::stands::stands_at;
-use bpf_follows_law::{Bounds, Place, matching_keeps_meaning};
 use bpf_insn::{Code, Order};
 
 /// Whether what the notes say of each old slot holds. The lowest slot where it doesn't is told.
 fn all_stand<O: Code, N: Code>(
     old: &O,
     new: &N,
-    notes: &[Option<Place>],
+    notes: &[Option<Counterpart>],
     bounds: Bounds,
 ) -> Result<(), Mismatch>
     ensures exact { IsOk result ↔ ((slot : ℕ) → StandsAt (O.program old.now) (N.program new.now) notes.now bounds slot) }
@@ -42,7 +43,7 @@ fn same_order(a: Order, b: Order) -> bool
 fn matches<O: Code, N: Code>(
     old: &O,
     new: &N,
-    notes: &[Option<Place>],
+    notes: &[Option<Counterpart>],
     bounds: Bounds,
 ) -> Result<(), Mismatch>
     ensures exact { IsOk result ↔ Matches (O.program old.now) (N.program new.now) notes.now bounds }
@@ -64,7 +65,7 @@ fn matches<O: Code, N: Code>(
 pub fn follows<O: Code, N: Code>(
     old: &O,
     new: &N,
-    notes: &[Option<Place>],
+    notes: &[Option<Counterpart>],
     bounds: Bounds,
 ) -> Result<(), Mismatch>
     ensures keeps { IsOk result → KeepsMeaning (O.program old.now) (N.program new.now) bounds }

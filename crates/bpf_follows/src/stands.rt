@@ -4,8 +4,8 @@ ghost use Rattle.bpf_insn.specs.Limits.{max_slots};
 ghost use Rattle.std.specs.Prelude.{◌≡◌, ◌<◌, ◌↔◌, IsOk, IsTrue, Some, IfOk, IfErr};
 ghost use Rattle.bpf_insn.specs.Instruction.{insn_at};
 ghost use Rattle.bpf_insn.specs.declared.instruction.Insn.{Insn};
-ghost use Rattle.bpf_follows_law.specs.declared.site.Site.{Site};
-ghost use Rattle.bpf_follows_law.specs.Matching.{front_at, Falls, Leads, IsSite, StandsAt};
+ghost use Rattle.bpf_follows.specs.declared.site.Site.{Site};
+ghost use Rattle.bpf_follows.specs.Matching.{front_at, Falls, Leads, IsSite, StandsAt};
 ghost use Rattle.bpf_follows.specs.Mismatches.{IsNoSite, FailsAt};
 
 use crate::ahead::{span_behind, spans_ahead};
@@ -14,11 +14,12 @@ use crate::exact::{may_fall, may_lead};
 use crate::extras::extras;
 use crate::kinds::{all_called, is_call, place_at};
 use crate::mismatch::Fault;
+use crate::notes::{Bounds, Counterpart};
 use crate::pairs::pairs;
 use crate::returned::{gives_back, led};
+use crate::site::{Front, Site};
 use crate::stuck::is_stuck;
 use crate::tame::is_lone;
-use bpf_follows_law::{Bounds, Front, Place, Site};
 use bpf_insn::{Code, Insn};
 
 /// Whether a program has the slot.
@@ -30,7 +31,7 @@ fn is_inside<C: Code>(code: &C, slot: u32) -> bool
 }
 
 /// What stands for the instruction of a place, if all in front of it is known.
-fn site_of<N: Code>(new: &N, place: &Place, front: Front) -> Result<Site, Fault>
+fn site_of<N: Code>(new: &N, place: &Counterpart, front: Front) -> Result<Site, Fault>
     ensures ok { IfOk result (λ site. IsSite (N.program new.now) place.now front site × (site.new_slot < max_slots)) }
     ensures err { IfErr result (λ fault. (site : Site) → IsSite (N.program new.now) place.now front site → ⊥) }
     ensures why { IfErr result (IsNoSite (N.program new.now) place.now front) }
@@ -58,7 +59,7 @@ fn site_of<N: Code>(new: &N, place: &Place, front: Front) -> Result<Site, Fault>
 }
 
 /// Whether the next instruction, where it may follow, stands behind.
-fn falls(notes: &[Option<Place>], bounds: Bounds, site: &Site) -> bool
+fn falls(notes: &[Option<Counterpart>], bounds: Bounds, site: &Site) -> bool
     requires below { site.now.slot < max_slots }
     requires new_below { site.now.new_slot < max_slots }
     ensures { IsTrue result ↔ Falls notes.now bounds site.now }
@@ -76,7 +77,7 @@ fn falls(notes: &[Option<Place>], bounds: Bounds, site: &Site) -> bool
 }
 
 /// Whether the new instruction leads where the notes say, if the old one leads to a slot.
-fn leads<N: Code>(new: &N, notes: &[Option<Place>], bounds: Bounds, site: &Site) -> bool
+fn leads<N: Code>(new: &N, notes: &[Option<Counterpart>], bounds: Bounds, site: &Site) -> bool
     requires below { site.now.slot < max_slots }
     requires new_below { site.now.new_slot < max_slots }
     ensures { IsTrue result ↔ Leads notes.now (N.program new.now) bounds site.now }
@@ -122,7 +123,7 @@ fn front_at<O: Code>(old: &O, bounds: Bounds, slot: u32, insn: Insn) -> Front
 pub fn stands_at<O: Code, N: Code>(
     old: &O,
     new: &N,
-    notes: &[Option<Place>],
+    notes: &[Option<Counterpart>],
     bounds: Bounds,
     slot: u32,
 ) -> Result<(), Fault>

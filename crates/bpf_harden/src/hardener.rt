@@ -1,15 +1,15 @@
-//! Hardened programs.
+//! Hardened programs: what comes out as it is, and what goes through rounds.
 
 ghost use Rattle.std.specs.Prelude.{◌<◌, ◌≤◌, IfOk, IfErr};
 ghost use Rattle.bpf_insn.specs.Instruction.{slots};
 ghost use Rattle.bpf_insn.specs.Limits.{max_context};
-ghost use Rattle.bpf_harden_notes.specs.RefusalNumbers.{harden_slot};
+ghost use Rattle.bpf_changes.specs.RefusalNumbers.{harden_slot};
 
-use crate::judge::{Verdict, verdict_of};
+use crate::judge::{LoopVerdict, verdict_of};
 use crate::rounds::{certified, guard_all, guarded_everywhere};
 use bpf_cert::Certificate;
-use bpf_harden_notes::{HardenError, Hardened, Options};
-use bpf_harden_plan::{Old, Plan};
+use bpf_changes::{HardenError, Hardened, Options};
+use bpf_harden_text::{Old, Plan};
 use bpf_infer::infer;
 use bpf_infer_base::{DEEP_WORK, Meter, Quest, Task, Unwatched, Watch};
 use bpf_insn::{Code, Program};
@@ -63,8 +63,8 @@ fn found_for<W: Watch>(
 {
     let draft = old.survey.draft.take();
     match verdict_of(Task::whole(alloc, quest, &old.cfg), draft, meter)? {
-        Verdict::Yes(certificate) => Ok(Some(certificate)),
-        Verdict::Faults | Verdict::Uncounted(_) | Verdict::TooGreat => Ok(None),
+        LoopVerdict::Yes(certificate) => Ok(Some(certificate)),
+        LoopVerdict::Faults | LoopVerdict::Uncounted(_) | LoopVerdict::TooGreat => Ok(None),
     }
 }
 
@@ -81,6 +81,8 @@ pub fn lengths(length: u32, options: &Options) -> Result<(u32, u32), HardenError
     }
 }
 
+/// What hardening answers. A program comes out unchanged if a certificate is found for it as it stands; else a plan is
+/// made, and mended in rounds. Programs for blocks always get a plan, and so do those whose guards are forced.
 fn hardened(
     alloc: Global,
     program: &Program,

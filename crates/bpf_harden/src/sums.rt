@@ -1,7 +1,7 @@
-//! Where the base of an access gets its offset: by a sum in front of it, of what is always the same and a number that isn't.
+//! Where the base of an access gets its offset: by a sum in front of it, of a constant and a number that varies.
 
 use crate::mend::Mender;
-use bpf_harden_plan::{Early, Kind, Plan, Span};
+use bpf_harden_text::{ByteSpan, Early, Plan, RegisterKind};
 use bpf_insn::{AluOp, FRAME_BYTES, Insn, Operand, Reg, Width};
 
 /// How many instructions may lie between a sum and the access.
@@ -12,21 +12,21 @@ const MOST_OFFSET: u64 = 8192;
 
 /// An access that is to be guarded, and what of it is tested.
 #[derive(Clone, Copy)]
-pub struct Sums<'a> {
+pub struct GuardedSum<'a> {
     pub mender: Mender<'a>,
     pub access: u32,
     pub base: Reg,
-    pub span: Span,
+    pub span: ByteSpan,
 }
 
-impl<'a> Sums<'a> {
+impl<'a> GuardedSum<'a> {
     /// The early test of the access, and the slot of the sum in front of which it stands, if what is added tells as much as the
     /// sum: then a loop may be counted by it. Nothing leads out of the way from there to the access.
     pub fn early(&self, plan: &Plan) -> Option<(u32, Early)> {
         if plan.options.padded {
             return None;
         }
-        let slot = self.sum()?;
+        let slot = self.written(self.access, self.base)?;
         let register = self.added(slot)?;
         let before = self.mender.held(slot, self.base).number()?.unsigned();
         let added = self.mender.held(slot, register).number()?.unsigned();
@@ -40,6 +40,11 @@ impl<'a> Sums<'a> {
         if !can_lie || plan.at(slot).early.is_some() || added.hi() > u64::MAX - first {
             return None;
         }
+        // Where the region's first byte lies below the sum's, notes have to tell that the number isn't below 0.
+        let is_told = added.hi() <= i64::MAX as u64 || first <= self.first_in_frame();
+        if !is_told || first > 0 && self.is_untold(slot, register) {
+            return None;
+        }
         Some((
             slot,
             Early {
@@ -50,24 +55,57 @@ impl<'a> Sums<'a> {
         ))
     }
 
-    /// The offset at which the region ends.
-    fn end(&self, plan: &Plan) -> i64 {
+    /// The first byte of the frame that the function reaches by other registers than r10, if the access goes to that.
+    fn first_in_frame(&self) -> u64 {
+        let function = self.mender.old.function(self.access);
+        let reach = u64::from(self.mender.trial.rooms.room(function).reach);
         match self.mender.old.kind(self.access, self.base) {
-            Kind::Frame => FRAME_BYTES as i64,
-            Kind::Context | Kind::Number | Kind::Unknown => i64::from(plan.length),
+            RegisterKind::Frame => (FRAME_BYTES as u64).saturating_sub(reach),
+            RegisterKind::Context | RegisterKind::Number | RegisterKind::Unknown => u64::MAX,
         }
     }
 
-    /// The slot of the instruction that wrote the base last.
-    fn sum(&self) -> Option<u32> {
-        let mut slot = self.access;
+    /// The offset at which the region ends.
+    fn end(&self, plan: &Plan) -> i64 {
+        match self.mender.old.kind(self.access, self.base) {
+            RegisterKind::Frame => FRAME_BYTES as i64,
+            RegisterKind::Context | RegisterKind::Number | RegisterKind::Unknown => i64::from(
+                plan.length,
+            ),
+        }
+    }
+
+    /// The slot of the instruction that wrote a register last in front of another one.
+    fn written(&self, behind: u32, r: Reg) -> Option<u32> {
+        let mut slot = behind;
         for _ in 0..FARTHEST {
             slot = self.mender.old.preceding(slot)?;
-            if self.mender.old.kept(slot)?.register_written() == Some(self.base) {
+            if self.mender.old.kept(slot)?.register_written() == Some(r) {
                 return Some(slot);
             }
         }
         None
+    }
+
+    /// Whether an instruction wrote a register last of whose number notes tell nothing.
+    fn is_untold(&self, behind: u32, r: Reg) -> bool {
+        let insn = self
+            .written(behind, r)
+            .and_then(|slot| self.mender.old.kept(slot));
+        matches!(
+            insn,
+            Some(Insn::MovSx { .. } | Insn::LoadSx { .. } | Insn::End { .. })
+        )
+    }
+
+    /// Whether the sum adds a number of which notes tell nothing.
+    pub fn adds_untold(&self) -> bool {
+        let sum = self.written(self.access, self.base);
+        let Some(slot) = sum else {
+            return false;
+        };
+        self.added(slot)
+            .is_some_and(|register| self.is_untold(slot, register))
     }
 
     /// The register that is added to the base at a slot.

@@ -8,6 +8,7 @@ mod extra;
 mod facts;
 mod places;
 mod returns;
+mod search;
 
 pub use evidence::{Evidence, evidence_for, evidence_of};
 pub use places::places_of;

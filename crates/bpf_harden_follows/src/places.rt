@@ -1,13 +1,15 @@
 //! The places of a hardened program, by the slots of the old one: an abstract interpretation of both, with widening (Cousot and Cousot,
 //! 1977). The lowest slot is looked at first, so that a loop is settled before what stands behind it.
 
-use crate::behind::{Frames, step};
+use crate::behind::{UntouchedFrames, step};
 use crate::extra::{pass, taken, tested};
 use crate::facts::Facts;
 use crate::returns::Returns;
-use bpf_follows::{is_far, is_homed, is_stuck, may_fall, may_lead};
-use bpf_follows_law::{Bounds, Kind, PLACES, Place, Site};
-use bpf_harden_notes::{Change, Hardened};
+use crate::search::{MOST_LOOKS, NotesSearch, PATIENCE, stops_of};
+use bpf_changes::{Change, Hardened};
+use bpf_follows::{
+    Bounds, Counterpart, Kind, PLACES, Site, is_far, is_homed, is_stuck, may_fall, may_lead,
+};
 use bpf_infer_base::{Call, SlotSet, calls_of, get_or, held, put};
 use bpf_insn::{AluOp, Insn, MAX_SLOTS, Operand, Program, Reg, Width, target};
 use std::alloc::{AllocError, Global};
@@ -15,22 +17,8 @@ use std::alloc::{AllocError, Global};
 /// The most instructions that are looked at in front of an old one.
 const MOST_EXTRA: u32 = 128;
 
-/// How often each slot is looked at, in the mean. What isn't stable by then isn't shown.
-const LOOKS: u32 = 96;
-
-/// How many slots are looked at at most, in all searches for one program's notes together.
-pub(crate) const MOST_LOOKS: u32 = 4_000_000;
-
 /// How often calls of which no EXIT is found are taken to give back anything.
 const ROUNDS: u32 = 96;
-
-/// How often bounds grow at a slot before they grow at once, and before they pass by what the old program compares with.
-const PATIENCE: u32 = 3;
-
-const MORE_PATIENCE: u32 = 12;
-
-/// How many numbers that the old program compares with are looked at.
-const MOST_STOPS: usize = 64;
 
 /// Both programs, and what is found so far.
 #[derive(Drop)]
@@ -47,9 +35,8 @@ struct Finder<'a> {
     waiting: SlotSet,
     /// How many slots may still be looked at.
     looks: u32,
-    /// The bytes of a context.
-    length: u32,
-    frames: Frames,
+    search: NotesSearch,
+    frames: UntouchedFrames,
     /// By old slots, how often that was changed.
     times: Vec<u32>,
     /// What the functions give back.
@@ -76,42 +63,14 @@ fn takes_from(insn: &Insn, r: Reg) -> bool {
     *insn == take
 }
 
-/// The numbers that tests of a program compare with, and those next to them.
-fn stops_of(alloc: Global, old: &Program) -> Result<Vec<u32>, AllocError> {
-    let mut stops = Vec::new(alloc);
-    for slot in 0..old.slots() {
-        if let Some(
-            Insn::JumpIf {
-                src: Operand::Imm(imm),
-                ..
-            },
-        ) = old.at(slot)
-        {
-            if let Ok(stop) = u32::try_from(*imm) {
-                put_stop(&mut stops, stop.saturating_sub(1))?;
-                put_stop(&mut stops, stop)?;
-            }
-        }
-    }
-    Ok(stops)
-}
-
-/// Puts a number to others, if it is a new one, and they aren't too many.
-fn put_stop(stops: &mut Vec<u32>, stop: u32) -> Result<(), AllocError> {
-    if stops.len() < MOST_STOPS && !stops.contains(&stop) {
-        stops.push(stop)?;
-    }
-    Ok(())
-}
-
 impl<'a> Finder<'a> {
     /// Nothing is found, and so many slots may be looked at.
     fn new(
         alloc: Global,
         old: &'a Program,
         new: &'a Hardened,
-        length: u32,
-        frames: Frames,
+        search: NotesSearch,
+        frames: UntouchedFrames,
         left: u32,
     ) -> Result<Finder<'a>, AllocError> {
         let mut changes = vec![in alloc; None; new.program.slots() as usize]?;
@@ -129,12 +88,12 @@ impl<'a> Finder<'a> {
             entries,
             facts: vec![in alloc; None; old.slots() as usize]?,
             waiting: SlotSet::none(),
-            looks: old.slots().saturating_mul(LOOKS).min(left),
-            length,
+            looks: old.slots().saturating_mul(search.looks()).min(left),
+            search,
             frames,
             times: vec![in alloc; 0; old.slots() as usize]?,
             returns: Returns::new(alloc, old.slots())?,
-            stops: stops_of(alloc, old)?,
+            stops: stops_of(alloc, old, search)?,
             calls: calls_of(alloc, old)?,
         })
     }
@@ -203,10 +162,18 @@ impl<'a> Finder<'a> {
         facts
     }
 
+    /// Whether it is this that was done at a new slot.
+    fn is_done(&self, slot: u32, change: Change) -> bool {
+        get_or(&self.changes, slot as usize, None) == Some(change)
+    }
+
     /// The place from which a turn is taken in front of an old slot.
     fn counter(&self, old: u32) -> Option<usize> {
-        let first = get_or(&self.new.slots, old as usize, None)?;
-        if get_or(&self.changes, first as usize, None) != Some(Change::Turn) {
+        let mut first = get_or(&self.new.slots, old as usize, None)?;
+        if self.is_done(first, Change::Save) {
+            first = self.behind(first);
+        }
+        if !self.is_done(first, Change::Turn) {
             return None;
         }
         let begin = self.new.program.at(first)?;
@@ -229,7 +196,7 @@ impl<'a> Finder<'a> {
     fn stops_at(&self, times: u32, is_back: bool) -> Option<&[u32]> {
         if !is_back || times <= PATIENCE {
             None
-        } else if times <= MORE_PATIENCE {
+        } else if times <= self.search.patience() {
             Some(&self.stops)
         } else {
             Some(&[])
@@ -331,7 +298,7 @@ impl<'a> Finder<'a> {
     /// The old instruction at a slot, if the old program isn't surely stuck there, what stands for it, and what holds in front of both.
     fn site(&self, slot: u32, facts: &Facts) -> Option<Site> {
         let insn = *self.old.at(slot)?;
-        if is_stuck(self.length, &facts.kinds, &insn) {
+        if is_stuck(self.search.bounds.length, &facts.kinds, &insn) {
             return None;
         }
         let first = self.first(slot)?;
@@ -389,12 +356,12 @@ impl<'a> Finder<'a> {
     }
 
     /// What stands for an old slot, if a way leads there.
-    fn place(&self, slot: u32) -> Option<Place> {
+    fn place(&self, slot: u32) -> Option<Counterpart> {
         let mut facts = get_or(&self.facts, slot as usize, None)?;
         if let Some(Kind::Number { least, most }) = self.returns.of(slot) {
             facts.set(Reg::R10, Kind::Returns { least, most });
         }
-        Some(Place {
+        Some(Counterpart {
             entry: self.entry(slot)?,
             first: self.first(slot)?,
             body: self.body(slot)?,
@@ -403,7 +370,7 @@ impl<'a> Finder<'a> {
     }
 
     /// Where a program falls behind its last instruction, which has nothing there.
-    fn beyond(&self) -> Option<Place> {
+    fn beyond(&self) -> Option<Counterpart> {
         let mut last = None;
         for slot in 0..self.old.slots() {
             if let Some(insn) = self.old.at(slot) {
@@ -414,7 +381,7 @@ impl<'a> Finder<'a> {
         let behind = self.behind(place.body);
         let mut kinds = [Kind::Nothing; PLACES];
         kinds[Reg::R10 as usize] = place.kinds[Reg::R10 as usize];
-        Some(Place {
+        Some(Counterpart {
             entry: behind,
             first: behind,
             body: behind,
@@ -428,16 +395,17 @@ fn found<'a>(
     alloc: Global,
     old: &'a Program,
     new: &'a Hardened,
-    bounds: Bounds,
+    search: NotesSearch,
     are_alone: bool,
     left: &mut u32,
 ) -> Result<Finder<'a>, AllocError> {
+    let bounds = search.bounds;
     let untouched = bounds.untouched;
-    let frames = Frames {
+    let frames = UntouchedFrames {
         are_alone,
         untouched,
     };
-    let mut finder = Finder::new(alloc, old, new, bounds.length, frames, *left)?;
+    let mut finder = Finder::new(alloc, old, new, search, frames, *left)?;
     let most = finder.looks;
     finder.enter(0, &Facts::start(bounds, are_alone));
     for _ in 0..ROUNDS {
@@ -456,12 +424,12 @@ pub(crate) fn places_within(
     alloc: Global,
     old: &Program,
     new: &Hardened,
-    bounds: Bounds,
+    search: NotesSearch,
     left: &mut u32,
-) -> Result<Vec<Option<Place>>, AllocError> {
-    let mut finder = found(alloc, old, new, bounds, true, left)?;
+) -> Result<Vec<Option<Counterpart>>, AllocError> {
+    let mut finder = found(alloc, old, new, search, true, left)?;
     if finder.is_reaching() {
-        finder = found(alloc, old, new, bounds, false, left)?;
+        finder = found(alloc, old, new, search, false, left)?;
     }
     let mut places = Vec::new(alloc);
     for slot in 0..old.slots() {
@@ -481,7 +449,11 @@ pub fn places_of(
     old: &Program,
     new: &Hardened,
     bounds: Bounds,
-) -> Result<Vec<Option<Place>>, AllocError> {
+) -> Result<Vec<Option<Counterpart>>, AllocError> {
+    let search = NotesSearch {
+        bounds,
+        is_patient: false,
+    };
     let mut left = MOST_LOOKS;
-    places_within(alloc, old, new, bounds, &mut left)
+    places_within(alloc, old, new, search, &mut left)
 }

@@ -2,15 +2,16 @@
 
 use crate::parts::{add_constant, constant, copy, fetch, keep, keep_constant, load, set, skip_if};
 use crate::piece::Goal;
-use crate::writer::Writer;
-use bpf_harden_notes::{Change, HardenError};
-use bpf_harden_plan::{Room, Uses};
+use crate::rooms::Room;
+use crate::uses::FunctionUses;
+use crate::writer::TextWriter;
+use bpf_changes::{Change, HardenError};
 use bpf_infer_base::{get_or, put};
 use bpf_insn::{Cond, Insn, Operand, Reg};
 use bpf_state::Place;
 use std::alloc::AllocError;
 
-impl<'a> Writer<'a> {
+impl<'a> TextWriter<'a> {
     /// Puts what stands at the entry of a function.
     pub fn enter(&mut self, function: usize) -> Result<(), AllocError> {
         let uses = self.old.uses(function);
@@ -34,7 +35,7 @@ impl<'a> Writer<'a> {
     }
 
     /// Keeps the context's start, and the end of a block's packet, whose length is in r2, and makes r1 an offset.
-    fn enter_first(&mut self, uses: Uses) -> Result<(), AllocError> {
+    fn enter_first(&mut self, uses: FunctionUses) -> Result<(), AllocError> {
         if !self.plan.offsets {
             return Ok(());
         }
@@ -48,7 +49,7 @@ impl<'a> Writer<'a> {
     }
 
     /// Keeps the context's start that a function is handed, and the end of a block's packet, which it reads where it isn't handed that.
-    fn enter_called(&mut self, function: usize, uses: Uses) -> Result<(), AllocError> {
+    fn enter_called(&mut self, function: usize, uses: FunctionUses) -> Result<(), AllocError> {
         let room = self.rooms.room(function);
         let Some(handed) = room.handed else {
             return Ok(());
@@ -108,7 +109,7 @@ impl<'a> Writer<'a> {
     }
 
     /// Sets the counters of a function's loops.
-    fn set_turns(&mut self, function: usize, uses: Uses) -> Result<(), AllocError> {
+    fn set_turns(&mut self, function: usize, uses: FunctionUses) -> Result<(), AllocError> {
         let sharing = self.rooms.room(function).sharing;
         let each = i64::from(self.plan.options.turns);
         let turns = constant(each.saturating_mul(i64::from(sharing.max(1))));
@@ -123,8 +124,19 @@ impl<'a> Writer<'a> {
         Ok(())
     }
 
+    /// Sets the counter of the loop with this head anew, if it is the loop's own.
+    pub fn renew_turns(&mut self, slot: u32, head: u32) -> Result<(), AllocError> {
+        match self.rooms.own_counter(head) {
+            Some(counter) => {
+                let turns = constant(i64::from(self.plan.options.turns));
+                self.add(slot, keep_constant(counter, turns), Change::Turns)
+            }
+            None => Ok(()),
+        }
+    }
+
     /// Sets the bytes of the frame to zero that a function uses.
-    fn set_zeros(&mut self, uses: Uses, room: Room) -> Result<(), AllocError> {
+    fn set_zeros(&mut self, uses: FunctionUses, room: Room) -> Result<(), AllocError> {
         for number in 1..65u8 {
             if u32::from(number) <= room.frame / 8 {
                 let insn = keep_constant(Place::Slot(number), 0);

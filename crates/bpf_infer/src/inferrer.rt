@@ -3,20 +3,19 @@
 ghost use Rattle.std.specs.Prelude.{◌≡◌, ◌<◌, ◌≤◌, IfOk, IfErr};
 ghost use Rattle.bpf_insn.specs.Instruction.{slots};
 ghost use Rattle.bpf_insn.specs.Limits.{max_context};
-ghost use Rattle.bpf_infer_error.specs.RefusalNumbers.{infer_slot};
+ghost use Rattle.bpf_infer_base.specs.RefusalNumbers.{infer_slot};
 ghost use Rattle.bpf_cert.specs.Limits.{IsCertificate};
 
 use crate::deep::deep_proposal;
+use crate::plain::plain_proposal;
 use bpf_cert::Certificate;
-use bpf_infer_base::{Proposal, Quest, Stop, Unwatched, Watch};
-use bpf_infer_error::InferError;
-use bpf_infer_plain::plain_proposal;
+use bpf_infer_base::{InferError, Proposal, Quest, SearchStop, Unwatched, Watch};
 use bpf_insn::{Code, Program};
 use std::alloc::Global;
 
 /// A certificate for contexts of `least` to `most` bytes is wanted, and whether `search` is to look for it.
 #[derive(Clone, Copy)]
-pub struct Wanted {
+pub struct WantedCertificate {
     pub least: u32,
     pub most: u32,
     pub deep: bool,
@@ -80,7 +79,7 @@ pub fn search_or_stop<W: Watch>(
     least: u32,
     most: u32,
     watch: &mut W,
-) -> Result<Certificate, Stop>
+) -> Result<Certificate, SearchStop>
     requires order { least ≤ most }
     requires short { most ≤ max_context }
     ensures version { IfOk result (λ c. c.version ≡ 2) }
@@ -105,7 +104,7 @@ pub fn search_or_stop<W: Watch>(
         },
         Err(stop) => match plain {
             Ok(plain) => Ok(plain),
-            Err(_) => Err(Stop {
+            Err(_) => Err(SearchStop {
                 error: stop.error.within(Code::slots(program)),
                 sketch: stop.sketch,
             }),
@@ -144,7 +143,7 @@ pub fn search<W: Watch>(
 pub fn propose<W: Watch>(
     alloc: Global,
     program: &Program,
-    wanted: Wanted,
+    wanted: WantedCertificate,
     watch: &mut W,
 ) -> Result<Certificate, InferError>
     requires order { wanted.least ≤ wanted.most }
@@ -155,7 +154,7 @@ pub fn propose<W: Watch>(
     ensures certificate { IfOk result (λ c. IsCertificate c) }
     ensures slot { IfErr result (λ e. infer_slot e < slots program.now.list) }
 {
-    let Wanted { least, most, deep } = wanted;
+    let WantedCertificate { least, most, deep } = wanted;
     if deep {
         search(alloc, program, least, most, watch)
     } else {

@@ -1,12 +1,13 @@
 //! The calls of a program: how deep they go, and whether one leads back.
 
 use crate::blocks::Blocks;
-use crate::fault::Fault;
+use crate::condition::ForeseenCondition;
+use crate::error::InferError;
+use crate::fault::SlotFailure;
 use crate::flow::Flow;
 use crate::graph::{Arc, Components, Graph};
 use crate::lists::{get_or, put};
 use bpf_cert::MAX_DEPTH;
-use bpf_infer_error::{Condition, InferError};
 use bpf_insn::{Insn, Program};
 use std::alloc::{AllocError, Global};
 
@@ -114,8 +115,8 @@ pub fn check_bounds(program: &Program, functions: &Blocks) -> Result<(), InferEr
     for slot in 0..program.slots() {
         if let Some(insn) = program.at(slot) {
             if leaves_function(program, functions, slot, insn) {
-                let condition = Condition::LeavesFunction;
-                return Err(Fault { slot, condition }.refusal());
+                let condition = ForeseenCondition::LeavesFunction;
+                return Err(SlotFailure { slot, condition }.refusal());
             }
         }
     }

@@ -1,12 +1,14 @@
-//! What both searches for certificates, the plain and the deep one, go by: where instructions lead, the labels, blocks,
-//! functions and graphs of a program, the places that count, and what states have in common. It makes no claim but to be
-//! safe and to end.
+//! What both searches for certificates, the plain and the deep one, go by: where instructions lead, the labels,
+//! blocks, functions and graphs of a program, the places that count, and what states have in common; and what is
+//! answered where none is proposed. It makes no claim but to be safe and to end, and what the numbers of refusals are.
 #![tactic(auto)]
 
 mod blocks;
 mod cfg;
 mod component_search;
+mod condition;
 mod counter;
+mod error;
 mod fault;
 mod flow;
 mod functions;
@@ -31,15 +33,17 @@ mod widen;
 pub use blocks::{Blocks, graph_of};
 pub use cfg::Cfg;
 pub use component_search::ComponentSearch;
+pub use condition::ForeseenCondition;
 pub use counter::{Counter, Shift};
-pub use fault::Fault;
+pub use error::InferError;
+pub use fault::SlotFailure;
 pub use flow::Flow;
 pub use functions::{Call, calls_of};
 pub use graph::{Arc, Components, Graph, longest_paths, nodes_on_cycles, number_in};
 pub use joined_states::JoinedStates;
 pub use joins::{join, join_register, join_slots};
 pub use labels::{LabelState, labels_of, load, load_at};
-pub use lines::{Line, Span};
+pub use lines::{LinearTerm, NumberSpan};
 pub use lists::{get_or, held, put, vacant};
 pub use losses::losses_in;
 pub use meter::{DEEP_WORK, LABEL_WORK, Meter, PLAIN_WORK};
@@ -48,8 +52,8 @@ pub use places::{
 };
 pub use proposal::Proposal;
 pub use quest::Quest;
-pub use sketch::{Limit, Loss, Move, Obstacle, Sketch, Stop, Tangle, Trial};
+pub use sketch::{CounterTrial, Limit, Loss, Move, Obstacle, SearchStop, Sketch, Tangle};
 pub use slot_set::SlotSet;
-pub use task::{Callee, Edge, Task, Visitor, compared};
+pub use task::{BlockEdge, CalledFunction, Task, Visitor, compared};
 pub use watch::{Unwatched, Watch};
 pub use widen::Stops;

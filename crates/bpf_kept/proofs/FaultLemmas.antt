@@ -3,7 +3,7 @@ use Rattle.std.proofs.Common.{◌≡◌, ℕ, ◌≤◌, length as count}
 use Rattle.std.specs.Prelude.{Result, Ok, Err, IfErr}
 use Rattle.bpf_insn.specs.Instruction.{Instructions, slots}
 use Rattle.bpf_cert.specs.View.{CertificateView}
-use Rattle.bpf_kept_law.specs.Matching.{Notes}
+use Rattle.bpf_kept.specs.Matching.{Notes}
 use Rattle.bpf_kept.specs.NoteFaults.{IsAt, IsLowest, Starts, IsNoteFault, IsFor, IsFaultBeside}
 use Rattle.bpf_kept.specs.declared.note_fault.NoteFault.{NoteFault}
 use Rattle.bpf_kept.specs.declared.note_fault.NoteFault.TheVariants.{Order, TooMany, Start, At, Length}

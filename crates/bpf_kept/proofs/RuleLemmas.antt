@@ -10,9 +10,9 @@ use Rattle.bpf_insn.specs.declared.instruction.Width.TheVariants.{W64}
 use Rattle.bpf_insn.specs.declared.instruction.AluOp.{AluOp}
 use Rattle.bpf_insn.specs.declared.instruction.Insn.{Insn}
 use Rattle.bpf_insn.specs.declared.instruction.Insn.TheVariants.{Alu, LoadImm64}
-use Rattle.bpf_kept_law.specs.declared.notes.Fact.{Fact}
-use Rattle.bpf_kept_law.specs.Terms.{Facts, constant}
-use Rattle.bpf_kept_law.specs.Rules.{is_moved, made_by, known_number, known_operand, of_number, by_operand, made}
+use Rattle.bpf_kept.specs.declared.notes.Fact.{Fact}
+use Rattle.bpf_kept.specs.Terms.{Facts, constant}
+use Rattle.bpf_kept.specs.Rules.{is_moved, made_by, known_number, known_operand, of_number, by_operand, made}
 
 -- a test that fails leaves the other one
 pub or_else : (a b c r : Bool) → a ≡ c → a ≡ false → r ≡ b → r ≡ (c || b)

@@ -3,13 +3,13 @@
 ghost use Rattle.std.specs.Prelude.{◌≡◌, ◌↔◌, ◌==◌, ◌&&◌, ◌+◌, ◌%◌, IsTrue};
 ghost use Rattle.bpf_insn.specs.Arithmetic.{extended};
 ghost use Rattle.bpf_semantics.specs.Flat.{addresses};
-ghost use Rattle.bpf_kept_law.specs.Rules.{is_address, same_size, same_address, loads_alike, stores_alike, is_framed, turned_test, same_term, are_offsets, are, by_equality, by_order, undirected, is_jump, is_kept, keeps, put_by, put, puts, paired};
+ghost use Rattle.bpf_kept.specs.Rules.{is_address, same_size, same_address, loads_alike, stores_alike, is_framed, turned_test, same_term, are_offsets, are, by_equality, by_order, undirected, is_jump, is_kept, keeps, put_by, put, puts, paired};
 
 use crate::facts::{is_register, is_same, own, same_register};
+use crate::notes::{Change, Fact, Term};
 use crate::results::{low_result, put_into, reads_same, result_term};
 use crate::terms::{are_offsets, frame_offset, same_term, zero};
 use bpf_insn::{AluOp, Cond, FRAME_BYTES, Insn, Operand, Reg, Size, Width, extended};
-use bpf_kept_law::{Change, Fact, Term};
 
 // ---- loads and stores by another register
 
@@ -40,7 +40,7 @@ fn is_address(new: Displaced, old: Displaced, fact: Fact) -> bool
 }
 
 /// Whether the addresses are the same.
-#[tactic(auto, unfolding(bpf_kept_law::specs::Rules::same_address))]
+#[tactic(auto, unfolding(crate::specs::Rules::same_address))]
 fn same_address(facts: &[Fact], new: Displaced, old: Displaced) -> bool
     ensures { result ≡ same_address facts.now new.base new.off old.base old.off }
 {
@@ -326,7 +326,7 @@ fn is_kept(facts: &[Fact], insn: &Insn) -> bool
 }
 
 /// Whether neither changes a register, and both do the same.
-#[tactic(auto, unfolding(bpf_kept_law::specs::Rules::keeps))]
+#[tactic(auto, unfolding(crate::specs::Rules::keeps))]
 fn keeps(facts: &[Fact], same: bool, insn: &Insn, moved: &Insn) -> bool
     ensures { result ≡ keeps facts.now same insn.now moved.now }
 {
@@ -380,7 +380,7 @@ fn puts(facts: &[Fact], same: bool, insn: &Insn, moved: &Insn) -> Option<Change>
 }
 
 /// What both change, where the one stands for the other.
-#[tactic(auto, unfolding(bpf_kept_law::specs::Rules::paired))]
+#[tactic(auto, unfolding(crate::specs::Rules::paired))]
 pub fn paired(facts: &[Fact], same: bool, insn: &Insn, moved: &Insn) -> Option<Change>
     ensures { result ≡ paired facts.now same insn.now moved.now }
 {

@@ -2,13 +2,13 @@
 
 ghost use Rattle.std.specs.Prelude.{◌≡◌, option_copied};
 ghost use Rattle.std.specs.List.{list_all};
-ghost use Rattle.bpf_kept_law.specs.Rules.{holds_behind};
-ghost use Rattle.bpf_kept_law.specs.Matching.{note_at, suits, arrives, start_facts, by_itself};
+ghost use Rattle.bpf_kept.specs.Rules.{holds_behind};
+ghost use Rattle.bpf_kept.specs.Matching.{note_at, suits, arrives, start_facts, by_itself};
 
 use crate::made::holds_behind;
+use crate::notes::{Change, Fact, Note};
 use crate::terms::{context_offset, zero};
 use bpf_insn::Reg;
-use bpf_kept_law::{Change, Fact, Note};
 
 /// What is noted of a new slot.
 pub fn note_at(notes: &[Option<Note>], slot: u32) -> Option<&Note>
@@ -43,7 +43,7 @@ fn suits(facts: &[Fact], change: Change, edge: Arrival, note: &Note) -> bool
 }
 
 /// Whether an edge leads where that is so.
-#[tactic(auto, unfolding(bpf_kept_law::specs::Matching::arrives))]
+#[tactic(auto, unfolding(crate::specs::Matching::arrives))]
 pub fn arrives(notes: &[Option<Note>], facts: &[Fact], change: Change, edge: Arrival) -> bool
     ensures { result ≡ arrives notes.now facts.now change edge.slot edge.most edge.new_slot }
 {

@@ -1,11 +1,11 @@
 //! Facts: which give which, and what they say of a register.
 
 ghost use Rattle.std.specs.Prelude.{◌≡◌};
-ghost use Rattle.bpf_kept_law.specs.Rules.{same_register, is_register, is_base, gives, is_own, own, is_same, is_low_fact, is_low, stays};
+ghost use Rattle.bpf_kept.specs.Rules.{same_register, is_register, is_base, gives, is_own, own, is_same, is_low_fact, is_low, stays};
 
+use crate::notes::{Fact, Term};
 use crate::terms::{is_enough, is_zero};
 use bpf_insn::Reg;
-use bpf_kept_law::{Fact, Term};
 
 /// Whether two registers are the same.
 pub fn same_register(a: Reg, b: Reg) -> bool
@@ -58,7 +58,7 @@ fn is_own(r: Reg, fact: Fact) -> bool
 }
 
 /// How far a register is from the old program's.
-#[tactic(auto, unfolding(bpf_kept_law::specs::Rules::own))]
+#[tactic(auto, unfolding(crate::specs::Rules::own))]
 pub fn own(facts: &[Fact], r: Reg) -> Option<Term>
     ensures { result ≡ own facts.now r }
 {

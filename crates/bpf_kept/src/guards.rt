@@ -8,15 +8,15 @@ ghost use Rattle.bpf_insn.specs.Instruction.{byte_count, register_number};
 ghost use Rattle.std.specs.Int.{cast_signed, w64};
 ghost use Rattle.std.specs.List.{list_any};
 ghost use Rattle.bpf_semantics.specs.Flat.{addresses};
-ghost use Rattle.bpf_kept_law.specs.Far.{middle};
+ghost use Rattle.bpf_kept.specs.Far.{middle};
 ghost use Rattle.bpf_kept.specs.Fronts.{front};
-ghost use Rattle.bpf_kept_law.specs.Guards.{if_by, accesses_by, is_passed, is_met, is_ahead, are_accessed, is_tested_by, is_tested, guarded, passes};
+ghost use Rattle.bpf_kept.specs.Guards.{if_by, accesses_by, is_passed, is_met, is_ahead, are_accessed, is_tested_by, is_tested, guarded, passes};
 
 use crate::code::insn_at;
 use crate::facts::{is_register, same_register};
+use crate::notes::{Fact, Need, Term};
 use crate::terms::MIDDLE;
 use bpf_insn::{Access, Code, Cond, FRAME_BYTES, Insn, Operand, Reg, Size, Width, extended};
-use bpf_kept_law::{Fact, Need, Term};
 
 /// How many instructions are looked at.
 const FARTHEST_AHEAD: u32 = 33;
@@ -194,7 +194,7 @@ fn is_below<C: Code>(old: &C, site: GuardSite, facts: &[Fact], dst: Reg, imm: i3
 }
 
 /// Whether an instruction is a guard that passes.
-#[tactic(auto, unfolding(bpf_kept_law::specs::Guards::passes))]
+#[tactic(auto, unfolding(crate::specs::Guards::passes))]
 pub fn passes<C: Code>(old: &C, site: GuardSite, facts: &[Fact], insn: &Insn) -> bool
     ensures { result ≡ passes (front (C.program old.now) site.slot site.length) facts.now insn.now }
 {

@@ -3,12 +3,12 @@
 ghost use Rattle.std.specs.Prelude.{◌≡◌, ◌&&◌, false};
 ghost use Rattle.std.specs.Option.{option_map_or};
 ghost use Rattle.bpf_insn.specs.declared.instruction.Insn.TheVariants.{Alu};
-ghost use Rattle.bpf_kept_law.specs.Rules.{is_register, sum_base, difference_base, is_known, is_sum, is_difference, is_moved, made_by, known_number, known_operand, of_number, of_operand, by_operand, made, both, put_gives, made_gives, change_gives, holds_behind};
+ghost use Rattle.bpf_kept.specs.Rules.{is_register, sum_base, difference_base, is_known, is_sum, is_difference, is_moved, made_by, known_number, known_operand, of_number, of_operand, by_operand, made, both, put_gives, made_gives, change_gives, holds_behind};
 
 use crate::facts::{gives, is_base, is_register, stays};
+use crate::notes::{Change, Fact, Term};
 use crate::terms::{constant, frame_end, is_enough, minus, plus, zero};
 use bpf_insn::{AluOp, Insn, Operand, Reg, Width, extended};
-use bpf_kept_law::{Change, Fact, Term};
 
 /// Whether a sum has this base.
 fn sum_base(a: Option<Reg>, b: Option<Reg>, want: Option<Reg>) -> bool
@@ -163,7 +163,7 @@ fn by_itself(facts: &[Fact], wanted: WantedResult) -> bool
 }
 
 /// Whether the result is known as wanted, by the operand or by a fact of it.
-#[tactic(auto, unfolding(bpf_kept_law::specs::Rules::made))]
+#[tactic(auto, unfolding(crate::specs::Rules::made))]
 fn is_computed(facts: &[Fact], wanted: WantedResult) -> bool
     ensures { result ≡ made facts.now (Alu wanted.op wanted.width wanted.dst wanted.src) wanted.want }
 {
@@ -176,7 +176,7 @@ fn is_computed(facts: &[Fact], wanted: WantedResult) -> bool
 }
 
 /// Whether what an extra instruction puts is known as wanted.
-#[tactic(auto, unfolding(bpf_kept_law::specs::Rules::made))]
+#[tactic(auto, unfolding(crate::specs::Rules::made))]
 fn made(facts: &[Fact], insn: &Insn, want: Fact) -> bool
     ensures { result ≡ made facts.now insn.now want }
 {
@@ -240,7 +240,7 @@ fn made_gives(facts: &[Fact], r: Reg, insn: &Insn, want: Fact) -> bool
 }
 
 /// Whether a fact holds behind a change, by those in front of it.
-#[tactic(auto, unfolding(bpf_kept_law::specs::Rules::holds_behind))]
+#[tactic(auto, unfolding(crate::specs::Rules::holds_behind))]
 pub fn holds_behind(facts: &[Fact], change: Change, want: Fact) -> bool
     ensures { result ≡ holds_behind facts.now change want }
 {

@@ -3,15 +3,15 @@
 ghost use Rattle.std.specs.Prelude.{◌≡◌, ◌<◌, ◌≤◌, ◌↔◌, ◌-◌, IsTrue};
 ghost use Rattle.bpf_insn.specs.Limits.{max_slots};
 ghost use Rattle.bpf_kept.specs.Fronts.{front};
-ghost use Rattle.bpf_kept_law.specs.Matching.{led, falls, leads, stands, makes, extra, adds, IsBody, IsExtra, HoldsAt};
+ghost use Rattle.bpf_kept.specs.Matching.{led, falls, leads, stands, makes, extra, adds, IsBody, IsExtra, HoldsAt};
 
 use crate::alike::{are_same, paired};
 use crate::code::insn_at;
 use crate::edges::{Arrival, arrives, note_at};
 use crate::guards::{GuardSite, passes};
+use crate::notes::{Change, Fact, Note};
 use crate::results::put_into;
 use bpf_insn::{Code, Insn, target};
-use bpf_kept_law::{Change, Fact, Note};
 
 /// The greatest number of extra instructions in front of one.
 const MOST_EXTRAS: u32 = 128;
@@ -72,7 +72,7 @@ fn leads(notes: &[Option<Note>], facts: &[Fact], change: Change, pair: StandIn) 
 }
 
 /// Whether the one stands for the other; `same` says whether they are the same but for where they lead.
-#[tactic(auto, unfolding(bpf_kept_law::specs::Matching::stands))]
+#[tactic(auto, unfolding(crate::specs::Matching::stands))]
 fn stands(notes: &[Option<Note>], facts: &[Fact], same: bool, pair: StandIn) -> bool
     requires old { pair.slot < max_slots }
     requires new { pair.new_slot < max_slots }
@@ -96,7 +96,7 @@ fn makes(moved: &Insn) -> Option<Change>
 }
 
 /// What an extra instruction changes.
-#[tactic(auto, unfolding(bpf_kept_law::specs::Matching::extra))]
+#[tactic(auto, unfolding(crate::specs::Matching::extra))]
 fn extra<O: Code>(old: &O, site: GuardSite, facts: &[Fact], moved: &Insn) -> Option<Change>
     ensures { result ≡ extra (front (O.program old.now) site.slot site.length) facts.now moved.now }
 {
@@ -115,7 +115,7 @@ pub struct NewSlot {
 }
 
 /// Whether an instruction of the new program is an extra one, and the next one has fewer in front.
-#[tactic(auto, unfolding(bpf_kept_law::specs::Matching::adds))]
+#[tactic(auto, unfolding(crate::specs::Matching::adds))]
 fn adds<O: Code>(old: &O, notes: &[Option<Note>], at: NewSlot, note: &Note, moved: &Insn) -> bool
     requires some { 0 < note.now.extras }
     requires below { at.slot < max_slots }

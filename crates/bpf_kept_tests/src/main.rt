@@ -10,8 +10,7 @@
 
 use bpf_cert::{Certificate, read};
 use bpf_insn::{Order, Program, Reg};
-use bpf_kept::{NoteFault, follows, follows_certified};
-use bpf_kept_law::{FACTS, Fact, Note, Term};
+use bpf_kept::{FACTS, Fact, Note, NoteFault, Term, follows, follows_certified};
 use bpf_text::assemble;
 use std::alloc::Global;
 use std::io::{self, BufRead, BufReader, BufWriter, Write};

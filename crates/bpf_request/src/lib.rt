@@ -1,8 +1,11 @@
-//! What a command line asks for.
+//! What a command line asks for; and the words of a command line that the command knows: its commands and their
+//! arguments, as the parser of words has them. A new option goes into `table.rt` and `specs/Commands`.
 #![tactic(auto)]
 
+mod argument;
 mod asking;
 mod certifying;
+mod commands;
 mod contexts;
 mod converting;
 mod emitting;
@@ -10,6 +13,7 @@ mod following;
 mod hardening;
 mod replaying;
 mod subject;
+mod table;
 mod words;
 
 pub use asking::{
@@ -23,5 +27,5 @@ pub use emitting::Emitting;
 pub use following::Following;
 pub use hardening::Hardening;
 pub use replaying::Replaying;
-pub use subject::{Aspect, Clash, Subject, Told};
+pub use subject::{Aspect, Clash, Subject, SubjectWords};
 pub use words::{Request, USUAL_NAME, USUAL_TURNS, request_of};

@@ -11,15 +11,15 @@ use crate::asking::{
     Running,
 };
 use crate::certifying::Certifying;
+use crate::commands::command;
 use crate::contexts::Contexts;
 use crate::converting::Converting;
 use crate::emitting::Emitting;
 use crate::following::Following;
 use crate::hardening::Hardening;
 use crate::replaying::Replaying;
-use crate::subject::{Subject, Told, subject_of};
+use crate::subject::{Subject, SubjectWords, subject_of};
 use bpf_insn::Order;
-use bpf_words::command;
 use clap::{ArgMatches, Error};
 use std::alloc::Global;
 
@@ -153,7 +153,7 @@ fn contexts_of<'a>(matches: &ArgMatches<'a>) -> Contexts<'a>
 fn subject_in<'a>(matches: &ArgMatches<'a>) -> Subject<'a>
     ensures { IsSubject (rows_of (found_of matches.now)) result }
 {
-    subject_of(Told {
+    subject_of(SubjectWords {
         certificate: word_if(matches, "CERT"),
         infer: number_if(matches, "infer"),
         most: number_if(matches, "most"),

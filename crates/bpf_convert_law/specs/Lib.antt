@@ -1,0 +1,2 @@
+-- the certificate of a converted filter has no flaw
+pub mod Accepted

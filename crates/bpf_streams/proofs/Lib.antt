@@ -1,0 +1,3 @@
+pub mod HeldLemmas
+pub mod TakenLemmas
+pub mod WordLemmas
