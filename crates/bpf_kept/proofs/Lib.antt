@@ -7,3 +7,5 @@ mod ShownLemmas
 mod NumberLemmas
 mod RuleLemmas
 mod Further
+mod WalkLemmas
+mod SlotLemmas

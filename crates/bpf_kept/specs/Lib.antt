@@ -4,3 +4,4 @@ pub mod Shown
 pub mod NoteFaults
 -- what the code hands on
 pub mod Fronts
+pub mod Knowns

@@ -1,5 +1,5 @@
-//! What it is that a new program keeps the meaning of an old one on plain addresses, and the laws that notes show it: of one function, whose frame
-//! has the same in both. No command uses this yet.
+//! What it is that a new program keeps the meaning of an old one on plain addresses, and the laws that notes show it, of one function. No command uses
+//! this yet.
 #![tactic(auto)]
 
 mod laws;
@@ -11,4 +11,4 @@ pub use laws::{
     one_address_is_context, one_distance_is_frame, other_exits_are_traps, zero_run_ends,
     zero_start_fits, zero_step_is_step,
 };
-pub use notes::{Change, FACTS, Fact, Need, Note, Term};
+pub use notes::{COUNTERS, Change, FACTS, Fact, Holder, Need, Note, SLOTS, Term, TurnsLeft};
