@@ -3,6 +3,5 @@ pub mod LoadedLemmas
 pub mod TextLemmas
 pub mod MadeLemmas
 pub mod LinesLemmas
-pub mod HeldLemmas
 pub mod OpenedLemmas
 pub mod PiecesLemmas

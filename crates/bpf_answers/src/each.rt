@@ -11,11 +11,10 @@ ghost use Rattle.bpf_answers.specs.Each.{AnswersAt, FailsAt, IsPut, LeftAt, Line
 use crate::answer::Answer;
 use crate::context::ContextError;
 use crate::failure::{DONE, Failure};
-use crate::held::HeldLines;
 use arrayvec::ArrayVec;
 use bpf_insn::MAX_CONTEXT;
 use bpf_insn::written::Pending;
-use bpf_lines::Stop;
+use bpf_lines::{LineReader, Stop};
 use bpf_places::{PlaceError, Places};
 use std::io::{Read, Write};
 
@@ -67,7 +66,7 @@ fn put_context(line: &[u8], buffer: &mut [u8]) -> Turn
 
 /// Takes the next line, and puts its context at the front of the buffer.
 fn next_context<R: Read + Drop>(
-    lines: &mut HeldLines<R>,
+    lines: &mut LineReader<R>,
     line: &mut ArrayVec<u8, MAX_LINE>,
     buffer: &mut [u8],
 ) -> Turn
@@ -119,7 +118,7 @@ fn send<'a, W: Write>(pending: &mut Pending, out: &mut W) -> Result<(), Failure<
 
 /// Prints the answers that wait, where the next line isn't there yet.
 fn send_before_a_read<'a, R: Read + Drop, W: Write>(
-    lines: &HeldLines<R>,
+    lines: &LineReader<R>,
     pending: &mut Pending,
     out: &mut W,
 ) -> Result<(), Failure<'a>>
@@ -135,7 +134,7 @@ fn send_before_a_read<'a, R: Read + Drop, W: Write>(
 
 /// Answers each context of the lines, until one is refused. Each answer is printed before a line is waited for.
 fn answer_lines<'a, R: Read + Drop, Q: Runner, W: Write>(
-    lines: &mut HeldLines<R>,
+    lines: &mut LineReader<R>,
     out: &mut W,
     runner: &Q,
     name: &'a str,
@@ -192,6 +191,6 @@ pub fn answered<'a, P: Places, Q: Runner, W: Write>(
         Err(PlaceError::Refused) => return Err(Failure::CannotRead(name)),
         Err(PlaceError::Memory) => return Err(Failure::NoMemory),
     };
-    let mut lines = HeldLines::new(reader);
+    let mut lines = LineReader::new(reader);
     answer_lines(&mut lines, out, runner, name)
 }

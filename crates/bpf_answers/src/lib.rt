@@ -12,7 +12,6 @@ mod context;
 mod counted;
 mod each;
 mod failure;
-mod held;
 mod image;
 mod lines;
 mod notes;

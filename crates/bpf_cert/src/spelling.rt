@@ -305,7 +305,6 @@ pub fn label_text(label: &Label) -> LineText
 }
 
 /// The line of what a place holds.
-#[inline(never)]
 #[tactic(auto, using(crate::proofs::SpellingLemmas::texts))]
 pub fn entry_text(at: Place, value: SlotState) -> LineText
     ensures { result.items ≡ line_with_end (entry (spelled_place at) (content_of value)) }

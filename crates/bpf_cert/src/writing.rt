@@ -1,10 +1,11 @@
 //! Writing a certificate.
 
-ghost use Rattle.std.specs.Prelude.{◌≡◌, ◌≤◌, ◌<◌, map, flat_map, get_or};
+ghost use Rattle.std.specs.Prelude.{◌≡◌, ◌≤◌, ◌<◌, ◌∷◌, [], map, flat_map, get_or};
 ghost use Rattle.bpf_cert.specs.Written.{Puts, Writes};
 ghost use Rattle.bpf_cert.specs.View.{function_view, label_view};
 ghost use Rattle.bpf_state.specs.declared.known.SlotState.TheVariants.{Bytes};
-ghost use Rattle.bpf_cert.specs.Spelling.{spelled_place, place_at, contents, entry_lines, lines_from, lines_text, label_lines, function_lines, body_lines, certificate_text};
+ghost use Rattle.bpf_cert.specs.Line.Line.{entry};
+ghost use Rattle.bpf_cert.specs.Spelling.{content_of, spelled_place, place_at, contents, entry_lines, lines_from, lines_text, label_lines, function_lines, body_lines, certificate_text};
 
 use crate::certificate::{Certificate, Function, Label};
 use crate::spelling::{entry_text, function_text, header_text, label_text};
@@ -45,6 +46,19 @@ fn content_at(state: &Entries, j: u8) -> SlotState
     }
 }
 
+// A function of its own, so that no line is cleared for the places that say nothing.
+#[inline(never)]
+fn put_line<W: Write>(
+    pending: &mut Pending,
+    out: &mut W,
+    place: Place,
+    value: SlotState,
+) -> io::Result<()>
+    ensures { Puts (W.contents out.old) (W.contents out.new) pending.old pending.new (lines_text (entry (spelled_place place) (content_of value) ∷ [])) result }
+{
+    put_bytes(pending, out, entry_text(place, value).as_slice())
+}
+
 #[tactic(auto, using(crate::proofs::WritingLemmas::puts_nothing))]
 fn put_entry<W: Write>(
     pending: &mut Pending,
@@ -56,7 +70,7 @@ fn put_entry<W: Write>(
 {
     match value {
         SlotState::Bytes(0) => Ok(()),
-        _ => put_bytes(pending, out, entry_text(place, value).as_slice()),
+        _ => put_line(pending, out, place, value),
     }
 }
 

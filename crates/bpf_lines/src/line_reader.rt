@@ -3,6 +3,7 @@
 ghost use Rattle.std.specs.Prelude.{◌≡◌, ◌≤◌, [], length};
 
 use arrayvec::ArrayVec;
+use memchr::memchr;
 use std::io::Read;
 use std::marker::Model;
 
@@ -63,6 +64,11 @@ impl<R: Read + Drop> LineReader<R> {
         }
     }
 
+    /// Whether the next line is taken without a read. No answer depends on it.
+    pub fn has_line(&self) -> bool {
+        memchr(b'\n', &self.buffer[self.at..self.end]).is_some()
+    }
+
     /// The next byte, or none at the end.
     pub fn next_byte(&mut self) -> Result<Option<u8>, ReadFault>
         ensures { TakesByte self.old self.new result }
@@ -83,8 +89,8 @@ impl<R: Read + Drop> LineReader<R> {
         Ok(Some(byte))
     }
 
-    /// The next line of at most `MOST` bytes without its LF, and what ended it. The line is empty before.
-    pub fn next_line<const MOST: usize>(&mut self, line: &mut ArrayVec<u8, MOST>) -> Stop
+    /// A line that the buffer has only a front of, byte by byte.
+    fn read_line<const MOST: usize>(&mut self, line: &mut ArrayVec<u8, MOST>) -> Stop
         requires { line.old.items ≡ [] }
         ensures taken { TakesLine MOST self.old self.new line.new.items result }
         ensures one_line { IsOneLine line.new.items }
@@ -103,6 +109,26 @@ impl<R: Read + Drop> LineReader<R> {
             Ok(None) => Stop::End,
             Ok(Some(b'\n')) => Stop::LineEnd,
             Ok(Some(_)) => Stop::Long,
+        }
+    }
+
+    /// The next line of at most `MOST` bytes without its LF, and what ended it. The line is empty before.
+    pub fn next_line<const MOST: usize>(&mut self, line: &mut ArrayVec<u8, MOST>) -> Stop
+        requires { line.old.items ≡ [] }
+        ensures taken { TakesLine MOST self.old self.new line.new.items result }
+        ensures one_line { IsOneLine line.new.items }
+        ensures short { length line.new.items ≤ MOST }
+    {
+        let held = &self.buffer[self.at..self.end];
+        match memchr(b'\n', held) {
+            Some(count) => match line.try_extend_from_slice(&held[..count]) {
+                Ok(()) => {
+                    self.at += count + 1;
+                    Stop::LineEnd
+                }
+                Err(_) => self.read_line(line),
+            },
+            None => self.read_line(line),
         }
     }
 }

@@ -1,7 +1,7 @@
 use Rattle.std.proofs.Common.{◌≡◌, ◌≤◌, length}
 use Rattle.std.specs.Io.KnownBytes.{Consumes}
 use Rattle.bpf_lines.specs.Taken.{IsOneLine}
-use Rattle.bpf_lines.proofs.line_reader.LineReader.next_line.Given as goal
+use Rattle.bpf_lines.proofs.line_reader.LineReader.read_line.Given as goal
 
 abbrev pub invariant-loop : goal.invariant-loop
 invariant-loop g l = record {

@@ -1,5 +1,5 @@
 use Rattle.bpf_lines.proofs.TakenLemmas.{end_kept}
-use Rattle.bpf_answers.proofs.held.HeldLines.read_line.Goals as goal
+use Rattle.bpf_lines.proofs.line_reader.LineReader.read_line.Goals as goal
 
 pub returns-in-Ok-None-clause-taken : goal.returns-in-Ok-None-clause-taken
 returns-in-Ok-None-clause-taken g c =
