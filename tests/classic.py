@@ -4,7 +4,7 @@
 COUNT random filters (1,000 if not said) of every instruction, some of them faulty: what `bpf convert` makes of each answers what the
 definition says, which is written once more below, and a faulty one is refused at its lowest instruction with a fault. They are of each form
 of contexts, in both orders of bytes, and spelled in each way. Listings of every fourth one show its instructions as `tcpdump -d` does, and assemble to the image. With --program they go through the built program of
-crates/bpf_convert_tests, BATCH in each process.
+crates/bpf_tests, BATCH in each process.
 """
 import os
 import pathlib

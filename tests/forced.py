@@ -1,7 +1,7 @@
 #!/usr/bin/env python3
 """Guards and counters forced on every access and every loop: forced.py BPF FORCED [COUNT [SEED]]
 
-FORCED is the built program of crates/bpf_harden_tests, which hardens so, whether it is needed or not, and runs both programs. COUNT
+FORCED is the built program of crates/bpf_tests, which hardens so, whether it is needed or not, and runs both programs. COUNT
 programs (10,000 if not said) are those of harden.py's generator, and images of examples/ and examples/c as fuzz.py alters them, in both
 orders and with few and many turns; and as many have one byte changed. On random contexts
 

@@ -5,18 +5,18 @@ set -eu
 root=$(cd "$(dirname "${BASH_SOURCE[0]}")/.." && pwd)
 bpf=${BPF:-$root/bpf}
 seed=${2:-$(date +%s)}
-forced=$root/crates/bpf_harden_tests/out/bpf_harden_tests
+forced=$root/crates/bpf_tests/out/bpf_tests
 if [ ! -x "$forced" ] && [ -n "${UNPROVED-}" ]; then
-    echo "fuzz: guards by force are left out: crates/bpf_harden_tests isn't built"
+    echo "fuzz: guards by force are left out: crates/bpf_tests isn't built"
 else
-    [ -x "$forced" ] || (cd "$root/crates/bpf_harden_tests" && rt run </dev/null) >/dev/null
+    [ -x "$forced" ] || (cd "$root/crates/bpf_tests" && rt run </dev/null) >/dev/null
     python3 "$root/tests/forced.py" "$bpf" "$forced" 10000 "$seed"
 fi
-converts=$root/crates/bpf_convert_tests/out/bpf_convert_tests
+converts=$root/crates/bpf_tests/out/bpf_tests
 if [ ! -x "$converts" ] && [ -n "${UNPROVED-}" ]; then
-    echo "fuzz: converted filters are left out: crates/bpf_convert_tests isn't built"
+    echo "fuzz: converted filters are left out: crates/bpf_tests isn't built"
 else
-    [ -x "$converts" ] || (cd "$root/crates/bpf_convert_tests" && rt run </dev/null) >/dev/null
+    [ -x "$converts" ] || (cd "$root/crates/bpf_tests" && rt run </dev/null) >/dev/null
     python3 "$root/tests/classic.py" --program "$converts" 10000 "$seed"
 fi
 exec python3 "$root/tests/fuzz.py" "$bpf" "$root/examples" "${1:?seconds}" "$seed"

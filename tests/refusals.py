@@ -10,7 +10,7 @@ import sys
 ROOT = pathlib.Path(__file__).resolve().parent.parent
 SPECS = "crates/bpf_refusals/specs/Letters.antt"
 # Its errors are printed as sentences, and stand in the table, too.
-CAPTURES = "crates/bpf_pcap/src/error.rt"
+CAPTURES = "crates/bpf_captures/src/error.rt"
 
 # Which letters a document lists: in rows of a table (`| E4 |`), or anywhere.
 LISTS = {

@@ -183,8 +183,8 @@ for crate in "$crates"/*/; do
 done
 # The command's version names the kit that it was proved with last. A newer kit is a note, and no failure: a change of the kit changes no source.
 kit=$(rt version 2>/dev/null)
-if [ -n "$kit" ] && ! grep -qF "\\n$kit\";" "$crates/bpf_words/src/commands.rt"; then
-    echo "note: the version in bpf_words doesn't name this kit, $kit"
+if [ -n "$kit" ] && ! grep -qF "\\n$kit\";" "$crates/bpf_request/src/commands.rt"; then
+    echo "note: the version in bpf_request doesn't name this kit, $kit"
 fi
 [ "$failed" -eq 0 ] && echo "the checker makes one Work, and all its work is counted; what takes no memory names no allocator; limits stand by name"
 exit "$failed"

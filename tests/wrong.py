@@ -277,7 +277,7 @@ def main():
     if faults:
         print("\n".join(faults))
         return 1
-    found = [it for it in good if it.name in asked.names or it.crate in asked.names or not asked.names and it.crate not in edits.BY_NAME]
+    found = [it for it in good if it.name in asked.names or it.crate in asked.names or not asked.names and (it.crate not in edits.BY_NAME or it.name in edits.STILL)]
     wants_libraries({it.crate for it in found}, asked.libraries)
     kept = [] if asked.anew or asked.sane else [it for it in found if (KEPT / key_of(it, asked.libraries)).is_file()]
     left = [it for it in found if it not in kept]

@@ -1,9 +1,8 @@
 //! The command `bpf`: a toolchain for eBPF programs that hosts can trust.
 #![tactic(auto)]
 
-use bpf_answers::Failure;
+use bpf_answers::{Cause, Failure, Fault, FilePlaces, Noted};
 use bpf_command::{Progress, fail, respond};
-use bpf_places::{Cause, Fault, FilePlaces, Noted};
 use std::io::{ErrorKind, IsTerminal};
 use std::process::ExitCode;
 use std::rt::Env;

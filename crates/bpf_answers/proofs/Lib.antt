@@ -1,3 +1,4 @@
+pub mod ReadingLemmas
 pub mod ToldLemmas
 pub mod LoadedLemmas
 pub mod TextLemmas

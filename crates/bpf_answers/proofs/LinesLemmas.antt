@@ -6,7 +6,7 @@ use Rattle.std.proofs.lemmas.List.Elements.{All-append, All-cons, All-head, All-
 use Rattle.std.specs.Io.KnownBytes.{Appends, Consumes, IsAtEnd, Keeps}
 use Rattle.bpf_insn.specs.Written.{AppendsBeginning, Gathers}
 use Rattle.bpf_insn.proofs.WriteLemmas.{gathered_some, gathers_more, gathers_nothing, waits_later}
-use Rattle.bpf_lines.specs.Taken.{IsOneLine}
+use Rattle.bpf_streams.specs.Taken.{IsOneLine}
 use Rattle.bpf_answers.specs.Answer.{Answer, Unfinished, status_of, text_of}
 use Rattle.bpf_answers.specs.Each.{LinesLeft}
 use Rattle.bpf_answers.specs.Lines.{AllAnswered, BegunLines, FirstRefused, LineSays, LinesSay, NextLine, Spelled, Turns, RefusedLine, lines_in, line_context, max_line, onto, texts_of, worst}

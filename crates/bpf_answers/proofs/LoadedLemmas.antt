@@ -6,7 +6,7 @@ use Rattle.bpf_insn.specs.Refusal.{IsRefused}
 use Rattle.bpf_insn.specs.declared.order.Order.{Order}
 use Rattle.bpf_insn.specs.declared.refusal.DecodeError.{DecodeError}
 use Rattle.bpf_insn.specs.declared.refusal.DecodeError.TheVariants.{Memory}
-use Rattle.bpf_places.specs.Opened.{Opening, ReadsAt}
+use Rattle.bpf_answers.specs.Opened.{Opening, ReadsAt}
 use Rattle.bpf_answers.specs.Loaded.{NoSpaceFor, ImageRefused, LoadsImage}
 
 pub decoded : {S : Type 0} (opening : Opening S) (order : Order) (old : S) (name bytes : List ℕ) (new : S) (result : Result Instructions DecodeError)

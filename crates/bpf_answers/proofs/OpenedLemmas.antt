@@ -1,6 +1,6 @@
 -- The first of some names were opened.
 use Rattle.std.proofs.Common.{ℕ, List, [], ◌∷◌, refl, inl, inr}
-use Rattle.bpf_places.specs.Opened.{Opening}
+use Rattle.bpf_answers.specs.Opened.{Opening}
 use Rattle.bpf_answers.specs.Loaded.{OpensFirst, Tried}
 
 -- none of them

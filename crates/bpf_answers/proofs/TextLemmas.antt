@@ -3,7 +3,7 @@ use Rattle.std.proofs.Common.{◌≡◌, ℕ, ◌<◌, List, [], length, Option,
 use Rattle.std.specs.Borrow.{Bor}
 use Rattle.std.specs.Prelude.{◌⊎◌}
 use Rattle.std.specs.Str.{IsUtf8}
-use Rattle.bpf_places.specs.Opened.{Fails, Opening}
+use Rattle.bpf_answers.specs.Opened.{Fails, Opening}
 use Rattle.bpf_answers.specs.Loaded.{ReadableFails, ShortTextAt, TextAt, TextFails, max_text}
 use Rattle.bpf_answers.specs.Told.{IsQuiet}
 use Rattle.bpf_answers.specs.declared.failure.Failure.{Failure}

@@ -11,10 +11,10 @@ use Rattle.bpf_text.specs.Listing.{listing}
 use Rattle.bpf_text.specs.Annotated.{annotated}
 use Rattle.bpf_text.specs.declared.error.TextError.{TextError}
 use Rattle.bpf_text.specs.declared.error.TextError.TheVariants.{Form, Range, DefinedAgain, Undefined, TooFar, Program, Memory as TextMemory}
-use Rattle.bpf_infer_error.specs.RefusalNumbers.{condition_number}
-use Rattle.bpf_infer_error.specs.declared.error.InferError.{InferError}
-use Rattle.bpf_infer_error.specs.declared.error.InferError.TheVariants.{Unstable, NoBudget, Recursion, Fault as NoState, Memory as InferMemory}
-use Rattle.bpf_follows_law.specs.declared.notes.Bounds.{Bounds}
+use Rattle.bpf_infer_base.specs.RefusalNumbers.{condition_number}
+use Rattle.bpf_infer_base.specs.declared.error.InferError.{InferError}
+use Rattle.bpf_infer_base.specs.declared.error.InferError.TheVariants.{Unstable, NoBudget, Recursion, Fault as NoState, Memory as InferMemory}
+use Rattle.bpf_follows.specs.declared.notes.Bounds.{Bounds}
 use Rattle.bpf_refusals.specs.Letters.{code_of}
 use Rattle.bpf_refusals.specs.Told.{at_number, told_at, told_certificate, told_check, told_hardening, told_image, told_mismatch, told_not_shown, told_notes}
 use Rattle.bpf_refusals.specs.declared.letter.Letter.{Letter}
@@ -26,8 +26,8 @@ use Rattle.bpf_refusals.specs.declared.told.TheConstants.{TOO_DEAR, UNCERTIFIED}
 pub use Rattle.bpf_answers.specs.declared.answer.Answer.{Answer}
 use Rattle.bpf_answers.specs.declared.answer.Answer.TheVariants.{Yes, NoImage, NoText, NoCertificate, NotCertified, NotProposed, NotHardened, NotShown, Certified, TooDear, Uncertified, NotConverted, Follows, NoOld, NoNew, NoNotes, NotFollowed, NoContext, NoCapture, Ends, Ran, Occur, Lists, Annotates, Written, WrittenFor}
 use Rattle.bpf_answers.specs.declared.certified.Rewriting.{Rewriting}
-use Rattle.bpf_pcap.specs.Refused.{refusal_number as capture_number}
-use Rattle.bpf_pcap.specs.declared.error.CaptureRefusal.{CaptureRefusal}
+use Rattle.bpf_captures.specs.Refused.{refusal_number as capture_number}
+use Rattle.bpf_captures.specs.declared.error.CaptureRefusal.{CaptureRefusal}
 use Rattle.bpf_machine.specs.declared.outcome.Outcome.{Outcome}
 use Rattle.bpf_machine.specs.declared.outcome.Outcome.TheVariants.{Done as DoneRun, Fault as FaultRun, OutOfFuel}
 

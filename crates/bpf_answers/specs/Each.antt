@@ -2,7 +2,7 @@
 use Rattle.std.specs.Prelude.{◌≡◌, ◌⊎◌, ◌++◌, ℕ, List, [], ◌∷◌, Option, Some, None, IfSome}
 use Rattle.std.specs.Io.KnownBytes.{Appends, Keeps}
 use Rattle.bpf_insn.specs.Written.{AppendsBeginning, Gathers}
-use Rattle.bpf_places.specs.Opened.{Opening}
+use Rattle.bpf_answers.specs.Opened.{Opening}
 use Rattle.bpf_answers.specs.Answer.{Answer, Unfinished, status_of, text_of}
 use Rattle.bpf_answers.specs.Lines.{AllAnswered, BegunLines, RefusedLine, texts_of}
 use Rattle.bpf_answers.specs.Told.{OutputFails}

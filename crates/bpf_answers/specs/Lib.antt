@@ -1,3 +1,6 @@
+pub mod Opened
+pub mod Made
+pub mod Causes
 pub mod Commented
 pub mod Pieces
 pub mod Context

@@ -13,7 +13,7 @@ use Rattle.bpf_cert.specs.ReadAnswers.{IsFaultOf}
 use Rattle.bpf_cert.specs.declared.error.CertError.{CertError}
 use Rattle.bpf_cert.specs.declared.error.CertError.TheVariants as errors
 use Rattle.std.specs.Str.{IsUtf8}
-use Rattle.bpf_places.specs.Opened.{Opening, ReadsAt, Unreadable}
+use Rattle.bpf_answers.specs.Opened.{Opening, ReadsAt, Unreadable}
 use Rattle.bpf_insn.specs.Limits.{max_context}
 use Rattle.bpf_answers.specs.Told.{OutputFails}
 use Rattle.bpf_answers.specs.declared.context.ContextError.TheVariants.{TooLong}

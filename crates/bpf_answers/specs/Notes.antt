@@ -2,11 +2,11 @@
 use Rattle.std.specs.Prelude.{◌≡◌, ◌⊎◌, ◌<◌, ℕ, ◌+◌, ◌*◌, List, length, Option, Result, MatchResult}
 use Rattle.std.specs.Global.{Vec}
 use Rattle.std.specs.List.{AllByRecursion}
-use Rattle.bpf_follows_law.specs.declared.notes.Place.{Place}
-use Rattle.bpf_follows_notes.specs.NotesText.{max_lines, SaysAll, notes_text}
-use Rattle.bpf_follows_notes.specs.Refused.{IsRefused}
-use Rattle.bpf_follows_notes.specs.declared.error.NotesError.{NotesError}
-use Rattle.bpf_places.specs.Opened.{Opening, Unreadable}
+use Rattle.bpf_follows.specs.declared.notes.Place.{Place}
+use Rattle.bpf_follows.specs.NotesText.{max_lines, SaysAll, notes_text}
+use Rattle.bpf_follows.specs.Refused.{IsRefused}
+use Rattle.bpf_follows.specs.declared.error.NotesError.{NotesError}
+use Rattle.bpf_answers.specs.Opened.{Opening, Unreadable}
 use Rattle.bpf_answers.specs.Loaded.{TextAt}
 use Rattle.bpf_answers.specs.Told.{OutputFails}
 use Rattle.bpf_answers.specs.declared.failure.Failure.{Failure}

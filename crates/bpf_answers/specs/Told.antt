@@ -2,9 +2,9 @@
 use Rattle.std.specs.Prelude.{◌≡◌, ◌⊎◌, ◌++◌, ◌&&◌, ℕ, List, [], Option, Bool, codes, decimal, true, false, ⊤, if◌then◌else◌}
 use Rattle.std.specs.Io.KnownBytes.{Appends, Keeps}
 use Rattle.bpf_insn.specs.Written.{AppendsBeginning}
-use Rattle.bpf_escape.specs.Escaped.{escaped}
-use Rattle.bpf_places.specs.declared.fault.Cause.{Cause}
-use Rattle.bpf_places.specs.declared.fault.Cause.TheVariants.{Unknown, NotFound, Denied, Folder, NotFolder, Loop, LongName, Full, ReadOnly, Closed}
+use Rattle.bpf_streams.specs.Escaped.{escaped}
+use Rattle.bpf_answers.specs.declared.fault.Cause.{Cause}
+use Rattle.bpf_answers.specs.declared.fault.Cause.TheVariants.{Unknown, NotFound, Denied, Folder, NotFolder, Loop, LongName, Full, ReadOnly, Closed}
 use Rattle.bpf_answers.specs.declared.context.ContextError.{ContextError}
 use Rattle.bpf_answers.specs.declared.context.ContextError.TheVariants.{BadHex, TooLong, Memory}
 use Rattle.bpf_answers.specs.declared.failure.Failure.{Failure}

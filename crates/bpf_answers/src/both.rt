@@ -4,9 +4,10 @@ ghost use Rattle.std.specs.Prelude.{◌≡◌, ◌⊎◌, IfOk, IfErr};
 ghost use Rattle.bpf_answers.specs.Both.{NotPutBoth, PutBoth, pairing};
 ghost use Rattle.bpf_answers.specs.declared.failure.Failure.TheVariants.{CannotWrite, NoMemory};
 
+use crate::error::PlaceError;
 use crate::failure::{DONE, Failure};
 use crate::output::Content;
-use bpf_places::{PlaceError, Places};
+use crate::places::Places;
 
 /// Why nothing can be made at a name.
 fn unmade<'a>(error: PlaceError, name: &'a str) -> Failure<'a>

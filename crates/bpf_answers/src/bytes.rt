@@ -3,7 +3,9 @@
 ghost use Rattle.std.specs.Prelude.{IfOk, IfErr};
 ghost use Rattle.bpf_answers.specs.Loaded.{BytesAt, AreUnread, Tried};
 
-use bpf_places::{PlaceError, Places, read_up_to};
+use crate::error::PlaceError;
+use crate::places::Places;
+use crate::reading::read_up_to;
 use std::alloc::{AllocError, Global};
 
 /// Why bytes at a name aren't had.

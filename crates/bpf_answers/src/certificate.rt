@@ -4,9 +4,10 @@ ghost use Rattle.std.specs.Prelude.{IfOk, IfErr};
 ghost use Rattle.bpf_answers.specs.Loaded.{CertificateFails, ReadsCertificateAt, Tried};
 ghost use Rattle.bpf_answers.specs.Told.{IsQuiet};
 
+use crate::error::PlaceError;
 use crate::failure::Failure;
+use crate::places::Places;
 use bpf_cert::{CertError, Certificate, read};
-use bpf_places::{PlaceError, Places};
 use std::alloc::Global;
 
 /// The certificate at a name, or why it is refused.

@@ -10,12 +10,13 @@ ghost use Rattle.bpf_answers.specs.Each.{AnswersAt, FailsAt, IsPut, LeftAt, Line
 
 use crate::answer::Answer;
 use crate::context::ContextError;
+use crate::error::PlaceError;
 use crate::failure::{DONE, Failure};
+use crate::places::Places;
 use arrayvec::ArrayVec;
 use bpf_insn::MAX_CONTEXT;
 use bpf_insn::written::Pending;
-use bpf_lines::{LineReader, Stop};
-use bpf_places::{PlaceError, Places};
+use bpf_streams::{LineReader, Stop};
 use std::io::{Read, Write};
 
 /// The greatest length of a line, which spells the longest context.

@@ -6,9 +6,9 @@ ghost use Rattle.bpf_answers.specs.Told.{cause_text, failure_line, failure_text,
 ghost use Rattle.std.specs.Io.KnownBytes.{Appends, Keeps};
 
 use crate::context::ContextError;
-use bpf_escape::write_escaped;
+use crate::fault::Cause;
 use bpf_insn::written::write_bytes;
-use bpf_places::Cause;
+use bpf_streams::write_escaped;
 use itoa::Buffer;
 use std::alloc::AllocError;
 use std::io::{self, ErrorKind, Write};

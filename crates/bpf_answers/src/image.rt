@@ -4,9 +4,10 @@ ghost use Rattle.std.specs.Prelude.{IfOk, IfErr};
 ghost use Rattle.bpf_answers.specs.Loaded.{ImageFails, ReadsImageAt, ReadsProgramAt, Tried};
 ghost use Rattle.bpf_answers.specs.Told.{IsQuiet};
 
+use crate::error::PlaceError;
 use crate::failure::Failure;
+use crate::places::Places;
 use bpf_insn::{DecodeError, Order, Program, decode, read_image};
-use bpf_places::{PlaceError, Places};
 use std::alloc::Global;
 
 /// The bytes of the image at a name, as far as they are read, or E9. It can't be read where it can't be opened or its reader

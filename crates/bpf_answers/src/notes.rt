@@ -7,10 +7,9 @@ ghost use Rattle.bpf_answers.specs.Told.{IsQuiet};
 
 use crate::bytes::{BytesError, bytes_at};
 use crate::failure::Failure;
-use bpf_follows_law::Place;
-use bpf_follows_notes::{NotesError, read};
+use crate::places::Places;
+use bpf_follows::{NotesError, Place, read};
 use bpf_insn::MAX_SLOTS;
-use bpf_places::Places;
 use std::alloc::Global;
 
 /// The greatest length of a text of notes that is read, in bytes: a line for each slot of a program, one for behind its last and the first

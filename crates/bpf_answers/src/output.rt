@@ -3,14 +3,15 @@
 ghost use Rattle.std.specs.Prelude.{◌≡◌, ℕ, List, IfOk, IfErr, OnOk, OnErr, true};
 ghost use Rattle.std.specs.Io.KnownBytes.{Appends};
 ghost use Rattle.bpf_insn.specs.Written.{AppendsBeginning};
-ghost use Rattle.bpf_places.specs.Made.{making};
+ghost use Rattle.bpf_answers.specs.Made.{making};
 ghost use Rattle.bpf_answers.specs.Both.{NotPut};
 
+use crate::error::PlaceError;
 use crate::failure::{DONE, Failure};
+use crate::places::Places;
 use bpf_cert::{Certificate, write};
 use bpf_insn::written::write_bytes;
 use bpf_insn::{Program, encode};
-use bpf_places::{PlaceError, Places};
 use std::io::{self, Write};
 
 /// What has bytes to be written.

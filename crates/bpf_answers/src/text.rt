@@ -7,7 +7,7 @@ ghost use Rattle.bpf_answers.specs.Told.{IsQuiet};
 
 use crate::bytes::{BytesError, bytes_at};
 use crate::failure::Failure;
-use bpf_places::Places;
+use crate::places::Places;
 use std::alloc::Global;
 
 /// The greatest length of a text that is read, in bytes.

@@ -7,8 +7,8 @@ ghost use Rattle.bpf_answers.specs.Told.{IsQuiet};
 use crate::bytes::{BytesError, bytes_at};
 use crate::context::ContextError;
 use crate::failure::Failure;
+use crate::places::Places;
 use bpf_insn::MAX_CONTEXT;
-use bpf_places::Places;
 use std::alloc::Global;
 
 /// The context at a name.

@@ -3,12 +3,12 @@
 ghost use Rattle.std.specs.Prelude.{◌≡◌, ℕ, List};
 ghost use Rattle.bpf_insn.specs.Instruction.{Instructions};
 ghost use Rattle.bpf_semantics.specs.State.{State as MachineState};
-ghost use Rattle.bpf_sound.specs.Describes.{Describes};
-ghost use Rattle.bpf_sound.specs.Laws.{Leads};
+ghost use Rattle.bpf_safety.specs.Describes.{Describes};
+ghost use Rattle.bpf_safety.specs.Laws.{Leads};
 
 use bpf_insn::AluOp;
 use bpf_num::{KnownBits, WordDomain};
-use bpf_sound::tightened_describes;
+use bpf_safety::tightened_describes;
 use bpf_state::{State, covers};
 use std::io::{self, Write};
 

@@ -1,7 +1,7 @@
 -- Texts, and what is wrong with them: each line of the table is computed.
 use Rattle.std.proofs.Common.{◌≡◌, ℕ, List, [], ◌∷◌, ◌++◌, take, Some, None, refl}
 use Rattle.std.specs.Prelude.{codes, replicate}
-use Rattle.bpf_lines.specs.Words.{behind}
+use Rattle.bpf_streams.specs.Words.{behind}
 use Rattle.bpf_cert.specs.Reading.{◌>>=◌, or_else, all_there, cut, numeral_in, end_in, signed_in, range_in, part_in, number_in, pointer_in, bytes_in, content_in, place_in, place_closed_in, measure_in, term_in, one_length_in, two_lengths_in, header_in, function_in, label_in, entry_in, line_of_fields, line_in}
 use Rattle.bpf_cert.specs.Faults.{judged, rest_fault, fault_from, text_fault, complete, failed, unknown}
 use Rattle.bpf_cert.specs.declared.error.CertError.TheVariants.{Syntax, NotCanonical, Limit, Read}

@@ -13,14 +13,14 @@ use Rattle.bpf_cert.specs.Faults.{judged, rest_fault, fault_from, text_fault, is
 use Rattle.bpf_cert.specs.declared.error.CertError.{CertError}
 use Rattle.bpf_cert.specs.declared.error.CertError.TheVariants.{Syntax, NotCanonical, Limit, Memory, Read}
 use Rattle.bpf_cert.specs.View.{CertificateView}
-use Rattle.bpf_lines.specs.declared.line_reader.Stop.{Stop}
-use Rattle.bpf_lines.specs.declared.line_reader.Stop.TheVariants as stop
+use Rattle.bpf_streams.specs.declared.line_reader.Stop.{Stop}
+use Rattle.bpf_streams.specs.declared.line_reader.Stop.TheVariants as stop
 use Rattle.bpf_cert.specs.ReadAnswers.{IsFaultOf, FailsAt}
 use Rattle.bpf_cert.specs.Certificates.{Spells}
 use Rattle.bpf_cert.specs.code.Building.{Takes, Finishes}
 use Rattle.bpf_cert.specs.declared.building.Builder.{Builder}
 use Rattle.bpf_cert.specs.code.Behind.{AnswersBehindEnd}
-use Rattle.bpf_lines.specs.Taken.{IsOneLine, TakesLine}
+use Rattle.bpf_streams.specs.Taken.{IsOneLine, TakesLine}
 use Rattle.std.specs.Prelude.{IfOk, IfErr}
 
 abbrev pub pieces : List ℕ → List (List ℕ)

@@ -2,7 +2,7 @@
 use Rattle.std.specs.Prelude.{ℕ, true, false, List, [], ◌∷◌, map, codes, Option, Some, None, ◌==◌, if◌then◌else◌}
 use Rattle.std.specs.List.{slice_split}
 use Rattle.std.specs.Str.{bytes_eq}
-use Rattle.bpf_lines.specs.Words.{behind}
+use Rattle.bpf_streams.specs.Words.{behind}
 use Rattle.bpf_cert.specs.Numeral.{is_numeral, SignedDigits}
 use Rattle.bpf_cert.specs.Line.{Part, Number, Content, PlaceText, Measure, Term, Lengths, Line}
 

@@ -16,8 +16,8 @@ use crate::finding::{PartFault, tested};
 use crate::num::{are_plain_signed, is_int_range, narrow, number_in, says_some, signed_value};
 use crate::part::signed_range;
 use crate::place::PlaceForm;
-use bpf_lines::behind;
 use bpf_state::{Area, Pointer, SlotState};
+use bpf_streams::behind;
 
 /// A pointer by what it points into and the bounds of its offset.
 #[derive(Clone, Copy)]

@@ -6,7 +6,7 @@ ghost use Rattle.bpf_cert.specs.Numeral.{is_decimal_digit, is_numeral, is_plain,
 ghost use Rattle.bpf_cert.specs.Reading.{signed_in};
 ghost use Rattle.bpf_cert.specs.code.Seen.{signed_seen, IsPlainNumeral};
 
-use bpf_lines::behind;
+use bpf_streams::behind;
 
 /// What stands for each number past 64 bits.
 pub const HUGE: u128 = 1 << 64;

@@ -7,7 +7,7 @@ ghost use Rattle.bpf_cert.specs.code.Seen.{ends_in, signed_seen, part_seen};
 
 use crate::decimal::{SignedForm, is_numeral, signed};
 use crate::fields::cut;
-use bpf_lines::behind;
+use bpf_streams::behind;
 
 /// A part of what is known of a number.
 #[derive(Clone, Copy)]

@@ -10,8 +10,8 @@ ghost use Rattle.bpf_cert.specs.code.Seen.{place_seen};
 
 use crate::decimal::{is_less, is_numeral, is_plain, number};
 use bpf_insn::Reg;
-use bpf_lines::behind;
 use bpf_state::Place;
+use bpf_streams::behind;
 
 /// A register or a slot by its digits.
 #[derive(Clone, Copy)]

@@ -13,7 +13,7 @@ use crate::building::Builder;
 use crate::certificate::Certificate;
 use crate::error::CertError;
 use arrayvec::ArrayVec;
-use bpf_lines::{LineReader, Stop};
+use bpf_streams::{LineReader, Stop};
 use std::alloc::Global;
 use std::io::Read;
 

@@ -18,7 +18,7 @@ use crate::finding::{PartFault, joined, tested};
 use crate::limits::MAX_WEIGHT;
 use crate::place::{PlaceForm, is_before, is_limited_place, is_plain_place, place, place_value};
 use arrayvec::ArrayVec;
-use bpf_lines::behind;
+use bpf_streams::behind;
 
 /// A term, with the limit of a measure that rises.
 #[derive(Clone, Copy)]

@@ -7,10 +7,10 @@ use Rattle.bpf_insn.specs.Image.{IsProgram}
 use Rattle.bpf_insn.specs.Instruction.{Instructions, insn_at, layout, slots}
 use Rattle.bpf_insn.specs.Limits.{frame_bytes}
 use Rattle.bpf_insn.specs.declared.instruction.Insn.{Insn}
-use Rattle.bpf_follows_law.specs.declared.notes.Bounds.{Bounds}
-use Rattle.bpf_follows_law.specs.declared.notes.Place.{Place}
-use Rattle.bpf_follows_law.specs.Laws.{MatchingKeepsMeaning}
-use Rattle.bpf_follows_law.specs.Matching.{Matches}
+use Rattle.bpf_follows.specs.declared.notes.Bounds.{Bounds}
+use Rattle.bpf_follows.specs.declared.notes.Place.{Place}
+use Rattle.bpf_follows.specs.Laws.{MatchingKeepsMeaning}
+use Rattle.bpf_follows.specs.Matching.{Matches}
 use Rattle.bpf_follows.specs.Mismatches.{IsMismatch, mismatch_slot}
 use Rattle.bpf_follows.specs.declared.mismatch.Mismatch.{Mismatch}
 use Rattle.bpf_follows.specs.declared.mismatch.Mismatch.TheVariants.{Order, Start, At}

@@ -7,13 +7,13 @@ use Rattle.bpf_safety.specs.Certified.{IsLeastFlaw}
 use Rattle.bpf_check.specs.CheckedProgram.{IsCertifiedBy}
 use Rattle.bpf_check.specs.RefusalNumbers.{refusal_number, refusal_slot}
 use Rattle.bpf_check.specs.declared.refusal.Refusal.{Refusal}
-use Rattle.bpf_follows_law.specs.declared.notes.Bounds.{Bounds}
-use Rattle.bpf_follows_law.specs.declared.notes.Place.{Place}
-use Rattle.bpf_follows_law.specs.Matching.{Matches}
-use Rattle.bpf_follows_law.specs.Meaning.{KeepsMeaning}
+use Rattle.bpf_follows.specs.declared.notes.Bounds.{Bounds}
+use Rattle.bpf_follows.specs.declared.notes.Place.{Place}
+use Rattle.bpf_follows.specs.Matching.{Matches}
+use Rattle.bpf_follows.specs.Meaning.{KeepsMeaning}
 use Rattle.bpf_follows.specs.Mismatches.{IsMismatch, mismatch_slot}
 use Rattle.bpf_follows.specs.declared.mismatch.Mismatch.{Mismatch}
-use Rattle.bpf_harden_notes.specs.RefusalNumbers.{harden_slot}
+use Rattle.bpf_changes.specs.RefusalNumbers.{harden_slot}
 use Rattle.bpf_refusals.specs.Told.{told_hardening, told_not_shown, told_too_dear, told_uncertified}
 use Rattle.bpf_refusals.specs.declared.told.Told.{Told}
 use Rattle.bpf_certify.specs.declared.wish.Wish.{Wish}

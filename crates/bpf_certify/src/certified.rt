@@ -3,8 +3,8 @@
 ghost use Rattle.std.specs.Prelude.{◌≡◌, ◌<◌, ◌≤◌, ◌↔◌, ℕ, false, IsTrue, IfOk, IfErr, IfSome};
 ghost use Rattle.bpf_insn.specs.Instruction.{slots};
 ghost use Rattle.bpf_insn.specs.Limits.{frame_bytes, max_context};
-ghost use Rattle.bpf_follows_law.specs.Matching.{Matches};
-ghost use Rattle.bpf_harden_notes.specs.declared.error.HardenError.TheVariants.{Memory, NoBudget};
+ghost use Rattle.bpf_follows.specs.Matching.{Matches};
+ghost use Rattle.bpf_changes.specs.declared.error.HardenError.TheVariants.{Memory, NoBudget};
 ghost use Rattle.bpf_certify.specs.Certified.{Answers, AreWished, IsPaid, IsRefused, IsUnjudged, IsUnpaid, certify_slot, leaving};
 ghost use Rattle.bpf_certify.specs.declared.error.CertifyError.TheVariants.{Unhardened};
 
@@ -12,8 +12,7 @@ use crate::error::CertifyError;
 use crate::wish::Wish;
 use bpf_cert::Certificate;
 use bpf_check::check;
-use bpf_follows::Mismatch;
-use bpf_follows_law::{Bounds, Place, matching_keeps_meaning};
+use bpf_follows::{Bounds, Mismatch, Place, matching_keeps_meaning};
 use bpf_harden::{Fitted, HardenError, Hardened, Options, Unfit, fit};
 use bpf_harden_follows::{Evidence, evidence_of};
 use bpf_infer::{InferError, search};

@@ -5,7 +5,7 @@ use Rattle.bpf_insn.specs.Image.{IsImage, IsProgram}
 use Rattle.bpf_insn.specs.Laws.{AreBytes, ImageIsInjective}
 use Rattle.bpf_semantics.specs.Run.{IsDone}
 use Rattle.bpf_insn.specs.declared.order.Order.{Order}
-use Rattle.bpf_sound.specs.Describes.{LengthWithin}
+use Rattle.bpf_safety.specs.Describes.{LengthWithin}
 use Rattle.bpf_cert.specs.View.{CertificateView}
 use Rattle.bpf_cert.specs.Certificates.{Spells}
 use Rattle.bpf_safety.specs.Certified.{Certified, IsLeastFlaw}

@@ -1,7 +1,7 @@
 //! Programs that were checked.
 
 ghost use Rattle.std.specs.Prelude.{◌≡◌};
-ghost use Rattle.bpf_sound.specs.Describes.{LengthWithin};
+ghost use Rattle.bpf_safety.specs.Describes.{LengthWithin};
 ghost use Rattle.bpf_check.specs.CheckedProgram.{IsCertifiedBy, IsChecked, work_of};
 ghost use Rattle.bpf_flat.specs.Runs.{RunsTo};
 

@@ -5,15 +5,15 @@ use Rattle.bpf_insn.specs.Image.{image}
 use Rattle.bpf_insn.specs.Limits.{max_context}
 use Rattle.bpf_cert.specs.View.{CertificateView}
 use Rattle.bpf_cert.specs.Spelling.{certificate_text}
-use Rattle.bpf_follows_law.specs.declared.notes.Place.{Place}
+use Rattle.bpf_follows.specs.declared.notes.Place.{Place}
 use Rattle.bpf_certify.specs.Certified.{Answers as IsAnswer, IsPaid, StandsFor}
 use Rattle.bpf_certify.specs.declared.certified.Certified.{Certified}
 use Rattle.bpf_certify.specs.declared.certified.Rewritten.{Rewritten}
 use Rattle.bpf_request.specs.CommandLine.{hardening_of}
 use Rattle.bpf_request.specs.declared.certifying.Certifying.{Certifying}
 use Rattle.bpf_request.specs.declared.hardening.Hardening.{Hardening}
-use Rattle.bpf_places.specs.Opened.{Opening}
-use Rattle.bpf_places.specs.Made.{Making}
+use Rattle.bpf_answers.specs.Opened.{Opening}
+use Rattle.bpf_answers.specs.Made.{Making}
 use Rattle.bpf_answers.specs.Both.{Pairing, Putting}
 use Rattle.bpf_answers.specs.Both.Put.{Both}
 use Rattle.bpf_answers.specs.Loaded.{ImageFails, LoadsImage}

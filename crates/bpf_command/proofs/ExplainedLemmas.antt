@@ -8,14 +8,14 @@ use Rattle.bpf_safety.specs.Certified.{IsLeastFlaw}
 use Rattle.bpf_check.specs.CheckedProgram.{IsCertifiedBy}
 use Rattle.bpf_check.specs.RefusalNumbers.{refusal_number, refusal_slot}
 use Rattle.bpf_check.specs.declared.refusal.Refusal.{Refusal}
-use Rattle.bpf_follows_law.specs.Meaning.{KeepsMeaning}
+use Rattle.bpf_follows.specs.Meaning.{KeepsMeaning}
 use Rattle.bpf_follows.specs.Mismatches.{IsMismatch}
 use Rattle.bpf_explain_harden.specs.Hardened.{IsMade, IsUnhardened}
 use Rattle.bpf_explain_harden.specs.declared.hardened.Hardening.{Hardening}
 use Rattle.bpf_explain_harden.specs.declared.hardened.Made.{Made}
 use Rattle.bpf_explain_harden.specs.declared.refusal.Unhardened.{Unhardened}
 use Rattle.bpf_explain_harden.specs.declared.refusal.Unhardened.TheVariants.{Refused, Unshown}
-use Rattle.bpf_places.specs.Opened.{Opening, Unreadable}
+use Rattle.bpf_answers.specs.Opened.{Opening, Unreadable}
 use Rattle.bpf_answers.specs.Loaded.{LoadsImage, CertificateAt, ShortTextAt, TextAt, TextFails, Tried}
 use Rattle.bpf_answers.specs.Answer.{Says, status_of}
 use Rattle.bpf_answers.specs.declared.answer.Answer.{Answer}

@@ -4,14 +4,14 @@ use Rattle.std.specs.Borrow.{Bor}
 use Rattle.bpf_insn.specs.Instruction.{Instructions}
 use Rattle.bpf_insn.specs.Image.{IsProgram, image}
 use Rattle.bpf_follows.specs.declared.mismatch.Mismatch.{Mismatch}
-use Rattle.bpf_follows_law.specs.declared.notes.Bounds.{Bounds}
-use Rattle.bpf_follows_law.specs.declared.notes.Place.{Place}
-use Rattle.bpf_follows_law.specs.Laws.{MatchingKeepsMeaning}
-use Rattle.bpf_follows_law.specs.Meaning.{KeepsMeaning}
-use Rattle.bpf_follows_notes.specs.NotesText.{notes_text}
+use Rattle.bpf_follows.specs.declared.notes.Bounds.{Bounds}
+use Rattle.bpf_follows.specs.declared.notes.Place.{Place}
+use Rattle.bpf_follows.specs.Laws.{MatchingKeepsMeaning}
+use Rattle.bpf_follows.specs.Meaning.{KeepsMeaning}
+use Rattle.bpf_follows.specs.NotesText.{notes_text}
 use Rattle.bpf_request.specs.declared.hardening.Hardening.{Hardening}
-use Rattle.bpf_places.specs.Opened.{Opening}
-use Rattle.bpf_places.specs.Made.{Making}
+use Rattle.bpf_answers.specs.Opened.{Opening}
+use Rattle.bpf_answers.specs.Made.{Making}
 use Rattle.bpf_answers.specs.Loaded.{ImageFails, LoadsImage}
 use Rattle.bpf_answers.specs.Told.{IsQuiet}
 use Rattle.bpf_command.specs.Hardened.{AllStand, AreLeft, BothStand, HardenFails, Hardens, IsKept, IsLeft, IsLeftSaid, NotBothPut, NotBothStand, Show, Stands, Unput, bounds_of}

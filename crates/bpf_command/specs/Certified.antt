@@ -6,11 +6,11 @@ use Rattle.bpf_insn.specs.Image.{image}
 use Rattle.bpf_insn.specs.Limits.{max_context}
 use Rattle.bpf_cert.specs.View.{CertificateView}
 use Rattle.bpf_cert.specs.Spelling.{certificate_text}
-use Rattle.bpf_follows_law.specs.declared.notes.Bounds.{Bounds}
-use Rattle.bpf_follows_law.specs.declared.notes.Place.{Place}
-use Rattle.bpf_follows_law.specs.Matching.{Matches}
-use Rattle.bpf_follows_law.specs.Meaning.{KeepsMeaning}
-use Rattle.bpf_follows_notes.specs.NotesText.{notes_text}
+use Rattle.bpf_follows.specs.declared.notes.Bounds.{Bounds}
+use Rattle.bpf_follows.specs.declared.notes.Place.{Place}
+use Rattle.bpf_follows.specs.Matching.{Matches}
+use Rattle.bpf_follows.specs.Meaning.{KeepsMeaning}
+use Rattle.bpf_follows.specs.NotesText.{notes_text}
 use Rattle.bpf_certify.specs.Certified.{IsPaid, IsRefused}
 use Rattle.bpf_certify.specs.declared.certified.Certified.{Certified}
 use Rattle.bpf_certify.specs.declared.certified.Rewritten.{Rewritten}
@@ -19,7 +19,7 @@ use Rattle.bpf_certify.specs.declared.error.CertifyError.TheVariants as errors
 use Rattle.bpf_certify.specs.declared.wish.Wish.{Wish}
 use Rattle.bpf_request.specs.CommandLine.{hardening_of}
 use Rattle.bpf_request.specs.declared.certifying.Certifying.{Certifying}
-use Rattle.bpf_places.specs.Opened.{Opening}
+use Rattle.bpf_answers.specs.Opened.{Opening}
 use Rattle.bpf_answers.specs.declared.answer.Answer.{Answer}
 use Rattle.bpf_answers.specs.declared.answer.Answer.TheVariants.{NoImage as ImageAnswer, NotHardened, NotShown, TooDear, Uncertified, Certified as IsCertified}
 use Rattle.bpf_command.specs.declared.commands.certify.Assessed.{Assessed}

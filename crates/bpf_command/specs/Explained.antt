@@ -12,13 +12,13 @@ use Rattle.bpf_check.specs.CheckedProgram.{IsCertifiedBy}
 use Rattle.bpf_check.specs.declared.refusal.Refusal.{Refusal}
 use Rattle.bpf_check.specs.RefusalNumbers.{refusal_slot, refusal_number}
 use Rattle.bpf_insn.specs.Limits.{max_context}
-use Rattle.bpf_infer_error.specs.RefusalNumbers.{infer_slot}
-use Rattle.bpf_follows_law.specs.declared.notes.Bounds.{Bounds}
-use Rattle.bpf_follows_law.specs.declared.notes.Place.{Place}
-use Rattle.bpf_follows_law.specs.Meaning.{KeepsMeaning}
+use Rattle.bpf_infer_base.specs.RefusalNumbers.{infer_slot}
+use Rattle.bpf_follows.specs.declared.notes.Bounds.{Bounds}
+use Rattle.bpf_follows.specs.declared.notes.Place.{Place}
+use Rattle.bpf_follows.specs.Meaning.{KeepsMeaning}
 use Rattle.bpf_follows.specs.Mismatches.{IsMismatch}
-use Rattle.bpf_harden_notes.specs.RefusalNumbers.{harden_slot}
-use Rattle.bpf_places.specs.Opened.{Opening}
+use Rattle.bpf_changes.specs.RefusalNumbers.{harden_slot}
+use Rattle.bpf_answers.specs.Opened.{Opening}
 use Rattle.bpf_answers.specs.Loaded.{ImageFails, ReadableFails, ShortTextAt, Tried}
 use Rattle.bpf_answers.specs.Answer.{status_of}
 use Rattle.bpf_answers.specs.declared.answer.Answer.{Answer}

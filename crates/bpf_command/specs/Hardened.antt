@@ -3,18 +3,18 @@ use Rattle.std.specs.Prelude.{◌≡◌, ◌⊎◌, ◌<◌, ℕ, List, true, fa
 use Rattle.std.specs.Borrow.{Bor}
 use Rattle.bpf_insn.specs.Instruction.{Instructions, slots}
 use Rattle.bpf_insn.specs.Image.{IsProgram, image}
-use Rattle.bpf_follows_law.specs.declared.notes.Bounds.{Bounds}
-use Rattle.bpf_follows_law.specs.declared.notes.Place.{Place}
-use Rattle.bpf_follows_law.specs.Matching.{Matches}
+use Rattle.bpf_follows.specs.declared.notes.Bounds.{Bounds}
+use Rattle.bpf_follows.specs.declared.notes.Place.{Place}
+use Rattle.bpf_follows.specs.Matching.{Matches}
 use Rattle.bpf_follows.specs.Mismatches.{IsMismatch}
 use Rattle.bpf_follows.specs.declared.mismatch.Mismatch.{Mismatch}
-use Rattle.bpf_follows_law.specs.Meaning.{KeepsMeaning}
-use Rattle.bpf_follows_notes.specs.NotesText.{notes_text}
-use Rattle.bpf_harden_notes.specs.RefusalNumbers.{harden_slot}
+use Rattle.bpf_follows.specs.Meaning.{KeepsMeaning}
+use Rattle.bpf_follows.specs.NotesText.{notes_text}
+use Rattle.bpf_changes.specs.RefusalNumbers.{harden_slot}
 use Rattle.bpf_request.specs.declared.hardening.Hardening.{Hardening}
-use Rattle.bpf_places.specs.Opened.{Opening}
+use Rattle.bpf_answers.specs.Opened.{Opening}
 use Rattle.bpf_answers.specs.Loaded.{ImageFails, ImageRefused, LoadsImage, Tried}
-use Rattle.bpf_places.specs.Made.{Making}
+use Rattle.bpf_answers.specs.Made.{Making}
 use Rattle.bpf_answers.specs.declared.answer.Answer.{Answer}
 use Rattle.bpf_answers.specs.declared.answer.Answer.TheVariants.{NoImage as ImageAnswer, NotHardened as HardenAnswer, NotShown as ShowAnswer, Written, WrittenFor}
 use Rattle.bpf_command.specs.declared.commands.harden.Attempt.{Attempt}

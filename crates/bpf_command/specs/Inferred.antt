@@ -5,10 +5,10 @@ use Rattle.bpf_insn.specs.Limits.{max_context}
 use Rattle.bpf_cert.specs.View.{CertificateView}
 use Rattle.bpf_cert.specs.Limits.{IsCertificate}
 use Rattle.bpf_cert.specs.Spelling.{certificate_text}
-use Rattle.bpf_infer_error.specs.RefusalNumbers.{infer_slot}
+use Rattle.bpf_infer_base.specs.RefusalNumbers.{infer_slot}
 use Rattle.bpf_request.specs.declared.asking.Inferring.{Inferring}
-use Rattle.bpf_places.specs.Opened.{Opening}
-use Rattle.bpf_places.specs.Made.{Making}
+use Rattle.bpf_answers.specs.Opened.{Opening}
+use Rattle.bpf_answers.specs.Made.{Making}
 use Rattle.bpf_answers.specs.Loaded.{ImageFails, ImageRefused, LoadsImage, Tried}
 use Rattle.bpf_answers.specs.declared.answer.Answer.{Answer}
 use Rattle.bpf_answers.specs.declared.answer.Answer.TheVariants.{NoImage as ImageAnswer, NotProposed as SearchAnswer, Written}

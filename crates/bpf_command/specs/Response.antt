@@ -6,16 +6,16 @@ use Rattle.clap.specs.Words.{Text, subcommand_of}
 use Rattle.bpf_request.specs.CommandLine.{IsAsked, bpf, faults_in}
 use Rattle.bpf_request.specs.declared.words.Request.{Request}
 use Rattle.bpf_request.specs.declared.words.Request.TheVariants.{Groups, Asm, List as ListOf, Run, Check, RunChecked, Replay, Infer, Harden, Certify, Convert, ToC, Follows, Migrate, Explain}
-use Rattle.bpf_places.specs.Opened.{Opening}
-use Rattle.bpf_places.specs.Made.{Making, making}
+use Rattle.bpf_answers.specs.Opened.{Opening}
+use Rattle.bpf_answers.specs.Made.{Making, making}
 use Rattle.bpf_answers.specs.Both.{Putting, putting}
 use Rattle.bpf_answers.specs.Loaded.{ImageFails, OpensFirst}
 use Rattle.bpf_answers.specs.Told.{IsTold}
 use Rattle.bpf_answers.specs.declared.failure.Failure.{Failure}
 use Rattle.bpf_answers.specs.declared.failure.Failure.TheVariants.{NoMemory, NotTogether}
-use Rattle.bpf_command_c.specs.Emitted.{EmitFails, EmitSays, NotEmitted}
-use Rattle.bpf_command_convert.specs.Converted.{ConvertFails, ConvertSays, NotConverted}
-use Rattle.bpf_command_convert.specs.Standing.{Placing, placing}
+use Rattle.bpf_command_core.specs.Emitted.{EmitFails, EmitSays, NotEmitted}
+use Rattle.bpf_command_core.specs.Converted.{ConvertFails, ConvertSays, NotConverted}
+use Rattle.bpf_command_core.specs.Standing.{Placing, placing}
 use Rattle.bpf_command_core.specs.Followed.{FollowsFails, FollowsSays}
 use Rattle.bpf_command_core.specs.Given.{CheckedFails, CheckedLeaves, CheckedSays, Replies, RepliesEach, RunFails, RunLeaves, RunSays}
 use Rattle.bpf_command_core.specs.Names.{names_checked, names_run}

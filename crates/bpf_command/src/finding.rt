@@ -5,7 +5,7 @@ ghost use Rattle.bpf_command.specs.Found.{Prints, lines_of, reply_of};
 
 use crate::commands::{Assessed, Attempt, Inference};
 use bpf_answers::{Failure, Reply, print};
-use bpf_command_convert::Conversion;
+use bpf_command_core::Conversion;
 use std::io::Write;
 
 /// What a command found for a request. What is printed of it, and what is told beside, are functions of it.

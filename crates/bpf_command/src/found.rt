@@ -5,7 +5,7 @@ ghost use Rattle.std.specs.Prelude.{◌≡◌, IfOk, IfErr, Ok, Err};
 use crate::commands::{Assessed, Attempt, Inference};
 use crate::finding::Finding;
 use bpf_answers::{Answer, Failure, Reply};
-use bpf_command_convert::Conversion;
+use bpf_command_core::Conversion;
 
 /// What a command gives back.
 pub trait Found {

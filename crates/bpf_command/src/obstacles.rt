@@ -3,7 +3,7 @@
 ghost use Rattle.std.specs.Prelude.{◌≡◌, IfOk};
 ghost use Rattle.bpf_command.specs.Obstacles.{AreLinesInTheWay, IsAnyInTheWay, IsCertificateInTheWay, IsConversionInTheWay, IsInTheWay, MeetEither, MeetsOne, Obstructs};
 
-use bpf_places::Places;
+use bpf_answers::Places;
 use bpf_request::{Certifying, Converting, Hardening, Request};
 use std::alloc::AllocError;
 

@@ -6,14 +6,13 @@ ghost use Rattle.bpf_command.specs.Remarks.{remark_of, remark_of_answer, remark_
 use crate::commands::{Assessment, Attempt, Inference, Kept};
 use crate::finding::Finding;
 use bpf_answers::{Answer, REFUSED, Reply};
+use bpf_captures::CaptureRefusal;
 use bpf_certify::CertifyError;
-use bpf_command_convert::{Conversion, Unconvertible};
-use bpf_follows::Mismatch;
-use bpf_follows_law::Bounds;
+use bpf_command_core::{Conversion, Unconvertible};
+use bpf_follows::{Bounds, Mismatch};
 use bpf_harden::HardenError;
 use bpf_infer::InferError;
 use bpf_insn::{DecodeError, Order};
-use bpf_pcap::CaptureRefusal;
 use bpf_request::{Certifying, Hardening, Inferring, Request};
 
 /// What is told beside an answer.

@@ -13,13 +13,11 @@ use crate::obstacles::obstructs;
 use crate::remark::remark_of;
 use crate::sentences::tell_remark;
 use crate::shown::tell_mistake;
-use bpf_answers::{BAD_WORDS, CLOSED, FAILED, Failure, tell};
-use bpf_command_c::emitted;
-use bpf_command_convert::converted;
+use bpf_answers::{BAD_WORDS, CLOSED, Cause, FAILED, Failure, Places, tell};
 use bpf_command_core::{
-    assembled, checked, followed, grouped, listed, migrated, ran_checked_on, ran_on, replayed,
+    assembled, checked, converted, emitted, followed, grouped, listed, migrated, ran_checked_on,
+    ran_on, replayed,
 };
-use bpf_places::{Cause, Places};
 use bpf_request::{Request, request_of};
 use clap::error::ErrorKind;
 use std::alloc::Global;

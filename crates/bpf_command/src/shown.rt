@@ -1,7 +1,7 @@
 //! The words of the command line as a terminal is shown them: their control characters by their bytes.
 
-use bpf_escape::{Escaped, write_escaped};
 use bpf_request::request_of;
+use bpf_streams::{Escaped, write_escaped};
 use clap::Error;
 use std::alloc::Global;
 use std::io::{self, Write};

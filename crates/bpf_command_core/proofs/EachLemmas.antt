@@ -5,7 +5,7 @@ use Rattle.bpf_insn.specs.Instruction.{Instructions}
 use Rattle.bpf_cert.specs.View.{CertificateView}
 use Rattle.bpf_check.specs.CheckedProgram.{CheckedProgram, IsCertifiedBy, checked}
 use Rattle.bpf_request.specs.declared.asking.CheckedRunning.{CheckedRunning}
-use Rattle.bpf_places.specs.Opened.{Opening}
+use Rattle.bpf_answers.specs.Opened.{Opening}
 use Rattle.bpf_answers.specs.Loaded.{CertificateAt}
 use Rattle.bpf_answers.specs.Each.{AnswersAt, FailsAt, LeftAt}
 use Rattle.bpf_answers.specs.declared.reply.Reply.TheVariants.{Each}

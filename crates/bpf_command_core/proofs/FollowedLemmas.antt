@@ -2,7 +2,7 @@
 use Rattle.std.proofs.Common.{Result, Ok, Err, IfErr, inr}
 use Rattle.bpf_insn.specs.Instruction.{Instructions}
 use Rattle.bpf_request.specs.declared.following.Following.{Following}
-use Rattle.bpf_places.specs.Opened.{Opening}
+use Rattle.bpf_answers.specs.Opened.{Opening}
 use Rattle.bpf_answers.specs.Loaded.{LoadsImage}
 use Rattle.bpf_answers.specs.Notes.{NotesFail}
 use Rattle.bpf_answers.specs.declared.answer.Answer.{Answer}

@@ -9,7 +9,7 @@ use Rattle.bpf_safety.specs.Theorems.{IsSafe, IsFlatSafe, CertifiedIsSafe, Certi
 use Rattle.bpf_check.specs.CheckedProgram.{CheckedProgram, IsCertifiedBy, checked}
 use Rattle.bpf_check.specs.Verdicts.{Verified, program_in}
 use Rattle.bpf_check.proofs.CertificateFacts.{range_is_one, most_fits}
-use Rattle.bpf_places.specs.Opened.{Opening}
+use Rattle.bpf_answers.specs.Opened.{Opening}
 use Rattle.bpf_answers.specs.Loaded.{CertificateAt, LoadsImage}
 use Rattle.bpf_answers.specs.declared.answer.Answer.{Answer}
 use Rattle.bpf_answers.specs.declared.answer.Answer.TheVariants.{Yes, NoImage, NoCertificate, NotCertified}

@@ -4,11 +4,11 @@ use Rattle.std.specs.Io.KnownBytes.{Appends}
 use Rattle.bpf_insn.specs.Instruction.{Instructions}
 use Rattle.bpf_cert.specs.View.{CertificateView}
 use Rattle.bpf_check.specs.CheckedProgram.{CheckedProgram, IsCertifiedBy, checked}
-use Rattle.bpf_places.specs.Opened.{Opening}
+use Rattle.bpf_answers.specs.Opened.{Opening}
 use Rattle.bpf_answers.specs.Loaded.{CertificateAt}
-use Rattle.bpf_replay.specs.Stops.{Replays}
-use Rattle.bpf_replay.specs.declared.turn.Stop.{Stop}
-use Rattle.bpf_replay.specs.declared.turn.Stop.TheVariants.{Failed}
+use Rattle.bpf_captures.specs.Stops.{Replays}
+use Rattle.bpf_captures.specs.declared.turn.Stop.{Stop}
+use Rattle.bpf_captures.specs.declared.turn.Stop.TheVariants.{Failed}
 use Rattle.bpf_answers.proofs.MadeLemmas.{whole}
 use Rattle.bpf_answers.specs.declared.reply.Reply.{Reply}
 use Rattle.bpf_answers.specs.declared.failure.Failure.{Failure}

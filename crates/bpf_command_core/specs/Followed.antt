@@ -1,13 +1,13 @@
 -- What is said of two images and the notes that are to show that the one program keeps the meaning of the other.
 use Rattle.std.specs.Prelude.{◌≡◌, ◌⊎◌, List, Option}
 use Rattle.bpf_insn.specs.Instruction.{Instructions}
-use Rattle.bpf_follows_law.specs.declared.notes.Bounds.{Bounds}
-use Rattle.bpf_follows_law.specs.declared.notes.Place.{Place}
-use Rattle.bpf_follows_law.specs.Matching.{Matches}
+use Rattle.bpf_follows.specs.declared.notes.Bounds.{Bounds}
+use Rattle.bpf_follows.specs.declared.notes.Place.{Place}
+use Rattle.bpf_follows.specs.Matching.{Matches}
 use Rattle.bpf_follows.specs.Mismatches.{IsMismatch}
-use Rattle.bpf_follows_law.specs.Meaning.{KeepsMeaning}
+use Rattle.bpf_follows.specs.Meaning.{KeepsMeaning}
 use Rattle.bpf_request.specs.declared.following.Following.{Following}
-use Rattle.bpf_places.specs.Opened.{Opening}
+use Rattle.bpf_answers.specs.Opened.{Opening}
 use Rattle.bpf_answers.specs.Loaded.{ImageFails, ImageRefused, LoadsImage}
 use Rattle.bpf_answers.specs.Notes.{LoadsNotes, NotesFail, NotesRefused}
 use Rattle.bpf_answers.specs.declared.answer.Answer.{Answer}

@@ -7,7 +7,7 @@ use Rattle.bpf_request.specs.declared.asking.CheckedRunning.{CheckedRunning}
 use Rattle.bpf_cert.specs.View.{CertificateView}
 use Rattle.bpf_check.specs.CheckedProgram.{IsCertifiedBy, checked}
 use Rattle.bpf_answers.specs.Context.{context_in}
-use Rattle.bpf_places.specs.Opened.{Opening}
+use Rattle.bpf_answers.specs.Opened.{Opening}
 use Rattle.bpf_answers.specs.Loaded.{LoadsImage, ImageFails, CertificateAt, CertificateFails, ContextAt, ContextFails}
 use Rattle.std.specs.Io.KnownBytes.{Keeps}
 use Rattle.bpf_answers.specs.declared.answer.Answer.{Answer}

@@ -8,7 +8,7 @@ use Rattle.bpf_text.specs.declared.annotated.Notes.{Notes}
 use Rattle.bpf_text.specs.declared.annotated.Notes.TheVariants.{Slots, Bytes, Both}
 use Rattle.bpf_text.specs.declared.error.TextError.TheVariants.{Memory as NoRoom}
 use Rattle.bpf_machine.specs.Answers.{IsRun}
-use Rattle.bpf_sound.specs.Describes.{LengthWithin}
+use Rattle.bpf_safety.specs.Describes.{LengthWithin}
 use Rattle.bpf_cert.specs.View.{CertificateView}
 use Rattle.bpf_cert.specs.Spelling.{certificate_text}
 use Rattle.bpf_cert.specs.declared.error.CertError.TheVariants.{Memory as NoCopy}
@@ -21,9 +21,9 @@ use Rattle.bpf_answers.specs.Context.{context_in}
 use Rattle.bpf_answers.specs.declared.context.ContextError.{ContextError}
 use Rattle.bpf_answers.specs.declared.context.ContextError.TheVariants.{Memory as NoSpace}
 use Rattle.bpf_request.specs.declared.asking.Assembling.{Assembling}
-use Rattle.bpf_places.specs.Opened.{Opening}
+use Rattle.bpf_answers.specs.Opened.{Opening}
 use Rattle.bpf_answers.specs.Loaded.{ImageRefused, LoadsImage, ImageFails, ShortTextAt, TextFails, CertificateAt, CertificateRefused, CertificateUnread, CertificateFails, Tried}
-use Rattle.bpf_places.specs.Made.{Making}
+use Rattle.bpf_answers.specs.Made.{Making}
 use Rattle.bpf_answers.specs.declared.answer.Answer.{Answer}
 use Rattle.bpf_answers.specs.declared.answer.Answer.TheVariants.{Yes, NoImage, NoText, NoCertificate, NotCertified, NoContext, Ends, Ran, Occur, Lists, Annotates, Written}
 use Rattle.bpf_answers.specs.Told.{OutputFails}

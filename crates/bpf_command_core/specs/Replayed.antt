@@ -7,14 +7,14 @@ use Rattle.bpf_insn.specs.declared.order.Order.{Order}
 use Rattle.bpf_cert.specs.View.{CertificateView}
 use Rattle.bpf_check.specs.CheckedProgram.{CheckedProgram, IsCertifiedBy, checked}
 use Rattle.bpf_flat.specs.Runs.{RunsTo}
-use Rattle.bpf_packets.specs.Blocks.{head_bytes}
-use Rattle.bpf_replay.specs.Lines.{IsTold}
-use Rattle.bpf_replay.specs.Stops.{Replayed, Replays}
-use Rattle.bpf_replay.specs.declared.answerer.Blocks.{Blocks}
-use Rattle.bpf_replay.specs.declared.turn.Stop.{Stop}
-use Rattle.bpf_replay.specs.declared.turn.Stop.TheVariants.{End, Refused, Failed}
+use Rattle.bpf_semantics.specs.Blocks.{head_bytes}
+use Rattle.bpf_captures.specs.Lines.{IsTold}
+use Rattle.bpf_captures.specs.Stops.{Replayed, Replays}
+use Rattle.bpf_captures.specs.declared.answerer.Blocks.{Blocks}
+use Rattle.bpf_captures.specs.declared.turn.Stop.{Stop}
+use Rattle.bpf_captures.specs.declared.turn.Stop.TheVariants.{End, Refused, Failed}
 use Rattle.std.specs.Borrow.{Bor}
-use Rattle.bpf_places.specs.Opened.{Opening}
+use Rattle.bpf_answers.specs.Opened.{Opening}
 use Rattle.bpf_request.specs.declared.contexts.Contexts.{Contexts}
 use Rattle.bpf_request.specs.declared.contexts.Contexts.TheVariants.{Word, Bytes, Lines, Nothing, Several}
 use Rattle.bpf_request.specs.declared.replaying.Replaying.{Replaying}

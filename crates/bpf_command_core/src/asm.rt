@@ -1,11 +1,10 @@
 //! `bpf asm IN OUT`.
 
 ghost use Rattle.std.specs.Prelude.{IfOk, IfErr};
-ghost use Rattle.bpf_places.specs.Made.{making};
+ghost use Rattle.bpf_answers.specs.Made.{making};
 ghost use Rattle.bpf_command_core.specs.Printed.{AsmSays, AsmFails, NotAssembled};
 
-use bpf_answers::{Answer, Failure, put, text_at};
-use bpf_places::Places;
+use bpf_answers::{Answer, Failure, Places, put, text_at};
 use bpf_request::Assembling;
 use bpf_text::assemble;
 use std::alloc::Global;

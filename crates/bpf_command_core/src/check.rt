@@ -6,9 +6,8 @@ ghost use Rattle.bpf_answers.specs.Told.{IsQuiet};
 ghost use Rattle.bpf_command_core.specs.Printed.{CheckSays, LoadedFails};
 
 use crate::judged::{Wish, judged};
-use bpf_answers::{Answer, Failure, image_at};
+use bpf_answers::{Answer, Failure, Places, image_at};
 use bpf_insn::{ProgramView, image_is_injective};
-use bpf_places::Places;
 use bpf_request::Checking;
 use bpf_safety::{certified_is_flat_safe, certified_is_safe};
 use std::alloc::Global;

@@ -6,11 +6,9 @@ ghost use Rattle.bpf_answers.specs.Notes.{NotesFail};
 ghost use Rattle.bpf_answers.specs.Told.{IsQuiet};
 ghost use Rattle.bpf_command_core.specs.Followed.{FollowsFails, FollowsSays, NotedSays, RewrittenFails, RewrittenSays};
 
-use bpf_answers::{Answer, Failure, notes_at, program_at};
-use bpf_follows::follows;
-use bpf_follows_law::Bounds;
+use bpf_answers::{Answer, Failure, Places, notes_at, program_at};
+use bpf_follows::{Bounds, follows};
 use bpf_insn::Program;
-use bpf_places::Places;
 use bpf_request::Following;
 use std::alloc::Global;
 

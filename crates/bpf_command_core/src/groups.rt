@@ -5,9 +5,8 @@ ghost use Rattle.bpf_answers.specs.Loaded.{ImageFails, OpensFirst};
 ghost use Rattle.bpf_answers.specs.Told.{IsQuiet};
 ghost use Rattle.bpf_command_core.specs.Printed.{GroupsSay, ImageSays};
 
-use bpf_answers::{Answer, Failure, image_at};
+use bpf_answers::{Answer, Failure, Places, image_at};
 use bpf_insn::ProgramView;
-use bpf_places::Places;
 use bpf_request::Grouping;
 use std::alloc::Global;
 

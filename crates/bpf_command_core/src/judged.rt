@@ -6,10 +6,9 @@ ghost use Rattle.bpf_answers.specs.Told.{IsQuiet};
 ghost use Rattle.bpf_command_core.specs.Printed.{JudgedSays, ResultSays, WishSays, YesSays};
 ghost use Rattle.bpf_command_core.specs.Given.{JudgedEachFails, JudgedEachLeaves, JudgedEachSays};
 
-use bpf_answers::{Answer, Counted, Failure, Reply, Runner, answered, certificate_at};
+use bpf_answers::{Answer, Counted, Failure, Places, Reply, Runner, answered, certificate_at};
 use bpf_check::{Checked, check};
 use bpf_insn::Code;
-use bpf_places::Places;
 use bpf_request::CheckedRunning;
 use std::alloc::Global;
 use std::io::Write;

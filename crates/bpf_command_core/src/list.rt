@@ -5,9 +5,8 @@ ghost use Rattle.bpf_answers.specs.Loaded.{ImageFails, OpensFirst};
 ghost use Rattle.bpf_answers.specs.Told.{IsQuiet};
 ghost use Rattle.bpf_command_core.specs.Printed.{ImageSays, ListSays, notes_of};
 
-use bpf_answers::{Annotated, Answer, Failure, image_at, program_at};
+use bpf_answers::{Annotated, Answer, Failure, Places, image_at, program_at};
 use bpf_insn::{Order, decode};
-use bpf_places::Places;
 use bpf_request::Listing;
 use bpf_text::Notes;
 use std::alloc::Global;

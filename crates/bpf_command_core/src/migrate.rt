@@ -1,12 +1,11 @@
 //! `bpf migrate CERT OUT`.
 
 ghost use Rattle.std.specs.Prelude.{IfOk, IfErr};
-ghost use Rattle.bpf_places.specs.Made.{making};
+ghost use Rattle.bpf_answers.specs.Made.{making};
 ghost use Rattle.bpf_command_core.specs.Printed.{MigrateSays, MigrateFails, NotMigrated};
 
-use bpf_answers::{Answer, Failure, certificate_at, put};
+use bpf_answers::{Answer, Failure, Places, certificate_at, put};
 use bpf_cert::migrate;
-use bpf_places::Places;
 use bpf_request::Migrating;
 use std::alloc::Global;
 

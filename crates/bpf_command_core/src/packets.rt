@@ -1,19 +1,18 @@
 //! `bpf run-checked IN CERT --packets FILE`, and with `--counts`.
 
 ghost use Rattle.std.specs.Prelude.{◌≡◌, ◌≤◌, [], ◌∷◌, IfOk, IfErr};
-ghost use Rattle.bpf_packets.specs.Blocks.{head_bytes};
+ghost use Rattle.bpf_semantics.specs.Blocks.{head_bytes};
 ghost use Rattle.bpf_answers.specs.Loaded.{OpensFirst, Tried};
 ghost use Rattle.bpf_answers.specs.declared.failure.Failure.TheVariants.{CannotRead};
-ghost use Rattle.bpf_replay.specs.declared.turn.Stop.TheVariants.{Failed};
+ghost use Rattle.bpf_captures.specs.declared.turn.Stop.TheVariants.{Failed};
 ghost use Rattle.bpf_command_core.specs.Replayed.{EndsBy, JudgedPacketsFail, JudgedPacketsLeave, JudgedPacketsSay, PacketsCheckedFail, PacketsCheckedLeave, PacketsCheckedSay, PacketsFail, PacketsLeave, PacketsSay, ReplayFails, ReplayLeft, ReplaySays, ReplayedFails, ReplayedLeaves, ReplayedSays, names_replayed};
 
-use bpf_answers::{Answer, DONE, Failure, Reply, certificate_at, program_at};
+use bpf_answers::{Answer, DONE, Failure, PlaceError, Places, Reply, certificate_at, program_at};
+use bpf_captures::{Answerer, Blocks, ReplayFault, Stop, replay};
 use bpf_check::{Checked, check};
 use bpf_insn::{Code, Order};
-use bpf_packets::HEAD_BYTES;
-use bpf_places::{PlaceError, Places};
-use bpf_replay::{Answerer, Blocks, ReplayFault, Stop, replay};
 use bpf_request::{Contexts, Replaying};
+use bpf_semantics::HEAD_BYTES;
 use std::alloc::Global;
 use std::io::{BufReader, Read, Write};
 

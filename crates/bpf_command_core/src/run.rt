@@ -9,10 +9,11 @@ ghost use Rattle.bpf_command_core.specs.Printed.{FailsWith};
 ghost use Rattle.bpf_command_core.specs.Given.{FailsBehind, OnNamed, OnWord, OneRunSays, RunEachFails, RunEachLeaves, RunEachSays, RunFails, RunLeaves, RunSays};
 
 use crate::tracer::Tracer;
-use bpf_answers::{Answer, Failure, Reply, Runner, answered, context_at, context_of, program_at};
+use bpf_answers::{
+    Answer, Failure, Places, Reply, Runner, answered, context_at, context_of, program_at,
+};
 use bpf_insn::{Code, Program};
 use bpf_machine::{Outcome, run};
-use bpf_places::Places;
 use bpf_request::{Contexts, Running};
 use std::alloc::Global;
 use std::io::Write;

@@ -7,8 +7,7 @@ ghost use Rattle.bpf_command_core.specs.Given.{CheckedEachFails, CheckedEachLeav
 ghost use Rattle.bpf_command_core.specs.Printed.{FailsWith};
 
 use crate::judged::{Wish, judged, judged_each};
-use bpf_answers::{Answer, Failure, Reply, context_at, context_of, program_at};
-use bpf_places::Places;
+use bpf_answers::{Answer, Failure, Places, Reply, context_at, context_of, program_at};
 use bpf_request::{CheckedRunning, Contexts};
 use std::alloc::Global;
 use std::io::Write;

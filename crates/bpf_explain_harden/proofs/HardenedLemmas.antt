@@ -2,11 +2,11 @@
 use Rattle.std.proofs.Common.{◌≡◌, ℕ, List, Option, None, MatchOption, subst}
 use Rattle.bpf_insn.specs.Instruction.{Instructions}
 use Rattle.bpf_insn.specs.Image.{IsProgram}
-use Rattle.bpf_follows_law.specs.declared.notes.Bounds.{Bounds}
-use Rattle.bpf_follows_law.specs.declared.notes.Place.{Place}
-use Rattle.bpf_follows_law.specs.Laws.{MatchingKeepsMeaning}
-use Rattle.bpf_follows_law.specs.Matching.{Matches}
-use Rattle.bpf_follows_law.specs.Meaning.{KeepsMeaning}
+use Rattle.bpf_follows.specs.declared.notes.Bounds.{Bounds}
+use Rattle.bpf_follows.specs.declared.notes.Place.{Place}
+use Rattle.bpf_follows.specs.Laws.{MatchingKeepsMeaning}
+use Rattle.bpf_follows.specs.Matching.{Matches}
+use Rattle.bpf_follows.specs.Meaning.{KeepsMeaning}
 use Rattle.bpf_follows.specs.Mismatches.{IsMismatch}
 use Rattle.bpf_follows.specs.declared.mismatch.Mismatch.{Mismatch}
 use Rattle.bpf_explain_harden.specs.Hardened.{runs_of}

@@ -1,11 +1,11 @@
 -- What comes of a hardening that is explained.
 use Rattle.std.specs.Prelude.{◌≡◌, ◌<◌, ℕ, List, Option}
 use Rattle.bpf_insn.specs.Instruction.{Instructions, slots}
-use Rattle.bpf_follows_law.specs.declared.notes.Bounds.{Bounds}
-use Rattle.bpf_follows_law.specs.declared.notes.Place.{Place}
-use Rattle.bpf_follows_law.specs.Meaning.{KeepsMeaning}
+use Rattle.bpf_follows.specs.declared.notes.Bounds.{Bounds}
+use Rattle.bpf_follows.specs.declared.notes.Place.{Place}
+use Rattle.bpf_follows.specs.Meaning.{KeepsMeaning}
 use Rattle.bpf_follows.specs.Mismatches.{IsMismatch}
-use Rattle.bpf_harden_notes.specs.RefusalNumbers.{harden_slot}
+use Rattle.bpf_changes.specs.RefusalNumbers.{harden_slot}
 use Rattle.bpf_explain_harden.specs.declared.hardened.Hardening.{Hardening}
 use Rattle.bpf_explain_harden.specs.declared.hardened.Made.{Made}
 use Rattle.bpf_explain_harden.specs.declared.refusal.Unhardened.{Unhardened}

@@ -4,7 +4,7 @@ ghost use Rattle.std.specs.Prelude.{◌≡◌, ◌≤◌, IfOk, IfErr, IfSome, I
 ghost use Rattle.bpf_insn.specs.Limits.{max_context};
 ghost use Rattle.bpf_safety.specs.Certified.{IsLeastFlaw};
 ghost use Rattle.bpf_check.specs.CheckedProgram.{IsCertifiedBy};
-ghost use Rattle.bpf_follows_law.specs.Meaning.{KeepsMeaning};
+ghost use Rattle.bpf_follows.specs.Meaning.{KeepsMeaning};
 ghost use Rattle.bpf_check.specs.RefusalNumbers.{refusal_number, refusal_slot};
 ghost use Rattle.bpf_explain_harden.specs.Hardened.{IsMade, IsUnhardened, runs_of};
 
@@ -12,16 +12,14 @@ use crate::lines::moved_lines;
 use crate::refusal::{Unhardened, Unshown};
 use bpf_cert::Certificate;
 use bpf_check::Refusal;
-use bpf_explain_page::{Page, Tell};
-use bpf_explain_program::{
-    Shown, refusal_of, source_at, tell_reason, tell_shown, tell_sketch, tell_sketched_dot,
-};
-use bpf_follows_law::{Bounds, matching_keeps_meaning};
+use bpf_explain_program::{Shown, refusal_of, source_at, tell_reason, tell_shown, tell_sketch, tell_sketched_dot};
+use bpf_follows::{Bounds, matching_keeps_meaning};
 use bpf_harden::{HardenError, Hardened, Options, harden};
 use bpf_harden_follows::evidence_of;
 use bpf_infer::{InferError, Stop, Watch, search_or_stop};
 use bpf_insn::{Code, Program};
-use bpf_packets::HEAD_BYTES;
+use bpf_semantics::HEAD_BYTES;
+use bpf_streams::{Page, Tell};
 use std::alloc::Global;
 use std::io::{self, Write};
 

@@ -1,7 +1,6 @@
 //! Why no hardened program comes out, in a sentence.
 
-use bpf_follows::Mismatch;
-use bpf_follows_notes::mismatch_text;
+use bpf_follows::{Mismatch, mismatch_text};
 use bpf_harden::HardenError;
 use bpf_refusals::NOT_SHOWN;
 use std::fmt::{self, Display};

@@ -2,8 +2,8 @@
 
 use crate::graph::tell_plain_dot;
 use crate::reach::tell_unreached;
-use bpf_explain_page::{Count, Page, Tell};
 use bpf_insn::{Code, Insn, MAX_SLOTS};
+use bpf_streams::{Count, Page, Tell};
 use std::io::{self, Write};
 
 /// What a lost relocation leaves most often: a call to itself, or a 64-bit constant that is 0.

@@ -19,9 +19,9 @@ use crate::program::write_refused;
 use crate::reach::reached_from_start;
 use bpf_cert::Certificate;
 use bpf_check::{Index, Refusal};
-use bpf_explain_page::Tell;
 use bpf_infer_base::SlotSet;
 use bpf_insn::Code;
+use bpf_streams::Tell;
 use std::fmt::Display;
 
 /// What a graph shows.

@@ -5,10 +5,10 @@ use crate::places::{changes, is_same, is_unknown, places_compared, places_writte
 use crate::sight::{Sight, Way};
 use bpf_cert::{Function, Label, Measure};
 use bpf_check::{Index, Seen};
-use bpf_explain_page::{Count, Tell};
 use bpf_infer_base::{PLACES, PlaceSet, place, slots_touched};
 use bpf_insn::{Code, Insn, Reg};
 use bpf_state::{Place, State};
+use bpf_streams::{Count, Tell};
 use std::fmt;
 
 /// The lengths of contexts, as `16 bytes` or `0 to 64 bytes`.

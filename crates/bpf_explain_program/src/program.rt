@@ -11,8 +11,8 @@ use crate::report::{Report, View};
 use crate::shown::Shown;
 use bpf_cert::Certificate;
 use bpf_check::{Index, Refusal};
-use bpf_explain_page::{Page, Tell};
 use bpf_insn::Code;
+use bpf_streams::{Page, Tell};
 use std::io::{self, Write};
 
 /// Goes over the slots of a program, and over those behind it at which labels stand.

@@ -3,9 +3,9 @@
 use crate::graph::{Flow, call_target};
 use bpf_cert::LAST_SLOT;
 use bpf_check::jump_target;
-use bpf_explain_page::Tell;
 use bpf_infer_base::SlotSet;
 use bpf_insn::{Code, MAX_SLOTS};
+use bpf_streams::Tell;
 use std::fmt;
 
 /// The search as far as it is.

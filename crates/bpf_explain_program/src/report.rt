@@ -9,15 +9,12 @@ use crate::sight::Sight;
 use crate::source::SourceLines;
 use crate::standing::{label_flaws, last_slot, standing_flaws, start_flaws};
 use crate::whole::write_whole;
-use crate::words::{
-    Handings, Silence, tell, tell_function, tell_handed, tell_label, tell_mixed, tell_silence,
-    tell_start,
-};
+use crate::words::{Handings, Silence, tell, tell_function, tell_handed, tell_label, tell_mixed, tell_silence, tell_start};
 use bpf_cert::{Function, MAX_FUNCTIONS};
 use bpf_check::{Index, Refusal, Standing, see_start, standing_at};
-use bpf_explain_page::Tell;
 use bpf_insn::{Code, Insn};
 use bpf_state::{Condition, State, StateFault, Work, unset_register};
+use bpf_streams::Tell;
 
 /// Of how many registers it is told why nothing is known.
 const CAUSES: u32 = 16;

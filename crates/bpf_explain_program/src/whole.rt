@@ -5,10 +5,10 @@ use crate::places::{is_unknown, tag_at};
 use crate::sight::Sight;
 use bpf_cert::Label;
 use bpf_check::{Here, place_of};
-use bpf_explain_page::Tell;
 use bpf_infer_base::{PLACES, place};
 use bpf_insn::Code;
 use bpf_state::{State, Tag};
+use bpf_streams::Tell;
 
 /// `, which is r6 of slot 1 - 1`
 fn write_tag<W: Tell>(out: &mut W, label: &Label, tag: Tag) {

@@ -12,9 +12,9 @@ mod shape;
 
 use crate::known::Name;
 use crate::sight::Sight;
-use bpf_explain_page::Tell;
 use bpf_insn::{Code, Reg};
 use bpf_state::{Condition, Place, StateFault};
+use bpf_streams::Tell;
 pub use labels::{tell_function, tell_label, tell_start};
 pub use mixed::tell_mixed;
 pub use origins::{Handings, tell_handed};

@@ -5,8 +5,8 @@ use Rattle.std.specs.Option.{option_map_or}
 use Rattle.bpf_insn.specs.Instruction.{Instructions, slot_count, insn_at}
 use Rattle.bpf_insn.specs.declared.instruction.Insn.{Insn}
 use Rattle.bpf_insn.specs.declared.instruction.Insn.TheVariants.{LoadImm64}
-use Rattle.bpf_follows_law.specs.declared.site.Span.{Span}
-use Rattle.bpf_follows_law.specs.Ahead.{own_span, joined, is_passed, ahead}
+use Rattle.bpf_follows.specs.declared.site.Span.{Span}
+use Rattle.bpf_follows.specs.Ahead.{own_span, joined, is_passed, ahead}
 
 pub few_slots : (i : Insn) → slot_count i ≤ 2
 few_slots (LoadImm64 dst value) = omega arith

@@ -5,12 +5,12 @@ use Rattle.std.proofs.lemmas.Bool.{false≢true, eqb-true, and_from}
 use Rattle.std.proofs.lemmas.Bool.Decides.{Decides-int_eq, Decides-eqb}
 use Rattle.bpf_insn.specs.contracts.instruction.RegPartialEq.TheImpl as reg_eq
 use Rattle.bpf_insn.proofs.InsnLemmas.{both_true, reg_same, reg_self}
-use Rattle.bpf_follows_law.specs.declared.notes.Area.{Area}
-use Rattle.bpf_follows_law.specs.declared.notes.Area.TheVariants.{Given, Own}
-use Rattle.bpf_follows_law.specs.contracts.notes.AreaPartialEq.TheImpl as area_eq
-use Rattle.bpf_follows_law.specs.declared.notes.Kind.{Kind}
-use Rattle.bpf_follows_law.specs.declared.notes.Kind.TheVariants.{Nothing, Unset, Same, Both, Number, Natural, Inner, Length, Closing, Ending, Head, Offset, Fixed, Within, Start, Base, Moved, Address, Saved, Kept, Constant, Counter, Turn, Alone, Returns}
-use Rattle.bpf_follows_law.specs.contracts.notes.KindPartialEq.TheImpl as kind_eq
+use Rattle.bpf_follows.specs.declared.notes.Area.{Area}
+use Rattle.bpf_follows.specs.declared.notes.Area.TheVariants.{Given, Own}
+use Rattle.bpf_follows.specs.contracts.notes.AreaPartialEq.TheImpl as area_eq
+use Rattle.bpf_follows.specs.declared.notes.Kind.{Kind}
+use Rattle.bpf_follows.specs.declared.notes.Kind.TheVariants.{Nothing, Unset, Same, Both, Number, Natural, Inner, Length, Closing, Ending, Head, Offset, Fixed, Within, Start, Base, Moved, Address, Saved, Kept, Constant, Counter, Turn, Alone, Returns}
+use Rattle.bpf_follows.specs.contracts.notes.KindPartialEq.TheImpl as kind_eq
 
 area_same : (a b : Area) → (area_eq.ghosts).eq a b ≡ true → a ≡ b
 area_same Given Given e = refl

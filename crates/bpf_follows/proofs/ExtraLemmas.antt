@@ -2,9 +2,9 @@
 use Rattle.std.proofs.Common.{◌≡◌, ℕ, zero, suc, ◌+◌, ◌-◌, ◌<◌, ◌≤◌, Bool, true, false, cond, List, Option, Some, None, refl, sym, ap, ◌∙◌, subst, arith}
 use Rattle.std.specs.Prelude.{◌&&◌, nat_le, option_and_then}
 use Rattle.bpf_insn.specs.Instruction.{Instructions}
-use Rattle.bpf_follows_law.specs.declared.notes.Kind.{Kind}
-use Rattle.bpf_follows_law.specs.declared.site.Front.{Front}
-use Rattle.bpf_follows_law.specs.Sequence.{extra_at, behind, most_extras, extras}
+use Rattle.bpf_follows.specs.declared.notes.Kind.{Kind}
+use Rattle.bpf_follows.specs.declared.site.Front.{Front}
+use Rattle.bpf_follows.specs.Sequence.{extra_at, behind, most_extras, extras}
 
 nothing_behind : (new : Instructions) (front : Option Front) (from n m : ℕ) (kinds : List Kind) → behind new front from n kinds ≡ None → behind new front from (m + n) kinds ≡ None
 nothing_behind new front from n zero kinds e = let same : n ≡ zero + n = omega arith in subst (λ k. behind new front from k kinds ≡ None) same e

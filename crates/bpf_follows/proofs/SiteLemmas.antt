@@ -5,14 +5,14 @@ use Rattle.std.proofs.lemmas.Bool.{false≢true}
 use Rattle.std.proofs.lemmas.Option.{same_Some}
 use Rattle.bpf_insn.specs.Instruction.{Instructions, insn_at}
 use Rattle.bpf_insn.specs.declared.instruction.Insn.{Insn}
-use Rattle.bpf_follows_law.specs.declared.notes.Kind.{Kind}
-use Rattle.bpf_follows_law.specs.declared.notes.Place.{Place}
-use Rattle.bpf_follows_law.specs.declared.site.Front.{Front}
-use Rattle.bpf_follows_law.specs.declared.site.Site.{Site}
-use Rattle.bpf_follows_law.specs.declared.notes.Bounds.{Bounds}
-use Rattle.bpf_follows_law.specs.Relation.{known}
-use Rattle.bpf_follows_law.specs.Sequence.{extras}
-use Rattle.bpf_follows_law.specs.Matching.{undirected, Pairs, IsSite, Starts}
+use Rattle.bpf_follows.specs.declared.notes.Kind.{Kind}
+use Rattle.bpf_follows.specs.declared.notes.Place.{Place}
+use Rattle.bpf_follows.specs.declared.site.Front.{Front}
+use Rattle.bpf_follows.specs.declared.site.Site.{Site}
+use Rattle.bpf_follows.specs.declared.notes.Bounds.{Bounds}
+use Rattle.bpf_follows.specs.Relation.{known}
+use Rattle.bpf_follows.specs.Sequence.{extras}
+use Rattle.bpf_follows.specs.Matching.{undirected, Pairs, IsSite, Starts}
 use Rattle.bpf_follows.specs.Mismatches.{IsMismatch, IsAt, IsLowest, IsUnpaired, IsNoSite}
 use Rattle.bpf_follows.specs.declared.mismatch.Fault.{Fault}
 use Rattle.bpf_follows.specs.declared.mismatch.Fault.TheVariants.{Front as AnyFront, Insn as AnyInsn, Read, Next, Target}

@@ -2,16 +2,16 @@
 use Rattle.std.specs.Prelude.{◌≡◌, ◌≢◌, ◌⊎◌, ℕ, ◌<◌, false, List, Option, Some, None}
 use Rattle.bpf_insn.specs.Instruction.{Instructions, insn_at}
 use Rattle.bpf_insn.specs.declared.instruction.Insn.{Insn as Instruction}
-use Rattle.bpf_follows_law.specs.declared.notes.Kind.{Kind}
-use Rattle.bpf_follows_law.specs.declared.notes.Bounds.{Bounds}
-use Rattle.bpf_follows_law.specs.declared.notes.Place.{Place}
-use Rattle.bpf_follows_law.specs.declared.site.Front.{Front}
-use Rattle.bpf_follows_law.specs.declared.site.Site.{Site}
-use Rattle.bpf_follows_law.specs.Relation.{kinds_of, known, place_at, is_alone}
-use Rattle.bpf_follows_law.specs.Sequence.{extras}
-use Rattle.bpf_follows_law.specs.Returned.{GivesBack}
-use Rattle.bpf_follows_law.specs.Stuck.{is_stuck}
-use Rattle.bpf_follows_law.specs.Matching.{undirected, front_at, Pairs, IsLone, IsSite, Falls, Leads, StandsAt, Starts}
+use Rattle.bpf_follows.specs.declared.notes.Kind.{Kind}
+use Rattle.bpf_follows.specs.declared.notes.Bounds.{Bounds}
+use Rattle.bpf_follows.specs.declared.notes.Place.{Place}
+use Rattle.bpf_follows.specs.declared.site.Front.{Front}
+use Rattle.bpf_follows.specs.declared.site.Site.{Site}
+use Rattle.bpf_follows.specs.Relation.{kinds_of, known, place_at, is_alone}
+use Rattle.bpf_follows.specs.Sequence.{extras}
+use Rattle.bpf_follows.specs.Returned.{GivesBack}
+use Rattle.bpf_follows.specs.Stuck.{is_stuck}
+use Rattle.bpf_follows.specs.Matching.{undirected, front_at, Pairs, IsLone, IsSite, Falls, Leads, StandsAt, Starts}
 use Rattle.bpf_follows.specs.declared.mismatch.Fault.{Fault}
 use Rattle.bpf_follows.specs.declared.mismatch.Fault.TheVariants.{Front as AnyFront, Insn as AnyInsn, Read, Next, Target}
 use Rattle.bpf_follows.specs.declared.mismatch.Mismatch.{Mismatch}

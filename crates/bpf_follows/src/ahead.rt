@@ -2,9 +2,9 @@
 
 ghost use Rattle.std.specs.Prelude.{◌≡◌, ◌<◌, ◌+◌};
 ghost use Rattle.bpf_insn.specs.Limits.{max_slots};
-ghost use Rattle.bpf_follows_law.specs.Ahead.{span_of, own_span, joined, writes, is_passed, span_ahead, spans_ahead, span_behind};
+ghost use Rattle.bpf_follows.specs.Ahead.{span_of, own_span, joined, writes, is_passed, span_ahead, spans_ahead, span_behind};
 
-use bpf_follows_law::Span;
+use crate::site::Span;
 use bpf_insn::{Access, Code, Insn};
 
 /// How many instructions are looked at.

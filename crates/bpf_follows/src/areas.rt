@@ -2,11 +2,11 @@
 
 ghost use Rattle.std.specs.Prelude.{◌≡◌};
 ghost use Rattle.bpf_insn.specs.Instruction.{register_number};
-ghost use Rattle.bpf_follows_law.specs.Areas.{origin, is_own, same_area, size_of, first_of, area_of, is_offset, are_alike, unbounded, is_homed_by};
+ghost use Rattle.bpf_follows.specs.Areas.{origin, is_own, same_area, size_of, first_of, area_of, is_offset, are_alike, unbounded, is_homed_by};
 
-use bpf_follows_law::{Area, Kind};
+use crate::notes::{Area, Kind};
 use bpf_insn::{FRAME_BYTES, Reg};
-use bpf_packets::HEAD_BYTES;
+use bpf_semantics::HEAD_BYTES;
 
 /// Where pointers at 0 point, counted from an area's first byte: r10 is the end of its frame.
 pub fn origin(area: Area) -> i32

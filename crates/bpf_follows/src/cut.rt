@@ -2,11 +2,11 @@
 
 ghost use Rattle.std.specs.Prelude.{◌≡◌, ◌<◌, ◌^◌, ◌↔◌, Some, IsTrue};
 ghost use Rattle.bpf_insn.specs.Instruction.{insn_at};
-ghost use Rattle.bpf_follows_law.specs.Matching.{loads_length, skips_cut, cuts_length, Cuts};
+ghost use Rattle.bpf_follows.specs.Matching.{loads_length, skips_cut, cuts_length, Cuts};
 
 use crate::pairs::same;
 use bpf_insn::{AluOp, Code, Cond, Insn, Operand, Reg, Size, Width};
-use bpf_packets::HEAD_BYTES;
+use bpf_semantics::HEAD_BYTES;
 
 /// The load of the length that the head tells.
 fn loads_length() -> Insn

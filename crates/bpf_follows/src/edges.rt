@@ -2,14 +2,15 @@
 
 ghost use Rattle.std.specs.Prelude.{◌≡◌, ◌<◌, ◌↔◌, ℕ, IsTrue};
 ghost use Rattle.bpf_insn.specs.Limits.{max_slots};
-ghost use Rattle.bpf_follows_law.specs.Relation.{places, kind_in, kinds_of, known, Gives};
-ghost use Rattle.bpf_follows_law.specs.Matching.{kinds_along, start_slot, start_kinds, Arrives, Enters, Starts};
+ghost use Rattle.bpf_follows.specs.Relation.{places, kind_in, kinds_of, known, Gives};
+ghost use Rattle.bpf_follows.specs.Matching.{kinds_along, start_slot, start_kinds, Arrives, Enters, Starts};
 
 use crate::cut::cuts;
 use crate::extras::extras;
 use crate::kinds::{gives, kind_of, place_at, start_kinds};
+use crate::notes::{Bounds, Kinds, PLACES, Place};
 use crate::returned::kind_along;
-use bpf_follows_law::{Bounds, Kinds, PLACES, Place, Site};
+use crate::site::Site;
 use bpf_insn::Code;
 
 /// An edge of the old program, and the new one's that is to follow it: where they lead.

@@ -3,13 +3,14 @@
 
 ghost use Rattle.std.specs.Prelude.{◌≡◌};
 ghost use Rattle.bpf_insn.specs.Arithmetic.{low};
-ghost use Rattle.bpf_follows_law.specs.Relation.{known};
-ghost use Rattle.bpf_follows_law.specs.Exact.{exactly, operand_exactly, fixed_at, exact_kind, alu_exactly, apart, sum_kind, alu_fixed, alu_of_kinds, by_exact, equal_fixed, decided_fixed, decided_numbers, decided_offsets, decided, may_go, may_fall, may_lead};
+ghost use Rattle.bpf_follows.specs.Relation.{known};
+ghost use Rattle.bpf_follows.specs.Exact.{exactly, operand_exactly, fixed_at, exact_kind, alu_exactly, apart, sum_kind, alu_fixed, alu_of_kinds, by_exact, equal_fixed, decided_fixed, decided_numbers, decided_offsets, decided, may_go, may_fall, may_lead};
 
 use crate::areas::same_area;
 use crate::kinds::known_in;
+use crate::notes::{Area, Kind};
 use crate::numbers::{Test, may_answer};
-use bpf_follows_law::{Area, Kind, Site};
+use crate::site::Site;
 use bpf_insn::{AluOp, Cond, Insn, Operand, Width, extended};
 
 /// The number that a place surely holds.

@@ -2,18 +2,19 @@
 //! and make addresses in front of an instruction.
 
 ghost use Rattle.std.specs.Prelude.{◌≡◌, ◌<◌, IfSome};
-ghost use Rattle.bpf_follows_law.specs.Relation.{places};
-ghost use Rattle.bpf_follows_law.specs.Extras.{is_same, constant_kind, offset_in, copied, is_taken, moved_end, added, is_base, base_of, address_at, address, unmade, put_kind, put_by, made};
-ghost use Rattle.bpf_follows_law.specs.Sequence.{written, extra, extra_at, extras};
+ghost use Rattle.bpf_follows.specs.Relation.{places};
+ghost use Rattle.bpf_follows.specs.Extras.{is_same, constant_kind, offset_in, copied, is_taken, moved_end, added, is_base, base_of, address_at, address, unmade, put_kind, put_by, made};
+ghost use Rattle.bpf_follows.specs.Sequence.{written, extra, extra_at, extras};
 
 use crate::areas::same_area;
 use crate::frame::is_r10;
 use crate::guards::{passed_by, passes};
 use crate::keeps::moved_by;
 use crate::kinds::{is_register, kind_in};
-use bpf_follows_law::{Area, Front, Kind, Kinds};
+use crate::notes::{Area, Kind, Kinds};
+use crate::site::Front;
 use bpf_insn::{AluOp, Code, Insn, Operand, Reg, Width};
-use bpf_packets::HEAD_BYTES;
+use bpf_semantics::HEAD_BYTES;
 
 /// The most extra instructions in one place.
 const MOST_EXTRAS: u32 = 128;

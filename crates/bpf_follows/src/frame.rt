@@ -3,8 +3,8 @@
 ghost use Rattle.std.specs.Prelude.{◌≡◌, ◌<◌, ◌+ℤ◌, pos, IfSome};
 ghost use Rattle.bpf_insn.specs.Limits.{frame_bytes};
 ghost use Rattle.bpf_insn.specs.Instruction.{not_negative};
-ghost use Rattle.bpf_follows_law.specs.Extras.{is_r10, whole_at, slot_of};
-ghost use Rattle.bpf_follows_law.specs.Matching.{touches, is_written, writes_slot, is_whole, is_far_access, is_far, is_far_put_by, is_far_put, whole_slot, is_far_store, is_lowest};
+ghost use Rattle.bpf_follows.specs.Extras.{is_r10, whole_at, slot_of};
+ghost use Rattle.bpf_follows.specs.Matching.{touches, is_written, writes_slot, is_whole, is_far_access, is_far, is_far_put_by, is_far_put, whole_slot, is_far_store, is_lowest};
 
 use crate::kinds::REGISTERS;
 use bpf_insn::{Access, FRAME_BYTES, Insn, Reg, Size};

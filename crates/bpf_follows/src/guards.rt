@@ -1,16 +1,17 @@
 //! Guards, and tests of counters: extra jumps that aren't taken where the old program's run goes on to its end.
 
 ghost use Rattle.std.specs.Prelude.{◌≡◌, pos, ◌+ℤ◌, ◌-ℤ◌};
-ghost use Rattle.bpf_packets.specs.Blocks.{head_bytes};
-ghost use Rattle.bpf_follows_law.specs.Guards.{range_of, offset_range, fixed_in, added_to, added_range, is_near, clipped, natural_part, bounds_range, range_in, is_most, is_least, is_other, end_in, is_before, is_behind, ends_behind, is_reached, reached, reached_by, reaches, passes_constant, passes, at_most, at_least, passed_by};
+ghost use Rattle.bpf_semantics.specs.Blocks.{head_bytes};
+ghost use Rattle.bpf_follows.specs.Guards.{range_of, offset_range, fixed_in, added_to, added_range, is_near, clipped, natural_part, bounds_range, range_in, is_most, is_least, is_other, end_in, is_before, is_behind, ends_behind, is_reached, reached, reached_by, reaches, passes_constant, passes, at_most, at_least, passed_by};
 
 use crate::areas::{first_of, same_area, size_of};
 use crate::extras::{is_taken, offset_in};
 use crate::keeps::given_in;
 use crate::kinds::{is_register, kind_in};
-use bpf_follows_law::{Area, Front, Kind, Kinds, Range, Span};
+use crate::notes::{Area, Kind, Kinds};
+use crate::site::{Front, Range, Span};
 use bpf_insn::{AluOp, Cond, Insn, Operand, Reg, Width, extended};
-use bpf_packets::HEAD_BYTES;
+use bpf_semantics::HEAD_BYTES;
 
 /// How far a register is from an area's byte, moved up and down, where this displacement from it leads there.
 fn away(byte: u32, displacement: i32, up: i32, down: i32) -> i64

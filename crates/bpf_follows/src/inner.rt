@@ -3,12 +3,13 @@
 
 ghost use Rattle.std.specs.Prelude.{◌≡◌, pos, ◌+ℤ◌, int_le, option_and_then};
 ghost use Rattle.bpf_insn.specs.Instruction.{byte_count};
-ghost use Rattle.bpf_follows_law.specs.Relation.{known};
-ghost use Rattle.bpf_follows_law.specs.Inner.{inner_kind, number_bounds, inner_at, inner_copy, inner_sum, inner_made, reach, is_outside, is_beside, misses_by, misses};
+ghost use Rattle.bpf_follows.specs.Relation.{known};
+ghost use Rattle.bpf_follows.specs.Inner.{inner_kind, number_bounds, inner_at, inner_copy, inner_sum, inner_made, reach, is_outside, is_beside, misses_by, misses};
 
 use crate::frame::is_r10;
 use crate::kinds::known_in;
-use bpf_follows_law::{Area, Kind, Site};
+use crate::notes::{Area, Kind};
+use crate::site::Site;
 use bpf_insn::{Access, AluOp, FRAME_BYTES, Operand, Reg, Width};
 
 // ---- what instructions make of them

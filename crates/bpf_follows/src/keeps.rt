@@ -1,15 +1,15 @@
 //! Extra instructions that put what the new program keeps into its frame, and take it out again.
 
 ghost use Rattle.std.specs.Prelude.{◌≡◌, ◌<◌, IfSome};
-ghost use Rattle.bpf_follows_law.specs.Relation.{places};
-ghost use Rattle.bpf_follows_law.specs.Extras.{frame_slot, own_kind, kept_kind, free_slot, stored, given_in, closing, start_at, starting, restored, taken, constant_put, moved_by};
+ghost use Rattle.bpf_follows.specs.Relation.{places};
+ghost use Rattle.bpf_follows.specs.Extras.{frame_slot, own_kind, kept_kind, free_slot, stored, given_in, closing, start_at, starting, restored, taken, constant_put, moved_by};
 
 use crate::extras::{copied, is_same};
 use crate::frame::{is_r10, slot_of};
 use crate::kinds::{REGISTERS, is_free, is_register, kind_in, kind_of};
-use bpf_follows_law::{Area, Kind, Kinds};
+use crate::notes::{Area, Kind, Kinds};
 use bpf_insn::{Insn, Reg, Size};
-use bpf_packets::HEAD_BYTES;
+use bpf_semantics::HEAD_BYTES;
 
 /// The slot of the own frame that begins so far from a register.
 fn frame_slot(kinds: &Kinds, r: Reg, off: i16) -> Option<u8>
@@ -118,7 +118,7 @@ fn starting(have: Kind) -> Kind
 }
 
 /// What is put back of what was saved, in the place of what is of a kind.
-#[tactic(auto, unfolding(bpf_follows_law::specs::Extras::restored))]
+#[tactic(auto, unfolding(crate::specs::Extras::restored))]
 pub fn restored(r: Reg, have: Kind, kind: Kind) -> Kind
     ensures { result ≡ restored r have kind }
 {

@@ -2,19 +2,20 @@
 
 ghost use Rattle.std.specs.Prelude.{◌≡◌, ◌<◌, ◌==◌, ◌↔◌, IsTrue, option_copied};
 ghost use Rattle.bpf_insn.specs.Instruction.{register_number};
-ghost use Rattle.bpf_follows_law.specs.Relation.{places, kind_in, place_at, is_lone, is_alone, is_free, is_of_other, offset_weaker, within_weaker, weaker, Gives, known};
-ghost use Rattle.bpf_follows_law.specs.Returned.{is_call};
-ghost use Rattle.bpf_follows_law.specs.Matching.{is_changed, is_lost, is_gone, held, kinds_behind, is_spared, is_blurred, kinds_beyond, handed, kinds_called, listed, given_kinds, start_kinds};
+ghost use Rattle.bpf_follows.specs.Relation.{places, kind_in, place_at, is_lone, is_alone, is_free, is_of_other, offset_weaker, within_weaker, weaker, Gives, known};
+ghost use Rattle.bpf_follows.specs.Returned.{is_call};
+ghost use Rattle.bpf_follows.specs.Matching.{is_changed, is_lost, is_gone, held, kinds_behind, is_spared, is_blurred, kinds_beyond, handed, kinds_called, listed, given_kinds, start_kinds};
 
 use crate::areas::{is_own, same_area};
 use crate::frame::{is_far_put, writes_slot};
 use crate::inner::misses;
+use crate::notes::{Area, Bounds, Kind, Kinds, PLACES, Place};
 use crate::numbers::{natural_top, told};
 use crate::pairs::written_kind;
+use crate::site::Site;
 use crate::tame::is_plain;
-use bpf_follows_law::{Area, Bounds, Kind, Kinds, PLACES, Place, Site};
 use bpf_insn::{Insn, Reg, extended};
-use bpf_packets::HEAD_BYTES;
+use bpf_semantics::HEAD_BYTES;
 
 /// How many registers there are.
 pub const REGISTERS: u8 = 11;

@@ -2,12 +2,13 @@
 
 ghost use Rattle.std.specs.Prelude.{◌≡◌, ◌<◌};
 ghost use Rattle.bpf_insn.specs.Instruction.{register_number};
-ghost use Rattle.bpf_follows_law.specs.Relation.{places, natural_top, known};
-ghost use Rattle.bpf_follows_law.specs.Numbers.{bounded, number_of, bounds_of, is_bounded, is_numeric, read_number, operand_number, left_number, alu_number, is_number_test, loaded_number, alu_kind, number_kind, told_by, may_answer, is_operand, told};
+ghost use Rattle.bpf_follows.specs.Relation.{places, natural_top, known};
+ghost use Rattle.bpf_follows.specs.Numbers.{bounded, number_of, bounds_of, is_bounded, is_numeric, read_number, operand_number, left_number, alu_number, is_number_test, loaded_number, alu_kind, number_kind, told_by, may_answer, is_operand, told};
 
 use crate::inner::inner_made;
 use crate::kinds::{known, known_in};
-use bpf_follows_law::{Kind, Site};
+use crate::notes::Kind;
+use crate::site::Site;
 use bpf_insn::{AluOp, Cond, Insn, Operand, Reg, Size, Width, extended};
 use bpf_num::{KnownBits, Num, Signed, Unsigned, WordDomain};
 

@@ -2,9 +2,9 @@
 
 ghost use Rattle.std.specs.Prelude.{◌≡◌, ◌<◌, ◌↔◌, IsTrue, IsOk, IfErr, Some};
 ghost use Rattle.std.specs.List.{filter_map};
-ghost use Rattle.bpf_follows_law.specs.Relation.{known};
+ghost use Rattle.bpf_follows.specs.Relation.{known};
 ghost use Rattle.bpf_follows.specs.Mismatches.{IsUnpaired};
-ghost use Rattle.bpf_follows_law.specs.Matching.{undirected, IsSame, AreSame, copy_kind, within_at, within_ints, offset_sum, computed, moved_kind, of_operand, is_equality, are_offsets, by_offsets, by_kinds, result_kind, is_framed, written_kind, Reads, is_sum, is_moved, is_natural, is_wide, widened, Pairs};
+ghost use Rattle.bpf_follows.specs.Matching.{undirected, IsSame, AreSame, copy_kind, within_at, within_ints, offset_sum, computed, moved_kind, of_operand, is_equality, are_offsets, by_offsets, by_kinds, result_kind, is_framed, written_kind, Reads, is_sum, is_moved, is_natural, is_wide, widened, Pairs};
 
 use crate::areas::{are_alike, is_offset, origin, unbounded};
 use crate::exact::{by_exact, fixed_at};
@@ -12,11 +12,12 @@ use crate::extras::is_same;
 use crate::frame::is_r10;
 use crate::kinds::{is_register, known_in};
 use crate::mismatch::Fault;
+use crate::notes::{Area, Kind};
 use crate::numbers::{is_bounded, number_kind};
 use crate::rebased::by_address;
+use crate::site::Site;
 use crate::tame::is_tame;
 use crate::whole::by_slot;
-use bpf_follows_law::{Area, Kind, Site};
 use bpf_insn::{AluOp, Cond, Insn, Operand, Reg, Width};
 
 /// Whether two instructions are the same.

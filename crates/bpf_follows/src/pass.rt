@@ -2,14 +2,15 @@
 //! are a simulation relation (Milner), and the law says what that means for runs.
 
 ghost use Rattle.std.specs.Prelude.{◌≡◌, ◌↔◌, ℕ, IsOk, IfErr, IsTrue};
-ghost use Rattle.bpf_follows_law.specs.Meaning.{KeepsMeaning};
-ghost use Rattle.bpf_follows_law.specs.Matching.{StandsAt, Matches};
+ghost use Rattle.bpf_follows.specs.Meaning.{KeepsMeaning};
+ghost use Rattle.bpf_follows.specs.Matching.{StandsAt, Matches};
 ghost use Rattle.bpf_follows.specs.Mismatches.{IsMismatch, IsAt, IsLowest};
 
 use crate::edges::starts;
+use crate::laws::matching_keeps_meaning;
 use crate::mismatch::Mismatch;
+use crate::notes::{Bounds, Place};
 use crate::stands::stands_at;
-use bpf_follows_law::{Bounds, Place, matching_keeps_meaning};
 use bpf_insn::{Code, Order};
 
 /// Whether what the notes say of each old slot holds. The lowest slot where it doesn't is told.

@@ -2,18 +2,19 @@
 
 ghost use Rattle.std.specs.Prelude.{◌≡◌, ◌+ℤ◌, ◌-ℤ◌, ◌↔◌, IsTrue};
 ghost use Rattle.std.specs.Ordering.{int_eq};
-ghost use Rattle.bpf_follows_law.specs.Relation.{known};
-ghost use Rattle.bpf_follows_law.specs.Matching.{rebased, stored_by, is_based, by_base, are_same_place, is_same_place, place_area, IsSafe, ByAddress};
+ghost use Rattle.bpf_follows.specs.Relation.{known};
+ghost use Rattle.bpf_follows.specs.Matching.{rebased, stored_by, is_based, by_base, are_same_place, is_same_place, place_area, IsSafe, ByAddress};
 
 use crate::areas::{is_own, origin, same_area};
 use crate::extras::base_of;
 use crate::frame::is_r10;
 use crate::kinds::{is_register, known_in};
+use crate::notes::{Area, Kind};
 use crate::pairs::{reads_same, same};
+use crate::site::Site;
 use crate::tame::is_tame;
-use bpf_follows_law::{Area, Kind, Site};
 use bpf_insn::{Access, Insn, Reg};
-use bpf_packets::HEAD_BYTES;
+use bpf_semantics::HEAD_BYTES;
 
 /// The access by another register.
 fn rebased(insn: &Insn, base: Reg, off: i16) -> Option<Insn>

@@ -4,16 +4,15 @@ ghost use Rattle.bpf_insn.specs.Limits.{max_slots};
 ghost use Rattle.std.specs.Prelude.{◌≡◌, ◌≢◌, ◌<◌, ◌+◌, ◌⊎◌, ◌↔◌, ℕ, IsTrue, Some, true, false};
 ghost use Rattle.bpf_insn.specs.Instruction.{goes_on, slot_count};
 ghost use Rattle.bpf_insn.specs.declared.instruction.Insn.TheVariants.{Exit};
-ghost use Rattle.bpf_follows_law.specs.declared.notes.Kind.TheVariants.{Same};
-ghost use Rattle.bpf_follows_law.specs.Relation.{places, Gives, known, is_alone};
-ghost use Rattle.bpf_follows_law.specs.Returned.{is_call, led, given_back, back_of, back_at, called_back, KeepsBack, GivesBack};
-ghost use Rattle.bpf_follows_law.specs.Matching.{kinds_back, kinds_along};
+ghost use Rattle.bpf_follows.specs.declared.notes.Kind.TheVariants.{Same};
+ghost use Rattle.bpf_follows.specs.Relation.{places, Gives, known, is_alone};
+ghost use Rattle.bpf_follows.specs.Returned.{is_call, led, given_back, back_of, back_at, called_back, KeepsBack, GivesBack};
+ghost use Rattle.bpf_follows.specs.Matching.{kinds_back, kinds_along};
 
 use crate::frame::is_lowest;
-use crate::kinds::{
-    gives, held, is_alone, is_call, is_same, kind_beyond, kind_in, known, place_at,
-};
-use bpf_follows_law::{Kind, Place, Site};
+use crate::kinds::{gives, held, is_alone, is_call, is_same, kind_beyond, kind_in, known, place_at};
+use crate::notes::{Kind, Place};
+use crate::site::Site;
 use bpf_insn::{Insn, Reg, target};
 
 /// Where the instruction at a slot jumps or calls to.

@@ -4,8 +4,8 @@ ghost use Rattle.bpf_insn.specs.Limits.{max_slots};
 ghost use Rattle.std.specs.Prelude.{◌≡◌, ◌<◌, ◌↔◌, IsOk, IsTrue, Some, IfOk, IfErr};
 ghost use Rattle.bpf_insn.specs.Instruction.{insn_at};
 ghost use Rattle.bpf_insn.specs.declared.instruction.Insn.{Insn};
-ghost use Rattle.bpf_follows_law.specs.declared.site.Site.{Site};
-ghost use Rattle.bpf_follows_law.specs.Matching.{front_at, Falls, Leads, IsSite, StandsAt};
+ghost use Rattle.bpf_follows.specs.declared.site.Site.{Site};
+ghost use Rattle.bpf_follows.specs.Matching.{front_at, Falls, Leads, IsSite, StandsAt};
 ghost use Rattle.bpf_follows.specs.Mismatches.{IsNoSite, FailsAt};
 
 use crate::ahead::{span_behind, spans_ahead};
@@ -14,11 +14,12 @@ use crate::exact::{may_fall, may_lead};
 use crate::extras::extras;
 use crate::kinds::{all_called, is_call, place_at};
 use crate::mismatch::Fault;
+use crate::notes::{Bounds, Place};
 use crate::pairs::pairs;
 use crate::returned::{gives_back, led};
+use crate::site::{Front, Site};
 use crate::stuck::is_stuck;
 use crate::tame::is_lone;
-use bpf_follows_law::{Bounds, Front, Place, Site};
 use bpf_insn::{Code, Insn};
 
 /// Whether a program has the slot.

@@ -1,14 +1,14 @@
 //! Instructions at which the old program is surely stuck, by what is said of its registers.
 
 ghost use Rattle.std.specs.Prelude.{◌≡◌, ◌+ℤ◌, pos};
-ghost use Rattle.bpf_follows_law.specs.Relation.{kind_in};
-ghost use Rattle.bpf_follows_law.specs.Stuck.{points, operand_points, is_misused, is_torn, is_wrong, may_lie, lies_outside, goes_outside, is_stuck};
+ghost use Rattle.bpf_follows.specs.Relation.{kind_in};
+ghost use Rattle.bpf_follows.specs.Stuck.{points, operand_points, is_misused, is_torn, is_wrong, may_lie, lies_outside, goes_outside, is_stuck};
 
 use crate::areas::{is_homed_by, size_of};
 use crate::frame::{is_r10, slot_of};
 use crate::inner::first_at;
 use crate::kinds::kind_in;
-use bpf_follows_law::{Kind, Kinds};
+use crate::notes::{Kind, Kinds};
 use bpf_insn::{Access, AluOp, Insn, Operand, Reg, Size, Width};
 
 // ---- pointers where only numbers serve

@@ -1,14 +1,15 @@
 //! Whether an instruction does the same on the frame, where slots of the new program hold offsets.
 
 ghost use Rattle.std.specs.Prelude.{◌≡◌, ◌<◌, ◌+◌, ◌↔◌, ℕ, IsTrue, Some, true};
-ghost use Rattle.bpf_follows_law.specs.Relation.{known, is_alone};
-ghost use Rattle.bpf_follows_law.specs.Matching.{is_plain, AllPlain, IsPlainAt, whole_slot, IsTame, is_homed, IsLone};
+ghost use Rattle.bpf_follows.specs.Relation.{known, is_alone};
+ghost use Rattle.bpf_follows.specs.Matching.{is_plain, AllPlain, IsPlainAt, whole_slot, IsTame, is_homed, IsLone};
 
 use crate::areas::is_homed_by;
 use crate::frame::{is_far, is_far_put, whole_slot};
 use crate::inner::misses;
 use crate::kinds::{REGISTERS, is_alone, is_call, known, known_in};
-use bpf_follows_law::{Kind, PLACES, Place, Site};
+use crate::notes::{Kind, PLACES, Place};
+use crate::site::Site;
 
 /// Whether each cell of a slot of this kind is the same, wherever the old program has something there.
 pub fn is_plain(kind: Kind) -> bool

@@ -1,15 +1,16 @@
 //! Whole slots of the own frame: what the old program puts into one, and takes out of it, in both programs.
 
 ghost use Rattle.std.specs.Prelude.{◌≡◌, ◌<◌};
-ghost use Rattle.bpf_follows_law.specs.Relation.{known};
-ghost use Rattle.bpf_follows_law.specs.Matching.{fills_slot, slot_kind, slot_whole, loaded, spilled, put_constant, by_slot};
+ghost use Rattle.bpf_follows.specs.Relation.{known};
+ghost use Rattle.bpf_follows.specs.Matching.{fills_slot, slot_kind, slot_whole, loaded, spilled, put_constant, by_slot};
 
 use crate::areas::is_own;
 use crate::exact::exact_kind;
 use crate::extras::is_same;
 use crate::frame::{is_r10, slot_of};
 use crate::kinds::{known, known_in};
-use bpf_follows_law::{Kind, Site};
+use crate::notes::Kind;
+use crate::site::Site;
 use bpf_insn::{Insn, Reg, Size, extended};
 
 /// Whether a slot holds what is of this kind whole.

@@ -3,13 +3,13 @@
 ghost use Rattle.std.specs.Prelude.{◌<◌, ◌≤◌, IfOk, IfErr};
 ghost use Rattle.bpf_insn.specs.Instruction.{slots};
 ghost use Rattle.bpf_insn.specs.Limits.{max_context};
-ghost use Rattle.bpf_harden_notes.specs.RefusalNumbers.{harden_slot};
+ghost use Rattle.bpf_changes.specs.RefusalNumbers.{harden_slot};
 
 use crate::judge::{Verdict, verdict_of};
 use crate::rounds::{certified, guard_all, guarded_everywhere};
 use bpf_cert::Certificate;
-use bpf_harden_notes::{HardenError, Hardened, Options};
-use bpf_harden_plan::{Old, Plan};
+use bpf_changes::{HardenError, Hardened, Options};
+use bpf_harden_text::{Old, Plan};
 use bpf_infer::infer;
 use bpf_infer_base::{DEEP_WORK, Meter, Quest, Task, Unwatched, Watch};
 use bpf_insn::{Code, Program};

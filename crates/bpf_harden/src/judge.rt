@@ -3,12 +3,10 @@
 ghost use Rattle.std.specs.Prelude.{◌≤◌};
 
 use bpf_cert::{Certificate, Function};
-use bpf_harden_notes::HardenError;
-use bpf_harden_plan::{Old, Plan, Rooms, refusal};
-use bpf_harden_text::{Draft, emitted};
-use bpf_infer_base::{Cfg, Meter, Quest, Task, Watch};
+use bpf_changes::HardenError;
+use bpf_harden_text::{Draft, Old, Plan, Rooms, emitted, refusal};
+use bpf_infer_base::{Cfg, InferError, Meter, Quest, Task, Watch};
 use bpf_infer_budgets::{ranked, uncounted};
-use bpf_infer_error::InferError;
 use bpf_infer_states::{Survey, surveyed};
 use std::alloc::Global;
 

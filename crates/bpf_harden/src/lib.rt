@@ -14,6 +14,6 @@ mod sums;
 mod turns;
 mod wide;
 
-pub use bpf_harden_notes::{Change, FunctionNote, HardenError, Hardened, Note, Options};
+pub use bpf_changes::{Change, FunctionNote, HardenError, Hardened, Note, Options};
 pub use hardener::harden;
 pub use turns::{Fitted, Unfit, fit};

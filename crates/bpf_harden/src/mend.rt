@@ -2,9 +2,9 @@
 
 use crate::judge::Trial;
 use crate::sums::Sums;
-use bpf_harden_notes::{Change, HardenError};
-use bpf_harden_plan::{Guard, Kind, Old, Plan, Span};
-use bpf_infer_error::Condition;
+use bpf_changes::{Change, HardenError};
+use bpf_harden_text::{Guard, Kind, Old, Plan, Span};
+use bpf_infer_base::Condition;
 use bpf_insn::{Access, Insn, Reg};
 use bpf_state::{RegState, StateFault};
 

@@ -2,7 +2,7 @@
 
 use crate::judge::{Trial, Verdict};
 use bpf_cert::{Label, Measure, Term};
-use bpf_harden_plan::{Old, Plan, Rooms};
+use bpf_harden_text::{Old, Plan, Rooms};
 use bpf_infer_base::{Flow, PlaceSet};
 use bpf_state::Place;
 use std::alloc::{AllocError, Global};

@@ -1,9 +1,8 @@
 //! Notes of what was done.
 
 use bpf_cert::Certificate;
-use bpf_harden_notes::{FunctionNote, HardenError, Hardened, Note};
-use bpf_harden_plan::{Old, Rooms};
-use bpf_harden_text::Draft;
+use bpf_changes::{FunctionNote, HardenError, Hardened, Note};
+use bpf_harden_text::{Draft, Old, Rooms};
 use bpf_infer_base::get_or;
 use std::alloc::{AllocError, Global};
 

@@ -7,9 +7,8 @@ use crate::pay::Payer;
 use crate::record::recorded;
 use crate::slim::slim;
 use crate::wide::widen_all;
-use bpf_harden_notes::{HardenError, Hardened};
-use bpf_harden_plan::{Guard, Kind, Old, Plan, Rooms, Span};
-use bpf_harden_text::emitted;
+use bpf_changes::{HardenError, Hardened};
+use bpf_harden_text::{Guard, Kind, Old, Plan, Rooms, Span, emitted};
 use bpf_infer_base::{Flow, Meter, Watch, get_or, put};
 use std::alloc::{AllocError, Global};
 

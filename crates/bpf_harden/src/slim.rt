@@ -2,8 +2,8 @@
 //! front of it.
 
 use crate::judge::Trial;
-use bpf_harden_notes::Change;
-use bpf_harden_plan::{Guard, Plan};
+use bpf_changes::Change;
+use bpf_harden_text::{Guard, Plan};
 use bpf_insn::{Cond, Insn, Operand};
 
 /// The bounds of what is compared with.

@@ -1,7 +1,7 @@
 //! Where the base of an access gets its offset: by a sum in front of it, of what is always the same and a number that isn't.
 
 use crate::mend::Mender;
-use bpf_harden_plan::{Early, Kind, Plan, Span};
+use bpf_harden_text::{Early, Kind, Plan, Span};
 use bpf_insn::{AluOp, FRAME_BYTES, Insn, Operand, Reg, Width};
 
 /// How many instructions may lie between a sum and the access.

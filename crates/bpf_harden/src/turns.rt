@@ -6,8 +6,8 @@ ghost use Rattle.std.specs.Prelude.{◌≤◌};
 
 use crate::hardener::{lengths, work_for};
 use crate::rounds::{certified, guard_all};
-use bpf_harden_notes::{HardenError, Hardened, Options};
-use bpf_harden_plan::{Old, Plan};
+use bpf_changes::{HardenError, Hardened, Options};
+use bpf_harden_text::{Old, Plan};
 use bpf_infer_base::{DEEP_WORK, Meter, Quest, Unwatched, Watch};
 use bpf_insn::Program;
 use std::alloc::Global;

@@ -1,7 +1,6 @@
 //! 32-bit operations that can't wrap, as 64-bit ones, which counters may use.
 
-use bpf_harden_plan::{Old, Plan};
-use bpf_harden_text::Draft;
+use bpf_harden_text::{Draft, Old, Plan};
 use bpf_infer_states::Survey;
 use bpf_insn::{AluOp, Insn, Operand, Width};
 

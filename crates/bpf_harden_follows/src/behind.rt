@@ -1,10 +1,9 @@
 //! What registers hold behind an old instruction and what stands for it.
 
 use crate::facts::{Facts, REGISTERS, offset_area, offset_bounds, slot_at};
+use bpf_follows::{Area, Kind, Site, by_exact, is_blurred};
 use bpf_follows::inner::misses;
 use bpf_follows::numbers::{number_kind, told};
-use bpf_follows::{by_exact, is_blurred};
-use bpf_follows_law::{Area, Kind, Site};
 use bpf_insn::{Access, AluOp, FRAME_BYTES, Insn, Operand, Reg, Size, Width};
 
 /// What a copy of a register holds.

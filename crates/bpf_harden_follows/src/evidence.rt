@@ -2,13 +2,12 @@
 
 ghost use Rattle.bpf_insn.specs.Limits.{frame_bytes};
 ghost use Rattle.std.specs.Prelude.{◌≡◌, ◌≤◌, IfOk, IfSome, MatchOption};
-ghost use Rattle.bpf_follows_law.specs.Matching.{Matches};
+ghost use Rattle.bpf_follows.specs.Matching.{Matches};
 ghost use Rattle.bpf_follows.specs.Mismatches.{IsMismatch};
 
 use crate::places::{MOST_LOOKS, places_within};
-use bpf_follows::{Mismatch, follows};
-use bpf_follows_law::{Bounds, Place};
-use bpf_harden_notes::Hardened;
+use bpf_changes::Hardened;
+use bpf_follows::{Bounds, Mismatch, Place, follows};
 use bpf_insn::{FRAME_BYTES, Program};
 use std::alloc::{AllocError, Global};
 

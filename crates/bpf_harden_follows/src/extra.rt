@@ -1,10 +1,10 @@
 //! Extra instructions: what they leave in the new program's registers, while the old one stands still.
 
 use crate::facts::{Facts, between, ends_of, is_free, offset_area, slot_at};
+use bpf_follows::{Area, Kind};
 use bpf_follows::keeps::restored;
-use bpf_follows_law::{Area, Kind};
 use bpf_insn::{AluOp, Cond, Insn, Operand, Reg, Size, Width};
-use bpf_packets::HEAD_BYTES;
+use bpf_semantics::HEAD_BYTES;
 
 /// The old register whose offset a register holds, what that is counted in, and what it was moved by.
 fn offset_in(r: Reg, kind: Kind) -> Option<(Area, Reg, i32)> {

@@ -1,8 +1,8 @@
 //! What registers and slots of the frame hold at a place.
 
-use bpf_follows_law::{Area, Bounds, Kind, Kinds, PLACES};
+use bpf_follows::{Area, Bounds, Kind, Kinds, PLACES};
 use bpf_insn::{FRAME_BYTES, Reg};
-use bpf_packets::HEAD_BYTES;
+use bpf_semantics::HEAD_BYTES;
 
 /// How many registers there are. Behind them come the frame's slots, the lowest first.
 pub const REGISTERS: usize = 11;

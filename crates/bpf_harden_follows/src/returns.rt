@@ -1,7 +1,7 @@
 //! What functions give back to those that call them.
 
 use crate::facts::{grown, joined_numbers};
-use bpf_follows_law::Kind;
+use bpf_follows::Kind;
 use bpf_infer_base::{get_or, put};
 use std::alloc::{AllocError, Global};
 

@@ -2,12 +2,12 @@
 
 use crate::edits::{loaded, with_base};
 use crate::parts::{add, add_constant, alu, constant, copy, displacement, fetch, is_near};
+use crate::plan::{Guard, Span};
 use crate::region::Region;
 use crate::share::{Made, Share, stores};
 use crate::temps::{Temp, Way, first_of};
 use crate::writer::Writer;
-use bpf_harden_notes::{Change, HardenError};
-use bpf_harden_plan::{Guard, Span};
+use bpf_changes::{Change, HardenError};
 use bpf_infer_base::PlaceSet;
 use bpf_insn::{Access, AluOp, Cond, Insn, Operand, Reg};
 use bpf_state::Place;

@@ -3,7 +3,7 @@
 use crate::parts::displacement;
 use crate::piece::{Goal, Piece};
 use crate::writer::Writer;
-use bpf_harden_notes::{Change, HardenError};
+use bpf_changes::{Change, HardenError};
 use bpf_infer_base::get_or;
 use bpf_insn::{Insn, MAX_SLOTS, Order, Program};
 use std::alloc::{AllocError, Global};

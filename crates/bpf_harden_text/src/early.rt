@@ -1,8 +1,8 @@
 //! Guards in front of a sum, by what is added: both what is added and the sum are bounded behind them.
 
+use crate::plan::{Early, Guard};
 use crate::region::Region;
 use crate::writer::Writer;
-use bpf_harden_plan::{Early, Guard};
 use std::alloc::AllocError;
 
 impl<'a> Writer<'a> {

@@ -3,13 +3,15 @@
 use crate::access::Site;
 use crate::draft::Draft;
 use crate::edits::{widened, with_offset};
+use crate::old::Old;
 use crate::parts::{add_constant, fetch, keep};
 use crate::piece::Goal;
+use crate::plan::Plan;
 use crate::region::Region;
+use crate::rooms::Rooms;
 use crate::temps::{Temp, first_of};
 use crate::writer::Writer;
-use bpf_harden_notes::{Change, HardenError};
-use bpf_harden_plan::{Old, Plan, Rooms};
+use bpf_changes::{Change, HardenError};
 use bpf_infer_base::{Flow, PlaceSet, put};
 use bpf_insn::{Access, Cond, Insn, Operand, Reg};
 use bpf_state::Place;

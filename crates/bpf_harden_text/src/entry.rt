@@ -2,9 +2,10 @@
 
 use crate::parts::{add_constant, constant, copy, fetch, keep, keep_constant, load, set, skip_if};
 use crate::piece::Goal;
+use crate::rooms::Room;
+use crate::uses::Uses;
 use crate::writer::Writer;
-use bpf_harden_notes::{Change, HardenError};
-use bpf_harden_plan::{Room, Uses};
+use bpf_changes::{Change, HardenError};
 use bpf_infer_base::{get_or, put};
 use bpf_insn::{Cond, Insn, Operand, Reg};
 use bpf_state::Place;

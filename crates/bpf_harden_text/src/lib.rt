@@ -1,5 +1,6 @@
-//! The text of a hardened program: templates in the place of old instructions, and where they come to stand. It makes no claim
-//! but to be safe and to end.
+//! What is known of a program that is to be hardened, and what is planned for it: kinds of registers, liveness,
+//! frames, and the places that guards and counters need; and the new text: templates in the place of old instructions,
+//! and where they come to stand. It makes no claim but to be safe and to end.
 #![tactic(auto)]
 
 mod access;
@@ -8,12 +9,24 @@ mod early;
 mod edits;
 mod emit;
 mod entry;
+mod kinds;
+mod live;
+mod old;
 mod parts;
 mod piece;
+mod plan;
 mod region;
+mod rooms;
 mod share;
 mod temps;
+mod uses;
 mod writer;
 
 pub use draft::Draft;
 pub use emit::emitted;
+pub use kinds::Kind;
+pub use live::Liveness;
+pub use old::{Old, refusal};
+pub use plan::{Early, Guard, Plan, Span};
+pub use rooms::{Room, Rooms};
+pub use uses::{BY_CHOICE, Uses};

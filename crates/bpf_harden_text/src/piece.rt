@@ -1,6 +1,6 @@
 //! New instructions whose jumps aren't resolved yet.
 
-use bpf_harden_notes::Change;
+use bpf_changes::Change;
 use bpf_insn::Insn;
 
 /// Where a new instruction leads.

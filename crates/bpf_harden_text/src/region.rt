@@ -1,7 +1,9 @@
 //! The regions of memory that accesses by offsets go to.
 
 use crate::edits::FRAME_END;
-use bpf_harden_plan::{Kind, Plan, Room};
+use crate::kinds::Kind;
+use crate::plan::Plan;
+use crate::rooms::Room;
 use bpf_insn::Reg;
 use bpf_state::Place;
 

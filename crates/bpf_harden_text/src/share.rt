@@ -4,7 +4,7 @@ use crate::access::Site;
 use crate::edits::with_base;
 use crate::temps::first_of;
 use crate::writer::Writer;
-use bpf_harden_notes::Change;
+use bpf_changes::Change;
 use bpf_infer_base::PlaceSet;
 use bpf_insn::{Insn, Reg};
 use bpf_state::Place;

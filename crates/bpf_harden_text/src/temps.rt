@@ -1,9 +1,10 @@
 //! Registers that are taken for a while.
 
+use crate::kinds::Kind;
 use crate::parts::{fetch, keep};
+use crate::uses::BY_CHOICE;
 use crate::writer::Writer;
-use bpf_harden_notes::{Change, HardenError};
-use bpf_harden_plan::{BY_CHOICE, Kind};
+use bpf_changes::{Change, HardenError};
 use bpf_infer_base::PlaceSet;
 use bpf_insn::Reg;
 use bpf_state::Place;

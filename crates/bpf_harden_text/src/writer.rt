@@ -1,10 +1,12 @@
 //! Where new instructions are put, one after the other.
 
+use crate::old::Old;
 use crate::parts::{JUMP, constant, jump_if};
 use crate::piece::{Goal, Piece};
+use crate::plan::{Guard, Plan};
+use crate::rooms::Rooms;
 use crate::share::Made;
-use bpf_harden_notes::Change;
-use bpf_harden_plan::{Guard, Old, Plan, Rooms};
+use bpf_changes::Change;
 use bpf_infer_base::put;
 use bpf_insn::{Cond, Insn, Operand, Reg};
 use std::alloc::{AllocError, Global};

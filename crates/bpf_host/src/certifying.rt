@@ -2,15 +2,14 @@
 
 ghost use Rattle.std.specs.Prelude.{◌≡◌, ◌⊎◌, ◌↔◌, ◌<◌};
 ghost use Rattle.bpf_insn.specs.Limits.{max_context};
-ghost use Rattle.bpf_host_runs.specs.Told.{order_named};
-ghost use Rattle.bpf_host_advice.specs.Certified.{GivesCertified, IsNotCertified, WantsCertifiedRoom};
-ghost use Rattle.bpf_host_runs.specs.declared.answers.TheConstants.{YES, NO, NO_MEMORY, BAD_CALL, TOO_SMALL};
+ghost use Rattle.bpf_host_calls.specs.Told.{order_named};
+ghost use Rattle.bpf_host_calls.specs.Certified.{GivesCertified, IsNotCertified, WantsCertifiedRoom};
+ghost use Rattle.bpf_host_calls.specs.declared.answers.TheConstants.{YES, NO, NO_MEMORY, BAD_CALL, TOO_SMALL};
 
-use bpf_host_advice::{BpfCertified, BpfWish, CertifyAsked};
-use bpf_host_runs::BpfRefusal;
+use bpf_host_calls::{BpfCertified, BpfRefusal, BpfWish, CertifyAsked};
 use std::alloc::Global;
 
-/// `certify` of `bpf_host_advice`, for C.
+/// `certify` of `bpf_host_calls`, for C.
 #[unsafe(no_mangle)]
 pub extern "C" fn bpf_host_certify(
     alloc: Global,
@@ -38,5 +37,5 @@ pub extern "C" fn bpf_host_certify(
         size,
         wish: *wish,
     };
-    bpf_host_advice::certify(alloc, image, asked, made, text, certified, refusal)
+    bpf_host_calls::certify(alloc, image, asked, made, text, certified, refusal)
 }

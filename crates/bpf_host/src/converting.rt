@@ -1,25 +1,24 @@
 //! The calls that convert filters of classic BPF.
 
 ghost use Rattle.std.specs.Prelude.{◌≡◌, ◌⊎◌, ◌↔◌, ◌<◌, false};
-ghost use Rattle.bpf_host_runs.specs.Told.{order_named};
-ghost use Rattle.bpf_host_convert.specs.Forms.{form_part, form_asked, may_have, wanted_by};
-ghost use Rattle.bpf_host_convert.specs.Converted.{GivesConverted, IsNotConverted, WantsConvertedRoom};
-ghost use Rattle.bpf_host_convert.specs.Sizes.{convert_size};
-ghost use Rattle.bpf_host_runs.specs.declared.answers.TheConstants.{YES, NO, NO_MEMORY, BAD_CALL, TOO_SMALL};
+ghost use Rattle.bpf_host_calls.specs.Told.{order_named};
+ghost use Rattle.bpf_host_calls.specs.Forms.{form_part, form_asked, may_have, wanted_by};
+ghost use Rattle.bpf_host_calls.specs.Converted.{GivesConverted, IsNotConverted, WantsConvertedRoom};
+ghost use Rattle.bpf_host_calls.specs.ConvertSizes.{convert_size};
+ghost use Rattle.bpf_host_calls.specs.declared.answers.TheConstants.{YES, NO, NO_MEMORY, BAD_CALL, TOO_SMALL};
 
-use bpf_host_convert::{BpfConverted, ConvertAsked};
-use bpf_host_runs::BpfRefusal;
+use bpf_host_calls::{BpfConverted, BpfRefusal, ConvertAsked};
 use std::alloc::Global;
 
-/// `convert_size` of `bpf_host_convert`, for C.
+/// `convert_size` of `bpf_host_calls`, for C.
 #[unsafe(no_mangle)]
 pub extern "C" fn bpf_host_convert_size(count: usize) -> usize
     ensures { result ≡ convert_size count }
 {
-    bpf_host_convert::convert_size(count)
+    bpf_host_calls::convert_size(count)
 }
 
-/// `convert` of `bpf_host_convert`, for C.
+/// `convert` of `bpf_host_calls`, for C.
 #[unsafe(no_mangle)]
 pub extern "C" fn bpf_host_convert(
     alloc: Global,
@@ -49,5 +48,5 @@ pub extern "C" fn bpf_host_convert(
         size,
         order,
     };
-    bpf_host_convert::convert(alloc, filter, asked, made, text, converted, refusal)
+    bpf_host_calls::convert(alloc, filter, asked, made, text, converted, refusal)
 }

@@ -2,16 +2,15 @@
 
 ghost use Rattle.std.specs.Prelude.{◌≡◌, ◌⊎◌, ◌↔◌, ◌<◌, length};
 ghost use Rattle.bpf_insn.specs.Limits.{max_context};
-ghost use Rattle.bpf_host_runs.specs.Told.{order_named};
-ghost use Rattle.bpf_host_runs.specs.Answers.{IsRefusedAsTold};
-ghost use Rattle.bpf_host_advice.specs.Explained.{IsSomeImage, IsRefusedImage, IsCertifiedBySome, IsFound, IsNotFound, GivesWords};
-ghost use Rattle.bpf_host_runs.specs.declared.answers.TheConstants.{YES, NO, NO_MEMORY, BAD_CALL, TOO_SMALL};
+ghost use Rattle.bpf_host_calls.specs.Told.{order_named};
+ghost use Rattle.bpf_host_calls.specs.Answers.{IsRefusedAsTold};
+ghost use Rattle.bpf_host_calls.specs.Explained.{IsSomeImage, IsRefusedImage, IsCertifiedBySome, IsFound, IsNotFound, GivesWords};
+ghost use Rattle.bpf_host_calls.specs.declared.answers.TheConstants.{YES, NO, NO_MEMORY, BAD_CALL, TOO_SMALL};
 
-use bpf_host_advice::{ExplainAsked, RangeAsked};
-use bpf_host_runs::BpfRefusal;
+use bpf_host_calls::{BpfRefusal, ExplainAsked, RangeAsked};
 use std::alloc::Global;
 
-/// `explain` of `bpf_host_advice`, for C.
+/// `explain` of `bpf_host_calls`, for C.
 #[unsafe(no_mangle)]
 pub extern "C" fn bpf_host_explain(
     alloc: Global,
@@ -42,10 +41,10 @@ pub extern "C" fn bpf_host_explain(
         slot,
         lines,
     };
-    bpf_host_advice::explain(alloc, image, certificate, asked, text, wanted, refusal)
+    bpf_host_calls::explain(alloc, image, certificate, asked, text, wanted, refusal)
 }
 
-/// `explain_search` of `bpf_host_advice`, for C.
+/// `explain_search` of `bpf_host_calls`, for C.
 #[unsafe(no_mangle)]
 pub extern "C" fn bpf_host_explain_search(
     alloc: Global,
@@ -79,10 +78,10 @@ pub extern "C" fn bpf_host_explain_search(
         slot,
         lines,
     };
-    bpf_host_advice::explain_search(alloc, image, range, asked, text, wanted, refusal)
+    bpf_host_calls::explain_search(alloc, image, range, asked, text, wanted, refusal)
 }
 
-/// `explain_image` of `bpf_host_advice`, for C.
+/// `explain_image` of `bpf_host_calls`, for C.
 #[unsafe(no_mangle)]
 pub extern "C" fn bpf_host_explain_image(
     alloc: Global,
@@ -103,5 +102,5 @@ pub extern "C" fn bpf_host_explain_image(
     ensures wanted_kept { (result ≡ YES) ⊎ (result ≡ NO) ⊎ (result ≡ TOO_SMALL) ⊎ (wanted.new ≡ wanted.old) }
     ensures refusal_kept { (result ≡ NO) ⊎ (refusal.new ≡ refusal.old) }
 {
-    bpf_host_advice::explain_image(alloc, image, order, graph, text, wanted, refusal)
+    bpf_host_calls::explain_image(alloc, image, order, graph, text, wanted, refusal)
 }

@@ -1,5 +1,5 @@
 //! The checker, the machine and the inferrer for hosts in C and in Rust. `include/bpf.h` declares these calls, and hands
-//! over no pointer that is null. Each is one call of `bpf_host_runs`, `bpf_host_convert` or `bpf_host_advice`, and promises what that one does.
+//! over no pointer that is null. Each is one call of `bpf_host_calls`, and promises what that one does.
 #![tactic(auto)]
 
 ghost use Rattle.std.specs.Prelude.{◌≡◌, ◌≢◌, ◌==◌, ◌++◌, ◌⊎◌, ◌↔◌, ◌<◌, ◌≤◌, ◌+◌, ◌*◌, ◌%◌, List, length, take, drop};
@@ -8,38 +8,37 @@ ghost use Rattle.bpf_insn.specs.Laws.{IsImageOfProgram};
 ghost use Rattle.bpf_insn.specs.declared.instruction.Insn.{Insn as Instruction};
 ghost use Rattle.bpf_cert.specs.View.{CertificateView};
 ghost use Rattle.bpf_check.specs.Verdicts.{Verified, Promises, Certifies};
-ghost use Rattle.bpf_host_runs.specs.Told.{AnswersVerdict, order_named};
-ghost use Rattle.bpf_host_runs.specs.Prepared.{IsPrepared, IsMarked, IsWhole, prepared_head, version};
-ghost use Rattle.bpf_host_runs.specs.Loaded.{handle_head, IsLoaded, LoadsEach, IsMarkedHandle, IsWholeHandle, HoldsLoaded, EndsAsLoaded, loaded_least, loaded_most};
-ghost use Rattle.bpf_host_runs.specs.Answers.{IsRefusedAsTold, IsNoImage, RanImage, RanPrepared, IsUnrun, HoldsProgram, MayRun, EndsAsPrepared};
-ghost use Rattle.bpf_host_advice.specs.Explained.{IsSomeImage};
-ghost use Rattle.bpf_host_advice.specs.Sizes.{infer_size, explain_size};
-ghost use Rattle.bpf_host_advice.specs.Texts.{refusal_text, answer_text, IsNumbered};
-ghost use Rattle.bpf_host_advice.specs.Proposals.{GivesProposal, WantsRoom, IsNotProposed};
-ghost use Rattle.bpf_host_advice.specs.Hardened.{bounds_of, GivesHardened, WantsHardenedRoom, IsNotHardened};
-ghost use Rattle.bpf_host_advice.specs.Followed.{bounds_followed, IsFollowed, IsNotFollowed};
-ghost use Rattle.bpf_host_runs.specs.declared.answers.TheConstants.{YES, NO, NO_MEMORY, BAD_CALL, TOO_SMALL, TOO_LONG, BAD_LENGTH, BAD_WORDS};
+ghost use Rattle.bpf_host_calls.specs.Told.{AnswersVerdict, order_named};
+ghost use Rattle.bpf_host_calls.specs.Prepared.{IsPrepared, IsMarked, IsWhole, prepared_head, version};
+ghost use Rattle.bpf_host_calls.specs.Loaded.{handle_head, IsLoaded, LoadsEach, IsMarkedHandle, IsWholeHandle, HoldsLoaded, EndsAsLoaded, loaded_least, loaded_most};
+ghost use Rattle.bpf_host_calls.specs.Answers.{IsRefusedAsTold, IsNoImage, RanImage, RanPrepared, IsUnrun, HoldsProgram, MayRun, EndsAsPrepared};
+ghost use Rattle.bpf_host_calls.specs.Explained.{IsSomeImage};
+ghost use Rattle.bpf_host_calls.specs.Sizes.{infer_size, explain_size};
+ghost use Rattle.bpf_host_calls.specs.Texts.{refusal_text, answer_text, IsNumbered};
+ghost use Rattle.bpf_host_calls.specs.Proposals.{GivesProposal, WantsRoom, IsNotProposed};
+ghost use Rattle.bpf_host_calls.specs.Hardened.{bounds_of, GivesHardened, WantsHardenedRoom, IsNotHardened};
+ghost use Rattle.bpf_host_calls.specs.Followed.{bounds_followed, IsFollowed, IsNotFollowed};
+ghost use Rattle.bpf_host_calls.specs.declared.answers.TheConstants.{YES, NO, NO_MEMORY, BAD_CALL, TOO_SMALL, TOO_LONG, BAD_LENGTH, BAD_WORDS};
 
 mod certifying;
 mod converting;
 mod explaining;
 
-use bpf_host_advice::{BpfFollowing, HardenAsked, RangeAsked};
-use bpf_host_runs::{BpfOutcome, BpfRefusal, BpfVerdict, LoadAsked};
+use bpf_host_calls::{BpfFollowing, BpfOutcome, BpfRefusal, BpfVerdict, HardenAsked, LoadAsked, RangeAsked};
 pub use certifying::bpf_host_certify;
 pub use converting::{bpf_host_convert, bpf_host_convert_size};
 pub use explaining::{bpf_host_explain, bpf_host_explain_image, bpf_host_explain_search};
 use std::alloc::Global;
 
-/// `version` of `bpf_host_runs`, for C.
+/// `version` of `bpf_host_calls`, for C.
 #[unsafe(no_mangle)]
 pub extern "C" fn bpf_host_version() -> u32
     ensures { result ≡ version }
 {
-    bpf_host_runs::version()
+    bpf_host_calls::version()
 }
 
-/// `verify` of `bpf_host_runs`, for C.
+/// `verify` of `bpf_host_calls`, for C.
 #[unsafe(no_mangle)]
 pub extern "C" fn bpf_host_verify(
     alloc: Global,
@@ -59,10 +58,10 @@ pub extern "C" fn bpf_host_verify(
     ensures verdict_kept { (result ≡ YES) ⊎ (verdict.new ≡ verdict.old) }
     ensures refusal_kept { (result ≡ NO) ⊎ (refusal.new ≡ refusal.old) }
 {
-    bpf_host_runs::verify(alloc, image, order, certificate, verdict, refusal)
+    bpf_host_calls::verify(alloc, image, order, certificate, verdict, refusal)
 }
 
-/// `run` of `bpf_host_runs`, for C.
+/// `run` of `bpf_host_calls`, for C.
 #[unsafe(no_mangle)]
 pub extern "C" fn bpf_host_run(
     image: &[u8],
@@ -78,19 +77,19 @@ pub extern "C" fn bpf_host_run(
     ensures answers { (result ≡ YES) ⊎ (result ≡ NO) ⊎ (result ≡ BAD_CALL) ⊎ (result ≡ BAD_LENGTH) }
     ensures kept { (result ≡ YES) ⊎ (result ≡ NO) ⊎ (outcome.new ≡ outcome.old) }
 {
-    bpf_host_runs::run(image, order, context, fuel, outcome)
+    bpf_host_calls::run(image, order, context, fuel, outcome)
 }
 
-/// `prepared_size` of `bpf_host_runs`, for C.
+/// `prepared_size` of `bpf_host_calls`, for C.
 #[unsafe(no_mangle)]
 pub extern "C" fn bpf_host_prepared_size(image_len: usize) -> usize
     ensures words { image_len ≤ 8 * max_slots → image_len % 8 ≡ 0 → 0 < image_len → 8 * result ≡ prepared_head + image_len }
     ensures none { (8 * max_slots < image_len) ⊎ ((image_len ≡ 0) ⊎ (0 < image_len % 8)) → result ≡ 0 }
 {
-    bpf_host_runs::prepared_size(image_len)
+    bpf_host_calls::prepared_size(image_len)
 }
 
-/// `prepare` of `bpf_host_runs`, for C.
+/// `prepare` of `bpf_host_calls`, for C.
 #[unsafe(no_mangle)]
 pub extern "C" fn bpf_host_prepare(image: &[u8], order: u32, memory: &mut [u8]) -> i32
     ensures prepared { result ≡ YES → IsPrepared (order_named order) image.now memory.new }
@@ -102,10 +101,10 @@ pub extern "C" fn bpf_host_prepare(image: &[u8], order: u32, memory: &mut [u8]) 
     ensures answers { (result ≡ YES) ⊎ (result ≡ NO) ⊎ (result ≡ BAD_CALL) ⊎ (result ≡ TOO_SMALL) }
     ensures kept { (result ≡ YES) ⊎ (memory.new ≡ memory.old) }
 {
-    bpf_host_runs::prepare(image, order, memory)
+    bpf_host_calls::prepare(image, order, memory)
 }
 
-/// `run_checked` of `bpf_host_runs`, for C.
+/// `run_checked` of `bpf_host_calls`, for C.
 #[unsafe(no_mangle)]
 pub extern "C" fn bpf_host_run_checked(memory: &[u8], context: &[u8], value: &mut u64) -> i32
     requires head { prepared_head ≤ length memory.now }
@@ -115,10 +114,10 @@ pub extern "C" fn bpf_host_run_checked(memory: &[u8], context: &[u8], value: &mu
     ensures answers { (result ≡ YES) ⊎ (result ≡ BAD_WORDS) }
     ensures kept { (result ≡ YES) ⊎ (value.new ≡ value.old) }
 {
-    bpf_host_runs::run_checked(memory, context, value)
+    bpf_host_calls::run_checked(memory, context, value)
 }
 
-/// `run_prepared` of `bpf_host_runs`, for C.
+/// `run_prepared` of `bpf_host_calls`, for C.
 #[unsafe(no_mangle)]
 pub extern "C" fn bpf_host_run_prepared(
     memory: &[u8],
@@ -134,19 +133,19 @@ pub extern "C" fn bpf_host_run_prepared(
     ensures answers { (result ≡ YES) ⊎ (result ≡ BAD_LENGTH) ⊎ (result ≡ BAD_WORDS) }
     ensures kept { (result ≡ YES) ⊎ (outcome.new ≡ outcome.old) }
 {
-    bpf_host_runs::run_prepared(memory, context, fuel, outcome)
+    bpf_host_calls::run_prepared(memory, context, fuel, outcome)
 }
 
-/// `loaded_size` of `bpf_host_runs`, for C.
+/// `loaded_size` of `bpf_host_calls`, for C.
 #[unsafe(no_mangle)]
 pub extern "C" fn bpf_host_loaded_size(image_len: usize) -> usize
     ensures words { image_len ≤ 8 * max_slots → image_len % 8 ≡ 0 → 0 < image_len → 8 * result ≡ handle_head + image_len }
     ensures none { (8 * max_slots < image_len) ⊎ ((image_len ≡ 0) ⊎ (0 < image_len % 8)) → result ≡ 0 }
 {
-    bpf_host_runs::loaded_size(image_len)
+    bpf_host_calls::loaded_size(image_len)
 }
 
-/// `load` of `bpf_host_runs`, for C.
+/// `load` of `bpf_host_calls`, for C.
 #[unsafe(no_mangle)]
 pub extern "C" fn bpf_host_load(
     alloc: Global,
@@ -177,10 +176,10 @@ pub extern "C" fn bpf_host_load(
     ensures refusal_kept { (result ≡ NO) ⊎ (refusal.new ≡ refusal.old) }
 {
     let asked = LoadAsked { order, limit };
-    bpf_host_runs::load(alloc, image, asked, certificate, memory, verdict, refusal)
+    bpf_host_calls::load(alloc, image, asked, certificate, memory, verdict, refusal)
 }
 
-/// `run_loaded` of `bpf_host_runs`, for C.
+/// `run_loaded` of `bpf_host_calls`, for C.
 #[unsafe(no_mangle)]
 pub extern "C" fn bpf_host_run_loaded(memory: &[u8], context: &[u8], value: &mut u64) -> i32
     requires head { handle_head ≤ length memory.now }
@@ -191,18 +190,18 @@ pub extern "C" fn bpf_host_run_loaded(memory: &[u8], context: &[u8], value: &mut
     ensures answers { (result ≡ YES) ⊎ (result ≡ BAD_LENGTH) ⊎ (result ≡ BAD_WORDS) }
     ensures kept { (result ≡ YES) ⊎ (value.new ≡ value.old) }
 {
-    bpf_host_runs::run_loaded(memory, context, value)
+    bpf_host_calls::run_loaded(memory, context, value)
 }
 
-/// `infer_size` of `bpf_host_advice`, for C.
+/// `infer_size` of `bpf_host_calls`, for C.
 #[unsafe(no_mangle)]
 pub extern "C" fn bpf_host_infer_size(image_len: usize) -> usize
     ensures { result ≡ infer_size image_len }
 {
-    bpf_host_advice::infer_size(image_len)
+    bpf_host_calls::infer_size(image_len)
 }
 
-/// `explain_size` of `bpf_host_advice`, for C.
+/// `explain_size` of `bpf_host_calls`, for C.
 #[unsafe(no_mangle)]
 pub extern "C" fn bpf_host_explain_size(
     image_len: usize,
@@ -211,10 +210,10 @@ pub extern "C" fn bpf_host_explain_size(
 ) -> usize
     ensures { result ≡ explain_size image_len certificate_len lines_len }
 {
-    bpf_host_advice::explain_size(image_len, certificate_len, lines_len)
+    bpf_host_calls::explain_size(image_len, certificate_len, lines_len)
 }
 
-/// `infer` of `bpf_host_advice`, for C.
+/// `infer` of `bpf_host_calls`, for C.
 #[unsafe(no_mangle)]
 pub extern "C" fn bpf_host_infer(
     alloc: Global,
@@ -238,10 +237,10 @@ pub extern "C" fn bpf_host_infer(
     ensures refusal_kept { (result ≡ NO) ⊎ (refusal.new ≡ refusal.old) }
 {
     let range = RangeAsked { least, most, deep };
-    bpf_host_advice::infer(alloc, image, order, range, text, wanted, refusal)
+    bpf_host_calls::infer(alloc, image, order, range, text, wanted, refusal)
 }
 
-/// `harden` of `bpf_host_advice`, for C.
+/// `harden` of `bpf_host_calls`, for C.
 #[unsafe(no_mangle)]
 pub extern "C" fn bpf_host_harden(
     alloc: Global,
@@ -274,10 +273,10 @@ pub extern "C" fn bpf_host_harden(
         unproved,
         untouched,
     };
-    bpf_host_advice::harden(alloc, image, order, asked, text, wanted, refusal)
+    bpf_host_calls::harden(alloc, image, order, asked, text, wanted, refusal)
 }
 
-/// `follows` of `bpf_host_advice`, for C.
+/// `follows` of `bpf_host_calls`, for C.
 #[unsafe(no_mangle)]
 pub extern "C" fn bpf_host_follows(
     alloc: Global,
@@ -294,24 +293,24 @@ pub extern "C" fn bpf_host_follows(
     ensures answers { (result ≡ YES) ⊎ (result ≡ NO) ⊎ (result ≡ NO_MEMORY) ⊎ (result ≡ BAD_CALL) }
     ensures refusal_kept { (result ≡ NO) ⊎ (refusal.new ≡ refusal.old) }
 {
-    bpf_host_advice::follows(alloc, old, new, order, notes, *runs, refusal)
+    bpf_host_calls::follows(alloc, old, new, order, notes, *runs, refusal)
 }
 
-/// `refusal_text` of `bpf_host_advice`, for C.
+/// `refusal_text` of `bpf_host_calls`, for C.
 #[unsafe(no_mangle)]
 pub extern "C" fn bpf_host_refusal_text(kind: u32, number: u32, text: &mut [u8]) -> usize
     ensures numbered { (0 < result) ↔ IsNumbered kind number }
     ensures length { result ≡ length (refusal_text kind number) }
     ensures given { text.new ≡ take (length text.old) (refusal_text kind number) ++ drop result text.old }
 {
-    bpf_host_advice::refusal_text(kind, number, text)
+    bpf_host_calls::refusal_text(kind, number, text)
 }
 
-/// `answer_text` of `bpf_host_advice`, for C.
+/// `answer_text` of `bpf_host_calls`, for C.
 #[unsafe(no_mangle)]
 pub extern "C" fn bpf_host_answer_text(answer: i32, text: &mut [u8]) -> usize
     ensures length { result ≡ length (answer_text answer) }
     ensures given { text.new ≡ take (length text.old) (answer_text answer) ++ drop result text.old }
 {
-    bpf_host_advice::answer_text(answer, text)
+    bpf_host_calls::answer_text(answer, text)
 }

@@ -3,14 +3,13 @@
 ghost use Rattle.std.specs.Prelude.{◌≡◌, ◌<◌, ◌≤◌, IfOk, IfErr};
 ghost use Rattle.bpf_insn.specs.Instruction.{slots};
 ghost use Rattle.bpf_insn.specs.Limits.{max_context};
-ghost use Rattle.bpf_infer_error.specs.RefusalNumbers.{infer_slot};
+ghost use Rattle.bpf_infer_base.specs.RefusalNumbers.{infer_slot};
 ghost use Rattle.bpf_cert.specs.Limits.{IsCertificate};
 
 use crate::deep::deep_proposal;
+use crate::plain::plain_proposal;
 use bpf_cert::Certificate;
-use bpf_infer_base::{Proposal, Quest, Stop, Unwatched, Watch};
-use bpf_infer_error::InferError;
-use bpf_infer_plain::plain_proposal;
+use bpf_infer_base::{InferError, Proposal, Quest, Stop, Unwatched, Watch};
 use bpf_insn::{Code, Program};
 use std::alloc::Global;
 

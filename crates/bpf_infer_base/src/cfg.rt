@@ -1,10 +1,10 @@
 //! The functions of a program with the depths of their calls, and its basic blocks.
 
 use crate::blocks::Blocks;
+use crate::error::InferError;
 use crate::functions::{callees_first, callers_first, calls_of, check_bounds, depths_of};
 use crate::lists::get_or;
 use bpf_cert::MAX_FUNCTIONS;
-use bpf_infer_error::InferError;
 use bpf_insn::Program;
 use std::alloc::Global;
 

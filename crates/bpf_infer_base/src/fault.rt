@@ -1,6 +1,7 @@
 //! Instructions that the checker would refuse.
 
-use bpf_infer_error::{Condition, InferError};
+use crate::condition::Condition;
+use crate::error::InferError;
 
 /// An instruction that fails a condition of the checker, by its slot.
 #[derive(Clone, Copy)]

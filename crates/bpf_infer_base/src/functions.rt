@@ -1,12 +1,13 @@
 //! The calls of a program: how deep they go, and whether one leads back.
 
 use crate::blocks::Blocks;
+use crate::condition::Condition;
+use crate::error::InferError;
 use crate::fault::Fault;
 use crate::flow::Flow;
 use crate::graph::{Arc, Components, Graph};
 use crate::lists::{get_or, put};
 use bpf_cert::MAX_DEPTH;
-use bpf_infer_error::{Condition, InferError};
 use bpf_insn::{Insn, Program};
 use std::alloc::{AllocError, Global};
 

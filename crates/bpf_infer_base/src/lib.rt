@@ -1,12 +1,14 @@
-//! What both searches for certificates, the plain and the deep one, go by: where instructions lead, the labels, blocks,
-//! functions and graphs of a program, the places that count, and what states have in common. It makes no claim but to be
-//! safe and to end.
+//! What both searches for certificates, the plain and the deep one, go by: where instructions lead, the labels,
+//! blocks, functions and graphs of a program, the places that count, and what states have in common; and what is
+//! answered where none is proposed. It makes no claim but to be safe and to end, and what the numbers of refusals are.
 #![tactic(auto)]
 
 mod blocks;
 mod cfg;
 mod component_search;
+mod condition;
 mod counter;
+mod error;
 mod fault;
 mod flow;
 mod functions;
@@ -31,7 +33,9 @@ mod widen;
 pub use blocks::{Blocks, graph_of};
 pub use cfg::Cfg;
 pub use component_search::ComponentSearch;
+pub use condition::Condition;
 pub use counter::{Counter, Shift};
+pub use error::InferError;
 pub use fault::Fault;
 pub use flow::Flow;
 pub use functions::{Call, calls_of};
@@ -43,9 +47,7 @@ pub use lines::{Line, Span};
 pub use lists::{get_or, held, put, vacant};
 pub use losses::losses_in;
 pub use meter::{DEEP_WORK, LABEL_WORK, Meter, PLAIN_WORK};
-pub use places::{
-    PLACES, PlaceSet, WRITABLE, number_at, place, said, slots_touched, tag_own, tight_number,
-};
+pub use places::{PLACES, PlaceSet, WRITABLE, number_at, place, said, slots_touched, tag_own, tight_number};
 pub use proposal::Proposal;
 pub use quest::Quest;
 pub use sketch::{Limit, Loss, Move, Obstacle, Sketch, Stop, Tangle, Trial};

@@ -1,8 +1,8 @@
 //! What a search has when it stops, for who explains it.
 
 use crate::counter::Shift;
+use crate::error::InferError;
 use bpf_cert::{Certificate, Function};
-use bpf_infer_error::InferError;
 use bpf_insn::Reg;
 use bpf_state::{Place, RegState};
 use std::alloc::AllocError;

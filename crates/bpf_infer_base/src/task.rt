@@ -5,13 +5,13 @@ ghost use Rattle.std.specs.Prelude.{◌≡◌, ◌≤◌};
 
 use crate::blocks::Blocks;
 use crate::cfg::Cfg;
+use crate::condition::Condition;
 use crate::fault::Fault;
 use crate::flow::Flow;
 use crate::labels::{LabelState, load_at};
 use crate::lists::get_or;
 use crate::quest::Quest;
 use crate::tolerant::go_on;
-use bpf_infer_error::Condition;
 use bpf_insn::{Insn, Operand, Program, Reg};
 use bpf_num::Num;
 use bpf_state::{State, branch, leave, transfer};

@@ -5,8 +5,7 @@ use crate::groups::Groups;
 use crate::paths::paths_of;
 use crate::plan::Plan;
 use bpf_cert::Function;
-use bpf_infer_base::{Meter, Task, Watch};
-use bpf_infer_error::InferError;
+use bpf_infer_base::{InferError, Meter, Task, Watch};
 
 /// Adds the first slots of a function's loops that nothing counts.
 fn add_uncounted<W: Watch>(

@@ -2,11 +2,7 @@
 
 use crate::draft::{Draft, Price};
 use bpf_cert::{Function, Label};
-use bpf_infer_base::{
-    Arc, Blocks, Callee, Edge, Fault, Graph, PLACES, Span, Task, Visitor, get_or, load, number_at,
-    number_in, place, said, tag_own,
-};
-use bpf_infer_error::InferError;
+use bpf_infer_base::{Arc, Blocks, Callee, Edge, Fault, Graph, InferError, PLACES, Span, Task, Visitor, get_or, load, number_at, number_in, place, said, tag_own};
 use bpf_insn::{Insn, Reg};
 use bpf_state::{RegState, State, Tag, enter};
 use std::alloc::AllocError;

@@ -5,8 +5,7 @@
 
 use crate::judge::Report;
 use crate::repair::{change_kinds, fill};
-use bpf_infer_base::{Fault, Flow, JoinedStates, LabelState, Task, Visitor, get_or, graph_of, put};
-use bpf_infer_error::Condition;
+use bpf_infer_base::{Condition, Fault, Flow, JoinedStates, LabelState, Task, Visitor, get_or, graph_of, put};
 use bpf_insn::Insn;
 use bpf_state::{Entries, State, StateFault};
 use std::alloc::{AllocError, Global};

@@ -9,8 +9,8 @@ use Rattle.bpf_insn.specs.Instruction.{Instructions, slot_count, insn_at}
 use Rattle.bpf_insn.specs.declared.instruction.Insn.{Insn}
 use Rattle.bpf_insn.specs.declared.instruction.Insn.TheVariants.{LoadImm64}
 use Rattle.bpf_insn.specs.declared.instruction.Reg.{Reg}
-use Rattle.bpf_kept_law.specs.declared.notes.Need.{Need}
-use Rattle.bpf_kept_law.specs.Guards.{accesses_by, is_passed, is_met, accesses_ahead}
+use Rattle.bpf_kept.specs.declared.notes.Need.{Need}
+use Rattle.bpf_kept.specs.Guards.{accesses_by, is_passed, is_met, accesses_ahead}
 
 module _ (old : Instructions) (r : Reg) (need : Need) where
   -- such an access follows among the next n instructions

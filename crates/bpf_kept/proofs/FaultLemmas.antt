@@ -3,9 +3,9 @@ use Rattle.std.proofs.Common.{◌≡◌, ℕ, ◌≤◌, Bool, None, ap, ◌∙�
 use Rattle.std.specs.Prelude.{Result, Ok, Err, IfErr}
 use Rattle.bpf_insn.specs.Instruction.{Instructions, slots}
 use Rattle.bpf_cert.specs.View.{CertificateView}
-use Rattle.bpf_kept_law.specs.Meaning.{Bounds}
-use Rattle.bpf_kept_law.specs.declared.notes.Change.TheVariants.{Kept}
-use Rattle.bpf_kept_law.specs.Matching.{Notes, most_at_start, left_alone, known_at_start, arrives}
+use Rattle.bpf_kept.specs.Meaning.{Bounds}
+use Rattle.bpf_kept.specs.declared.notes.Change.TheVariants.{Kept}
+use Rattle.bpf_kept.specs.Matching.{Notes, most_at_start, left_alone, known_at_start, arrives}
 use Rattle.bpf_kept.specs.Knowns.{start_for}
 use Rattle.bpf_kept.specs.NoteFaults.{IsAt, IsLowest, Starts, IsNoteFault, IsFor, IsFaultBeside}
 use Rattle.bpf_kept.specs.declared.note_fault.NoteFault.{NoteFault}

@@ -2,9 +2,9 @@
 use Rattle.std.proofs.Common.{◌<◌, ◌^◌, arith}
 use Rattle.bpf_insn.specs.Image.{IsProgram}
 use Rattle.bpf_insn.specs.Instruction.{Instructions}
-use Rattle.bpf_kept_law.specs.Matching.{Notes, StandsForExit}
-use Rattle.bpf_kept_law.specs.Meaning.{Bounds, KeepsFlatMeaning}
-use Rattle.bpf_kept_law.specs.Laws.{FlatMeaningIsFar, FlatMeaningIsExact}
+use Rattle.bpf_kept.specs.Matching.{Notes, StandsForExit}
+use Rattle.bpf_kept.specs.Meaning.{Bounds, KeepsFlatMeaning}
+use Rattle.bpf_kept.specs.Laws.{FlatMeaningIsFar, FlatMeaningIsExact}
 use Rattle.bpf_kept.specs.Shown.{Keeps}
 
 pub kept : FlatMeaningIsFar → FlatMeaningIsExact → (old new : Instructions) (notes : Notes) (bounds : Bounds) → IsProgram old.list → bounds.length < 2 ^ 32 → KeepsFlatMeaning old new bounds (StandsForExit old notes) → Keeps old new notes bounds

@@ -3,8 +3,8 @@ use Rattle.std.proofs.Common.{◌≡◌, ℕ, zero, suc, ◌+◌, ◌-◌, ◌<�
 use Rattle.std.specs.Prelude.{◌&&◌, if◌then◌else◌}
 use Rattle.std.proofs.lemmas.Bool.{cases_lt}
 use Rattle.std.proofs.lemmas.List.{append_assoc}
-use Rattle.bpf_kept_law.specs.declared.notes.Fact.{Fact}
-use Rattle.bpf_kept_law.specs.Slots.{each_slot, slot_facts}
+use Rattle.bpf_kept.specs.declared.notes.Fact.{Fact}
+use Rattle.bpf_kept.specs.Slots.{each_slot, slot_facts}
 
 both_true : (b c : Bool) → b ≡ true → c ≡ true → (b && c) ≡ true
 both_true b c e f = ap (λ b. b && c) e ∙ f

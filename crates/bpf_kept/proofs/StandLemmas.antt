@@ -5,10 +5,10 @@ use Rattle.std.proofs.lemmas.Bool.{false≢true}
 use Rattle.std.proofs.lemmas.Option.{none-some, same_Some}
 use Rattle.bpf_insn.specs.Instruction.{Instructions, insn_at}
 use Rattle.bpf_insn.specs.declared.instruction.Insn.{Insn}
-use Rattle.bpf_kept_law.specs.declared.notes.Note.{Note}
-use Rattle.bpf_kept_law.specs.Meaning.{Bounds}
-use Rattle.bpf_kept_law.specs.Rules.{undirected}
-use Rattle.bpf_kept_law.specs.Matching.{Notes, note_at, left_alone, known_at, stands, adds, IsBody, IsExtra, IsEither, HoldsAt}
+use Rattle.bpf_kept.specs.declared.notes.Note.{Note}
+use Rattle.bpf_kept.specs.Meaning.{Bounds}
+use Rattle.bpf_kept.specs.Rules.{undirected}
+use Rattle.bpf_kept.specs.Matching.{Notes, note_at, left_alone, known_at, stands, adds, IsBody, IsExtra, IsEither, HoldsAt}
 use Rattle.bpf_kept.specs.Knowns.{known_for}
 
 -- what two tests decide alike they answer alike

@@ -1,11 +1,11 @@
 -- What is known in front of an instruction, as the code hands it on.
 use Rattle.std.specs.Prelude.{ℕ, [], ◌∷◌, take, Some, None}
 use Rattle.bpf_insn.specs.declared.instruction.Reg.TheVariants.{R0, R1, R2, R3, R4, R5, R6, R7, R8, R9, R10}
-use Rattle.bpf_kept_law.specs.declared.notes.Holder.TheVariants.{Register}
-use Rattle.bpf_kept_law.specs.declared.notes.Note.{Note}
-use Rattle.bpf_kept_law.specs.Terms.{Facts, context_offset}
-use Rattle.bpf_kept_law.specs.Rules.{Known, by_itself}
-use Rattle.bpf_kept_law.specs.Matching.{facts_at, start_facts}
+use Rattle.bpf_kept.specs.declared.notes.Holder.TheVariants.{Register}
+use Rattle.bpf_kept.specs.declared.notes.Note.{Note}
+use Rattle.bpf_kept.specs.Terms.{Facts, context_offset}
+use Rattle.bpf_kept.specs.Rules.{Known, by_itself}
+use Rattle.bpf_kept.specs.Matching.{facts_at, start_facts}
 use Rattle.bpf_kept.specs.declared.known.FactList.{FactList}
 use Rattle.bpf_kept.specs.declared.known.KnownHere.{KnownHere}
 

@@ -1,3 +1,28 @@
+-- Definitions, in the order in which they read best.
+-- where context and frames lie far apart
+pub mod Far
+-- the flat run that takes 0 for all that is left open
+pub mod Zero
+-- what is promised: the new program ends with the old one's number
+pub mod Meaning
+-- the same of all far placements and all that is left open
+pub mod Anywhere
+-- the same of the exact machine
+pub mod Exact
+-- what the new program has in a place, by what the old one has
+pub mod Terms
+-- the slots of the frame
+pub mod Slots
+-- what instructions make of that
+pub mod Rules
+-- counters of turns
+pub mod Counters
+-- guards
+pub mod Guards
+-- what the notes have to say at each slot
+pub mod Matching
+-- the laws
+pub mod Laws
 -- what notes that match show
 pub mod Shown
 -- why notes don't match

@@ -2,9 +2,9 @@
 use Rattle.std.specs.Prelude.{◌≡◌, ◌≢◌, ℕ, ◌<◌, ◌≤◌, true, None, length as count}
 use Rattle.bpf_insn.specs.Instruction.{Instructions, slots}
 use Rattle.bpf_cert.specs.View.{CertificateView}
-use Rattle.bpf_kept_law.specs.Meaning.{Bounds}
-use Rattle.bpf_kept_law.specs.Matching.{Notes, most_at_start, arrives, known_at_start, HoldsAt}
-use Rattle.bpf_kept_law.specs.declared.notes.Change.TheVariants.{Kept}
+use Rattle.bpf_kept.specs.Meaning.{Bounds}
+use Rattle.bpf_kept.specs.Matching.{Notes, most_at_start, arrives, known_at_start, HoldsAt}
+use Rattle.bpf_kept.specs.declared.notes.Change.TheVariants.{Kept}
 use Rattle.bpf_kept.specs.declared.note_fault.NoteFault.{NoteFault}
 use Rattle.bpf_kept.specs.declared.note_fault.NoteFault.TheVariants.{Order, TooMany, Start, At, Length}
 

@@ -2,10 +2,10 @@
 use Rattle.std.specs.Prelude.{◌≤◌, false}
 use Rattle.bpf_insn.specs.Instruction.{Instructions}
 use Rattle.bpf_semantics.specs.State.{frame_bytes}
-use Rattle.bpf_kept_law.specs.Meaning.{Bounds, KeepsFlatMeaning}
-use Rattle.bpf_kept_law.specs.Anywhere.{KeepsFarMeaning}
-use Rattle.bpf_kept_law.specs.Exact.{KeepsExactMeaning}
-use Rattle.bpf_kept_law.specs.Matching.{Notes, StandsForExit}
+use Rattle.bpf_kept.specs.Meaning.{Bounds, KeepsFlatMeaning}
+use Rattle.bpf_kept.specs.Anywhere.{KeepsFarMeaning}
+use Rattle.bpf_kept.specs.Exact.{KeepsExactMeaning}
+use Rattle.bpf_kept.specs.Matching.{Notes, StandsForExit}
 use Rattle.bpf_kept.specs.declared.bounds.RunBounds.{RunBounds}
 
 -- contexts are given as they are

@@ -9,16 +9,16 @@ ghost use Rattle.bpf_insn.specs.declared.instruction.Width.TheVariants.{W64};
 ghost use Rattle.bpf_insn.specs.declared.instruction.Operand.TheVariants.{Imm};
 ghost use Rattle.bpf_insn.specs.declared.instruction.Reg.{Reg};
 ghost use Rattle.bpf_semantics.specs.Flat.{addresses};
-ghost use Rattle.bpf_kept_law.specs.Rules.{is_address, same_size, is_folded, same_address, goes_alike, loads_alike, stores_alike, reached, pin_of, put, stored_by, puts_slot, stores};
+ghost use Rattle.bpf_kept.specs.Rules.{is_address, same_size, is_folded, same_address, goes_alike, loads_alike, stores_alike, reached, pin_of, put, stored_by, puts_slot, stores};
 ghost use Rattle.bpf_kept.specs.Knowns.{known_of};
 
 use crate::commons::is_common;
 use crate::facts::{is_low, is_register, is_same, numbered, own, pinned, same_register};
 use crate::known::KnownHere;
+use crate::notes::{Change, Fact, Holder, Term};
 use crate::slots::{Displaced, reaches, slot_at};
 use crate::terms::{constant, minus, negated, zero};
 use bpf_insn::{AluOp, Insn, Operand, Reg, Size, Width, extended};
-use bpf_kept_law::{Change, Fact, Holder, Term};
 
 // ---- one address
 
@@ -70,7 +70,7 @@ fn is_address_by(facts: &[Fact], new: Displaced, old: Displaced) -> bool
 }
 
 /// Whether the addresses are the same.
-#[tactic(auto, unfolding(bpf_kept_law::specs::Rules::same_address))]
+#[tactic(auto, unfolding(crate::specs::Rules::same_address))]
 fn same_address(facts: &[Fact], new: Displaced, old: Displaced) -> bool
     ensures { result ≡ same_address facts.now new.base new.off old.base old.off }
 {

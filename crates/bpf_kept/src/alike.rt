@@ -1,16 +1,16 @@
 //! An instruction of the old program, and one that stands for it in the new one.
 
 ghost use Rattle.std.specs.Prelude.{◌≡◌, ◌↔◌, IsTrue};
-ghost use Rattle.bpf_kept_law.specs.Rules.{is_framed, turned_test, same_term, are_offsets, are, by_equality, by_order, undirected, is_jump, is_kept, keeps, put_by, puts, paired};
+ghost use Rattle.bpf_kept.specs.Rules.{is_framed, turned_test, same_term, are_offsets, are, by_equality, by_order, undirected, is_jump, is_kept, keeps, put_by, puts, paired};
 ghost use Rattle.bpf_kept.specs.Knowns.{known_of};
 
 use crate::accesses::{loads_alike, pin_of, put, stores};
 use crate::facts::{is_same, own, same_register};
 use crate::known::KnownHere;
+use crate::notes::{Change, Fact, Holder, Term};
 use crate::results::{low_result, put_into, reads_same, result_term};
 use crate::terms::{are_offsets, frame_offset, same_term, zero};
 use bpf_insn::{AluOp, Cond, FRAME_BYTES, Insn, Operand, Reg, Width};
-use bpf_kept_law::{Change, Fact, Holder, Term};
 
 /// Whether one moves the end of the own frame to a register, and the other puts its offset there.
 fn is_framed(insn: &Insn, moved: &Insn) -> bool
@@ -177,7 +177,7 @@ fn is_kept(facts: &[Fact], insn: &Insn) -> bool
 }
 
 /// Whether neither changes a register or the memory, and both do the same.
-#[tactic(auto, unfolding(bpf_kept_law::specs::Rules::keeps))]
+#[tactic(auto, unfolding(crate::specs::Rules::keeps))]
 fn keeps(facts: &[Fact], same: bool, insn: &Insn, moved: &Insn) -> bool
     ensures { result ≡ keeps facts.now same insn.now moved.now }
 {
@@ -217,7 +217,7 @@ fn puts(known: &KnownHere<'_>, same: bool, insn: &Insn, moved: &Insn) -> Option<
 }
 
 /// What both change, where the one stands for the other.
-#[tactic(auto, unfolding(bpf_kept_law::specs::Rules::paired))]
+#[tactic(auto, unfolding(crate::specs::Rules::paired))]
 pub fn paired(known: &KnownHere<'_>, same: bool, insn: &Insn, moved: &Insn) -> Option<Change>
     ensures { result ≡ paired (known_of known.now) same insn.now moved.now }
 {

@@ -1,14 +1,14 @@
 //! Accesses to bytes that are the same in both programs.
 
 ghost use Rattle.std.specs.Prelude.{◌≡◌, ◌||◌, not};
-ghost use Rattle.bpf_kept_law.specs.Terms.{is_noted};
-ghost use Rattle.bpf_kept_law.specs.Slots.{misses};
-ghost use Rattle.bpf_kept_law.specs.Rules.{is_common};
+ghost use Rattle.bpf_kept.specs.Terms.{is_noted};
+ghost use Rattle.bpf_kept.specs.Slots.{misses};
+ghost use Rattle.bpf_kept.specs.Rules.{is_common};
 ghost use Rattle.bpf_kept.specs.Knowns.{known_of};
 
 use crate::known::KnownHere;
+use crate::notes::SLOTS;
 use crate::slots::{Displaced, is_noted, misses};
-use bpf_kept_law::SLOTS;
 
 /// Whether an access doesn't go to a slot in which the programs may have something else.
 fn spares(known: &KnownHere<'_>, count: u8, old: Displaced, new: Displaced, n: u8) -> bool

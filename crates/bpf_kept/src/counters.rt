@@ -9,15 +9,15 @@ ghost use Rattle.bpf_insn.specs.declared.instruction.Insn.TheVariants.{Alu, Load
 ghost use Rattle.bpf_insn.specs.declared.instruction.Operand.TheVariants.{Imm};
 ghost use Rattle.bpf_insn.specs.declared.instruction.Reg.{Reg};
 ghost use Rattle.bpf_insn.specs.declared.instruction.Width.TheVariants.{W64};
-ghost use Rattle.bpf_kept_law.specs.Rules.{same_holder};
-ghost use Rattle.bpf_kept_law.specs.Counters.{any_counter, is_turn_of, tells, makes_counter, is_spared, is_made, is_left, counts_behind, all_count_behind, is_tested_turn, has_turn};
+ghost use Rattle.bpf_kept.specs.Rules.{same_holder};
+ghost use Rattle.bpf_kept.specs.Counters.{any_counter, is_turn_of, tells, makes_counter, is_spared, is_made, is_left, counts_behind, all_count_behind, is_tested_turn, has_turn};
 ghost use Rattle.bpf_kept.specs.Knowns.{known_of};
 
 use crate::facts::same_holder;
 use crate::known::KnownHere;
+use crate::notes::{Change, Holder, TurnsLeft};
 use crate::slots::{Displaced, is_clear, slot_at};
 use bpf_insn::{AluOp, Cond, Insn, Operand, Reg, Size, Width, extended};
-use bpf_kept_law::{Change, Holder, TurnsLeft};
 
 // ---- which counters give which
 
@@ -200,7 +200,7 @@ fn counts_behind(
 }
 
 /// Whether all that is wanted does.
-#[tactic(auto, unfolding(bpf_kept_law::specs::Counters::all_count_behind))]
+#[tactic(auto, unfolding(crate::specs::Counters::all_count_behind))]
 pub fn all_count_behind(
     known: &KnownHere<'_>,
     change: Change,
@@ -241,7 +241,7 @@ fn counts_turns(counters: &[Option<TurnsLeft>], slot: u32, dst: Reg) -> bool
 }
 
 /// Whether an instruction tests a counter in front of the one whose turns it counts: it never leads to its trap.
-#[tactic(auto, unfolding(bpf_kept_law::specs::Counters::has_turn))]
+#[tactic(auto, unfolding(crate::specs::Counters::has_turn))]
 pub fn has_turn(counters: &[Option<TurnsLeft>], slot: u32, insn: &Insn) -> bool
     ensures { result ≡ has_turn counters.now slot insn.now }
 {

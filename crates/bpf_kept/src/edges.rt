@@ -2,14 +2,14 @@
 
 ghost use Rattle.std.specs.Prelude.{◌≡◌, option_copied};
 ghost use Rattle.std.specs.List.{list_all};
-ghost use Rattle.bpf_kept_law.specs.Rules.{holds_behind};
-ghost use Rattle.bpf_kept_law.specs.Matching.{note_at, said, is_given, suits, arrives};
+ghost use Rattle.bpf_kept.specs.Rules.{holds_behind};
+ghost use Rattle.bpf_kept.specs.Matching.{note_at, said, is_given, suits, arrives};
 ghost use Rattle.bpf_kept.specs.Knowns.{known_of};
 
 use crate::behind::{are_told, holds_behind};
 use crate::counters::all_count_behind;
 use crate::known::{KnownHere, said};
-use bpf_kept_law::{Change, Fact, Note};
+use crate::notes::{Change, Fact, Note};
 
 /// What is noted of a new slot.
 pub fn note_at(notes: &[Option<Note>], slot: u32) -> Option<&Note>
@@ -63,7 +63,7 @@ fn suits(known: &KnownHere<'_>, change: Change, edge: Arrival, note: &Note) -> b
 }
 
 /// Whether an edge leads where that is so.
-#[tactic(auto, unfolding(bpf_kept_law::specs::Matching::arrives))]
+#[tactic(auto, unfolding(crate::specs::Matching::arrives))]
 pub fn arrives(notes: &[Option<Note>], known: &KnownHere<'_>, change: Change, edge: Arrival) -> bool
     ensures { result ≡ arrives notes.now (known_of known.now) change edge.step edge.slot edge.most edge.new_slot }
 {

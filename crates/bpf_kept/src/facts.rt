@@ -1,11 +1,11 @@
 //! Facts: which give which, and what they say of a register or of a slot of the frame.
 
 ghost use Rattle.std.specs.Prelude.{◌≡◌};
-ghost use Rattle.bpf_kept_law.specs.Rules.{same_register, same_holder, is_holder, is_register, is_base, gives, is_own, own_in, own, is_same, is_low_fact, is_low, is_pin, pinned, is_number, numbered, stays, by_itself, known_number};
+ghost use Rattle.bpf_kept.specs.Rules.{same_register, same_holder, is_holder, is_register, is_base, gives, is_own, own_in, own, is_same, is_low_fact, is_low, is_pin, pinned, is_number, numbered, stays, by_itself, known_number};
 
+use crate::notes::{Fact, Holder, Term};
 use crate::terms::{is_enough, is_zero, zero};
 use bpf_insn::Reg;
-use bpf_kept_law::{Fact, Holder, Term};
 
 /// Whether two registers are the same.
 pub fn same_register(a: Reg, b: Reg) -> bool
@@ -98,7 +98,7 @@ fn is_own(h: Holder, fact: Fact) -> bool
 }
 
 /// How far a register or slot is from the old program's.
-#[tactic(auto, unfolding(bpf_kept_law::specs::Rules::own_in))]
+#[tactic(auto, unfolding(crate::specs::Rules::own_in))]
 pub fn own_in(facts: &[Fact], h: Holder) -> Option<Term>
     ensures { result ≡ own_in facts.now h }
 {
@@ -149,7 +149,7 @@ fn is_pin(h: Holder, fact: Fact) -> bool
 }
 
 /// What makes 0 with the number that the old program has in a register or slot.
-#[tactic(auto, unfolding(bpf_kept_law::specs::Rules::pinned))]
+#[tactic(auto, unfolding(crate::specs::Rules::pinned))]
 pub fn pinned(facts: &[Fact], h: Holder) -> Option<Term>
     ensures { result ≡ pinned facts.now h }
 {
@@ -167,7 +167,7 @@ fn is_number(h: Holder, fact: Fact) -> bool
 }
 
 /// The number that the new program has in a register or slot.
-#[tactic(auto, unfolding(bpf_kept_law::specs::Rules::numbered))]
+#[tactic(auto, unfolding(crate::specs::Rules::numbered))]
 pub fn numbered(facts: &[Fact], h: Holder) -> Option<Term>
     ensures { result ≡ numbered facts.now h }
 {

@@ -8,18 +8,18 @@ ghost use Rattle.bpf_insn.specs.Instruction.{byte_count, register_number};
 ghost use Rattle.std.specs.Int.{cast_signed, w64};
 ghost use Rattle.std.specs.List.{list_any};
 ghost use Rattle.bpf_semantics.specs.Flat.{addresses};
-ghost use Rattle.bpf_kept_law.specs.Far.{middle};
+ghost use Rattle.bpf_kept.specs.Far.{middle};
 ghost use Rattle.bpf_kept.specs.Fronts.{front};
-ghost use Rattle.bpf_kept_law.specs.Guards.{if_by, accesses_by, is_passed, is_met, is_ahead, are_accessed, is_tested_by, is_tested, guarded, is_added, guards_sum, passes};
-ghost use Rattle.bpf_kept_law.specs.Rules.{pinned};
-ghost use Rattle.bpf_kept_law.specs.declared.notes.Holder.TheVariants.{Register};
+ghost use Rattle.bpf_kept.specs.Guards.{if_by, accesses_by, is_passed, is_met, is_ahead, are_accessed, is_tested_by, is_tested, guarded, is_added, guards_sum, passes};
+ghost use Rattle.bpf_kept.specs.Rules.{pinned};
+ghost use Rattle.bpf_kept.specs.declared.notes.Holder.TheVariants.{Register};
 ghost use Rattle.bpf_insn.specs.Limits.{max_slots};
 
 use crate::code::insn_at;
 use crate::facts::{is_register, is_same, pinned, same_register};
+use crate::notes::{Fact, Holder, Need, Term};
 use crate::terms::MIDDLE;
 use bpf_insn::{Access, AluOp, Code, Cond, FRAME_BYTES, Insn, Operand, Reg, Size, Width, extended};
-use bpf_kept_law::{Fact, Holder, Need, Term};
 
 /// How many instructions are looked at.
 const FARTHEST_AHEAD: u32 = 33;
@@ -243,7 +243,7 @@ fn is_added<C: Code>(
 }
 
 /// Whether the old instruction that the guard stands in front of does.
-#[tactic(auto, unfolding(bpf_kept_law::specs::Guards::guards_sum))]
+#[tactic(auto, unfolding(crate::specs::Guards::guards_sum))]
 fn guards_sum<C: Code>(old: &C, site: GuardSite, facts: &[Fact], tested: TestedRegister) -> bool
     ensures { result ≡ guards_sum (front (C.program old.now) site.slot site.length) facts.now tested.dst tested.limit }
 {
@@ -254,7 +254,7 @@ fn guards_sum<C: Code>(old: &C, site: GuardSite, facts: &[Fact], tested: TestedR
 }
 
 /// Whether an instruction is a guard that passes.
-#[tactic(auto, unfolding(bpf_kept_law::specs::Guards::passes))]
+#[tactic(auto, unfolding(crate::specs::Guards::passes))]
 pub fn passes<C: Code>(old: &C, site: GuardSite, facts: &[Fact], insn: &Insn) -> bool
     ensures { result ≡ passes (front (C.program old.now) site.slot site.length) facts.now insn.now }
 {

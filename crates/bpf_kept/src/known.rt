@@ -4,16 +4,16 @@ ghost use Rattle.std.specs.Prelude.{◌≡◌, ◌+◌, ◌++◌, ◌<◌, ◌�
 ghost use Rattle.std.specs.List.{list_all};
 ghost use Rattle.std.specs.Option.{option_map_or};
 ghost use Rattle.bpf_insn.specs.Instruction.{insn_at};
-ghost use Rattle.bpf_kept_law.specs.Terms.{is_noted, frame_slots};
-ghost use Rattle.bpf_kept_law.specs.Slots.{slot_facts};
-ghost use Rattle.bpf_kept_law.specs.Matching.{is_zero_slot, same_slot, said, facts_at, hands_frame, left_alone, start_facts};
+ghost use Rattle.bpf_kept.specs.Terms.{is_noted, frame_slots};
+ghost use Rattle.bpf_kept.specs.Slots.{slot_facts};
+ghost use Rattle.bpf_kept.specs.Matching.{is_zero_slot, same_slot, said, facts_at, hands_frame, left_alone, start_facts};
 ghost use Rattle.bpf_kept.specs.Knowns.{facts_in, first_facts};
 
 use crate::facts::by_itself;
+use crate::notes::{Fact, Holder, Note, SLOTS, TurnsLeft};
 use crate::slots::is_noted;
 use crate::terms::{context_offset, zero};
 use bpf_insn::{Code, FRAME_BYTES, Insn, Operand, Reg};
-use bpf_kept_law::{Fact, Holder, Note, SLOTS, TurnsLeft};
 
 /// How many facts hold at most in front of an instruction: those of the note, one for each slot of the frame that the old program has 0 in, one for
 /// each that is the same in both, and those of the start.
@@ -259,7 +259,7 @@ fn hands_none<N: Code>(new: &N) -> bool
 }
 
 /// How many of the lowest bytes of the frame no access by another register than r10 goes to.
-#[tactic(auto, unfolding(bpf_kept_law::specs::Matching::left_alone))]
+#[tactic(auto, unfolding(crate::specs::Matching::left_alone))]
 pub fn left_alone<N: Code>(new: &N, untouched: u32) -> u32
     ensures { result ≡ left_alone (N.program new.now) untouched }
 {

@@ -3,10 +3,10 @@
 
 ghost use Rattle.std.specs.Prelude.{◌≡◌, ◌↔◌, ◌≤◌, ℕ, IsOk, IfErr, IsTrue, None, length as list_length};
 ghost use Rattle.bpf_insn.specs.Limits.{max_slots};
-ghost use Rattle.bpf_kept_law.specs.declared.notes.Change.TheVariants.{Kept};
+ghost use Rattle.bpf_kept.specs.declared.notes.Change.TheVariants.{Kept};
 ghost use Rattle.bpf_safety.specs.Certified.{Certified};
-ghost use Rattle.bpf_kept_law.specs.Meaning.{NeverStuck};
-ghost use Rattle.bpf_kept_law.specs.Matching.{most_at_start, left_alone, arrives, HoldsAt, Matches};
+ghost use Rattle.bpf_kept.specs.Meaning.{NeverStuck};
+ghost use Rattle.bpf_kept.specs.Matching.{most_at_start, left_alone, arrives, HoldsAt, Matches};
 ghost use Rattle.bpf_kept.specs.Knowns.{start_for};
 ghost use Rattle.bpf_kept.specs.Shown.{bounds_of, Keeps};
 ghost use Rattle.bpf_kept.specs.NoteFaults.{IsFor, IsNoteFault, IsFaultBeside, IsLowest, IsAt};
@@ -14,14 +14,12 @@ ghost use Rattle.bpf_kept.specs.NoteFaults.{IsFor, IsNoteFault, IsFaultBeside, I
 use crate::bounds::RunBounds;
 use crate::edges::{Arrival, arrives};
 use crate::known::{KnownHere, left_alone, start_facts};
+use crate::laws::{certified_keeps_flat_meaning, flat_meaning_is_exact, flat_meaning_is_far, matching_keeps_flat_meaning};
 use crate::note_fault::NoteFault;
+use crate::notes::{Change, Note};
 use crate::stands::{NewSlot, holds_at};
 use bpf_cert::Certificate;
 use bpf_insn::{Code, Order};
-use bpf_kept_law::{
-    Change, Note, certified_keeps_flat_meaning, flat_meaning_is_exact, flat_meaning_is_far,
-    matching_keeps_flat_meaning,
-};
 
 /// The greatest number of extra instructions at the start.
 const MOST_AT_START: u32 = 256;

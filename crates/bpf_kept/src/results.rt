@@ -7,16 +7,16 @@ ghost use Rattle.bpf_insn.specs.Effects.{registers_read};
 ghost use Rattle.bpf_insn.specs.declared.instruction.AluOp.TheVariants.{Xor};
 ghost use Rattle.bpf_insn.specs.declared.instruction.Insn.TheVariants.{Alu, Load};
 ghost use Rattle.bpf_insn.specs.declared.instruction.Reg.{Reg};
-ghost use Rattle.bpf_kept_law.specs.Rules.{put_into, operand_term, linear, computed, by_constant, by_terms, own, own_in, is_mask, reads_low, reads_same, loads_common, result_term, keeps_low, is_same, is_low, has_low_result, low_result};
+ghost use Rattle.bpf_kept.specs.Rules.{put_into, operand_term, linear, computed, by_constant, by_terms, own, own_in, is_mask, reads_low, reads_same, loads_common, result_term, keeps_low, is_same, is_low, has_low_result, low_result};
 ghost use Rattle.bpf_kept.specs.Knowns.{known_of};
 
 use crate::commons::is_common;
 use crate::facts::{is_low, is_same, own, own_in};
 use crate::known::KnownHere;
+use crate::notes::{Fact, Holder, Term};
 use crate::slots::{Displaced, slot_at};
 use crate::terms::{minus, negated, plus, times, zero};
 use bpf_insn::{AluOp, EndBits, Insn, Operand, Reg, Size, Width, extended};
-use bpf_kept_law::{Fact, Holder, Term};
 
 /// The register into which it puts a number, if it does nothing else.
 pub fn put_into(insn: &Insn) -> Option<Reg>
@@ -237,7 +237,7 @@ fn all_low(facts: &[Fact], insn: &Insn) -> bool
 }
 
 /// Whether all that it reads is the same.
-#[tactic(auto, unfolding(bpf_kept_law::specs::Rules::reads_same))]
+#[tactic(auto, unfolding(crate::specs::Rules::reads_same))]
 pub fn reads_same(facts: &[Fact], insn: &Insn) -> bool
     ensures { result ≡ reads_same facts.now insn.now }
 {
@@ -258,7 +258,7 @@ fn loads_common(known: &KnownHere<'_>, insn: &Insn) -> bool
 }
 
 /// How far the result is from the old program's.
-#[tactic(auto, unfolding(bpf_kept_law::specs::Rules::result_term))]
+#[tactic(auto, unfolding(crate::specs::Rules::result_term))]
 pub fn result_term(known: &KnownHere<'_>, insn: &Insn) -> Option<Term>
     ensures { result ≡ result_term (known_of known.now) insn.now }
 {

@@ -2,11 +2,11 @@
 
 ghost use Rattle.std.specs.Prelude.{◌≡◌, ◌<◌, ◌^◌, pos, IfSome};
 ghost use Rattle.bpf_insn.specs.Instruction.{not_negative};
-ghost use Rattle.bpf_kept_law.specs.Terms.{is_noted, frame_slots};
-ghost use Rattle.bpf_kept_law.specs.Slots.{frame_byte, slot_of, slot_at, is_beside, misses, from_byte, reaches, is_clear};
+ghost use Rattle.bpf_kept.specs.Terms.{is_noted, frame_slots};
+ghost use Rattle.bpf_kept.specs.Slots.{frame_byte, slot_of, slot_at, is_beside, misses, from_byte, reaches, is_clear};
 
+use crate::notes::{Change, Holder};
 use bpf_insn::{FRAME_BYTES, Reg, Size};
-use bpf_kept_law::{Change, Holder};
 
 /// By which register an access goes, and how far away.
 #[derive(Clone, Copy)]

@@ -2,13 +2,13 @@
 
 ghost use Rattle.std.specs.Prelude.{◌≡◌, ◌<◌, ◌≤◌, ◌↔◌, ◌-◌, IsTrue, Some, None, option_and_then, if◌then◌else◌};
 ghost use Rattle.bpf_insn.specs.Effects.{is_frame_pointer};
-ghost use Rattle.bpf_kept_law.specs.Rules.{put_into};
-ghost use Rattle.bpf_kept_law.specs.declared.notes.Holder.TheVariants.{Register};
+ghost use Rattle.bpf_kept.specs.Rules.{put_into};
+ghost use Rattle.bpf_kept.specs.declared.notes.Holder.TheVariants.{Register};
 ghost use Rattle.bpf_insn.specs.Limits.{max_slots};
 ghost use Rattle.bpf_kept.specs.Fronts.{front};
 ghost use Rattle.bpf_kept.specs.Knowns.{known_of, known_for};
 ghost use Rattle.bpf_kept.specs.Shown.{bounds_of};
-ghost use Rattle.bpf_kept_law.specs.Matching.{left_alone, led, falls, leads, stands, made_in, makes, extra, adds, IsBody, IsExtra, HoldsAt};
+ghost use Rattle.bpf_kept.specs.Matching.{left_alone, led, falls, leads, stands, made_in, makes, extra, adds, IsBody, IsExtra, HoldsAt};
 
 use crate::alike::{are_same, paired};
 use crate::bounds::RunBounds;
@@ -17,10 +17,10 @@ use crate::counters::has_turn;
 use crate::edges::{Arrival, arrives, note_at};
 use crate::guards::{GuardSite, passes};
 use crate::known::{KnownHere, facts_at};
+use crate::notes::{Change, Holder, Note};
 use crate::results::put_into;
 use crate::slots::{Displaced, slot_at};
 use bpf_insn::{Code, Insn, target};
-use bpf_kept_law::{Change, Holder, Note};
 
 /// The greatest number of extra instructions in front of one.
 const MOST_EXTRAS: u32 = 128;
@@ -83,7 +83,7 @@ fn leads(notes: &[Option<Note>], known: &KnownHere<'_>, change: Change, pair: St
 }
 
 /// Whether the one stands for the other; `same` says whether they are the same but for where they lead.
-#[tactic(auto, unfolding(bpf_kept_law::specs::Matching::stands))]
+#[tactic(auto, unfolding(crate::specs::Matching::stands))]
 fn stands(notes: &[Option<Note>], known: &KnownHere<'_>, same: bool, pair: StandIn) -> bool
     requires old { pair.slot < max_slots }
     requires new { pair.new_slot < max_slots }
@@ -128,7 +128,7 @@ fn makes(moved: &Insn) -> Option<Change>
 }
 
 /// What an extra instruction changes.
-#[tactic(auto, unfolding(bpf_kept_law::specs::Matching::extra))]
+#[tactic(auto, unfolding(crate::specs::Matching::extra))]
 fn extra<O: Code>(old: &O, site: GuardSite, known: &KnownHere<'_>, moved: &Insn) -> Option<Change>
     ensures { result ≡ extra (front (O.program old.now) site.slot site.length) (known_of known.now) moved.now }
 {
@@ -148,7 +148,7 @@ struct ExtraAt {
 }
 
 /// Whether an instruction of the new program is an extra one, and the next one has fewer in front.
-#[tactic(auto, unfolding(bpf_kept_law::specs::Matching::adds))]
+#[tactic(auto, unfolding(crate::specs::Matching::adds))]
 fn adds<O: Code>(
     old: &O,
     notes: &[Option<Note>],

@@ -1,11 +1,11 @@
 //! Arithmetic on terms, modulo 2^64.
 
 ghost use Rattle.std.specs.Prelude.{◌≡◌};
-ghost use Rattle.bpf_kept_law.specs.Terms.{constant, zero_term, context_offset, frame_offset, frame_end, plus, opposite, negated, minus, times};
-ghost use Rattle.bpf_kept_law.specs.Rules.{same_term, is_high, is_enough, is_zero, is_offset, are_offsets};
+ghost use Rattle.bpf_kept.specs.Terms.{constant, zero_term, context_offset, frame_offset, frame_end, plus, opposite, negated, minus, times};
+ghost use Rattle.bpf_kept.specs.Rules.{same_term, is_high, is_enough, is_zero, is_offset, are_offsets};
 
+use crate::notes::Term;
 use bpf_insn::FRAME_BYTES;
-use bpf_kept_law::Term;
 
 /// The address of the context.
 pub const MIDDLE: u64 = 1 << 63;

@@ -12,8 +12,7 @@
 
 use bpf_cert::{Certificate, read};
 use bpf_insn::{Order, Program, Reg};
-use bpf_kept::{NoteFault, RunBounds, follows, follows_certified};
-use bpf_kept_law::{COUNTERS, FACTS, Fact, Holder, Note, SLOTS, Term, TurnsLeft};
+use bpf_kept::{COUNTERS, FACTS, Fact, Holder, Note, NoteFault, RunBounds, SLOTS, Term, TurnsLeft, follows, follows_certified};
 use bpf_text::assemble;
 use std::alloc::Global;
 use std::io::{self, BufRead, BufReader, BufWriter, Write};

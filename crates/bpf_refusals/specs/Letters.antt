@@ -4,8 +4,8 @@ use Rattle.bpf_insn.specs.RefusalNumbers.{image_texts}
 use Rattle.bpf_semantics.specs.ReasonNumbers.{reason_texts}
 use Rattle.bpf_state.specs.Condition.{condition_texts}
 use Rattle.bpf_cert.specs.RefusalNumbers.{certificate_texts}
-use Rattle.bpf_infer_error.specs.RefusalNumbers.{infer_texts}
-use Rattle.bpf_follows_notes.specs.Refused.{mismatch_texts}
+use Rattle.bpf_infer_base.specs.RefusalNumbers.{infer_texts}
+use Rattle.bpf_follows.specs.Refused.{mismatch_texts}
 use Rattle.bpf_refusals.specs.Sentences.{text_texts, filter_texts, hardening_texts, notes_texts, capture_texts}
 use Rattle.bpf_refusals.specs.declared.letter.Letter.{Letter}
 use Rattle.bpf_refusals.specs.declared.letter.Letter.TheVariants.{Text, Classic, Check, Image, Fault, Hardening, Inference, Certificate, Mismatch, Notes, Capture}

@@ -16,23 +16,23 @@ use Rattle.bpf_check.specs.declared.refusal.Refusal.{Refusal as CheckRefusal}
 use Rattle.bpf_classic.specs.Valid.{refusal_number as filter_number}
 use Rattle.bpf_classic.specs.declared.refusal.Refusal.{Refusal as FilterRefusal}
 use Rattle.bpf_classic.specs.declared.refusal.Refusal.TheVariants as filters
-use Rattle.bpf_classic_text.specs.declared.fault.TextFault.{TextFault}
-use Rattle.bpf_classic_text.specs.declared.fault.TextFault.TheVariants as spellings
-use Rattle.bpf_infer_error.specs.RefusalNumbers.{condition_number, infer_number}
-use Rattle.bpf_infer_error.specs.declared.error.InferError.{InferError}
-use Rattle.bpf_infer_error.specs.declared.error.InferError.TheVariants as searches
-use Rattle.bpf_harden_notes.specs.RefusalNumbers.{harden_number, harden_slot}
-use Rattle.bpf_harden_notes.specs.declared.error.HardenError.{HardenError}
-use Rattle.bpf_harden_notes.specs.declared.error.HardenError.TheVariants as hardenings
+use Rattle.bpf_classic.specs.declared.fault.TextFault.{TextFault}
+use Rattle.bpf_classic.specs.declared.fault.TextFault.TheVariants as spellings
+use Rattle.bpf_infer_base.specs.RefusalNumbers.{condition_number, infer_number}
+use Rattle.bpf_infer_base.specs.declared.error.InferError.{InferError}
+use Rattle.bpf_infer_base.specs.declared.error.InferError.TheVariants as searches
+use Rattle.bpf_changes.specs.RefusalNumbers.{harden_number, harden_slot}
+use Rattle.bpf_changes.specs.declared.error.HardenError.{HardenError}
+use Rattle.bpf_changes.specs.declared.error.HardenError.TheVariants as hardenings
 use Rattle.bpf_follows.specs.Mismatches.{mismatch_number, mismatch_slot}
 use Rattle.bpf_follows.specs.declared.mismatch.Mismatch.{Mismatch}
-use Rattle.bpf_follows_notes.specs.Refused.{refusal_number as notes_number}
-use Rattle.bpf_follows_notes.specs.declared.error.NotesError.{NotesError}
-use Rattle.bpf_follows_notes.specs.declared.error.NotesError.TheVariants as notes
-use Rattle.bpf_pcap.specs.Refused.{refusal_number as capture_number}
-use Rattle.bpf_pcap.specs.declared.error.CaptureError.{CaptureError}
-use Rattle.bpf_pcap.specs.declared.error.CaptureError.TheVariants as captures
-use Rattle.bpf_pcap.specs.declared.error.CaptureRefusal.{CaptureRefusal}
+use Rattle.bpf_follows.specs.Refused.{refusal_number as notes_number}
+use Rattle.bpf_follows.specs.declared.error.NotesError.{NotesError}
+use Rattle.bpf_follows.specs.declared.error.NotesError.TheVariants as notes
+use Rattle.bpf_captures.specs.Refused.{refusal_number as capture_number}
+use Rattle.bpf_captures.specs.declared.error.CaptureError.{CaptureError}
+use Rattle.bpf_captures.specs.declared.error.CaptureError.TheVariants as captures
+use Rattle.bpf_captures.specs.declared.error.CaptureRefusal.{CaptureRefusal}
 use Rattle.bpf_refusals.specs.declared.letter.Letter.{Letter}
 use Rattle.bpf_refusals.specs.declared.letter.Letter.TheVariants as letters
 use Rattle.bpf_refusals.specs.declared.told.Told.{Told}

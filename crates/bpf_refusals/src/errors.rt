@@ -2,16 +2,14 @@
 
 use crate::letter::Letter;
 use crate::told::{At, FILTER_MEMORY, Tells, Told};
+use bpf_captures::{CaptureError, CaptureRefusal};
 use bpf_cert::CertError;
+use bpf_changes::HardenError;
 use bpf_check::Refusal as CheckRefusal;
-use bpf_classic::Refusal as FilterRefusal;
-use bpf_classic_text::TextFault;
-use bpf_follows::Mismatch;
-use bpf_follows_notes::NotesError;
-use bpf_harden_notes::HardenError;
-use bpf_infer_error::InferError;
+use bpf_classic::{Refusal as FilterRefusal, TextFault};
+use bpf_follows::{Mismatch, NotesError};
+use bpf_infer_base::InferError;
 use bpf_insn::DecodeError;
-use bpf_pcap::{CaptureError, CaptureRefusal};
 use bpf_semantics::Reason;
 use bpf_text::TextError;
 

@@ -4,7 +4,7 @@ ghost use Rattle.std.specs.Prelude.{◌≡◌, ◌<◌, ◌≤◌, ◌↔◌, []
 ghost use Rattle.bpf_refusals.specs.Sentences.{capture_texts, filter_texts, hardening_texts, notes_texts, text_texts};
 
 use crate::told::{NOT_SHOWN, TOO_DEAR, UNCERTIFIED};
-use bpf_harden_notes::HardenError;
+use bpf_changes::HardenError;
 
 /// Why a text is no program.
 pub fn text_sentence(number: u32) -> Option<&'static str>

@@ -3,7 +3,7 @@ use Rattle.std.specs.Prelude.{◌≡◌, ◌≢◌, ℕ, Bool, List, [], Option,
 use Rattle.std.specs.Str.Parse.{ParsesUnsigned}
 use Rattle.std.specs.declared.num.ParseIntError.{ParseIntError}
 use Rattle.clap.specs.Words.{Kinds, ReadsOne, Row, Text, fault_of, first_of, one_of}
-pub use Rattle.bpf_words.specs.Commands.{bpf}
+pub use Rattle.bpf_request.specs.Commands.{bpf}
 use Rattle.bpf_insn.specs.declared.order.Order.{Order}
 use Rattle.bpf_insn.specs.declared.order.Order.TheVariants.{Little, Big}
 use Rattle.bpf_request.specs.declared.certifying.Certifying.{Certifying}

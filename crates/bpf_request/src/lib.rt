@@ -1,8 +1,11 @@
-//! What a command line asks for.
+//! What a command line asks for; and the words of a command line that the command knows: its commands and their
+//! arguments, as the parser of words has them. A new option goes into `table.rt` and `specs/Commands`.
 #![tactic(auto)]
 
+mod argument;
 mod asking;
 mod certifying;
+mod commands;
 mod contexts;
 mod converting;
 mod emitting;
@@ -10,12 +13,10 @@ mod following;
 mod hardening;
 mod replaying;
 mod subject;
+mod table;
 mod words;
 
-pub use asking::{
-    Assembling, CheckedRunning, Checking, Explaining, Grouping, Inferring, Listing, Migrating,
-    Running,
-};
+pub use asking::{Assembling, CheckedRunning, Checking, Explaining, Grouping, Inferring, Listing, Migrating, Running};
 pub use certifying::Certifying;
 pub use contexts::Contexts;
 pub use converting::Converting;

@@ -6,11 +6,9 @@ ghost use Rattle.clap.specs.Words.{FailsBy, first_of, found_of, kind_of, one_of,
 ghost use Rattle.bpf_request.specs.CommandLine.{AreContexts, Asks, GivenBy, IsAsked, IsCertifying, IsConverting, IsCount, IsEmitting, IsFlag, IsFollowing, IsHardening, IsInferring, IsNumber, IsOrder, IsReplaying, IsSubject, bpf, faults_in, word_of};
 ghost use Rattle.clap.specs.declared.error.ErrorKind.TheVariants.{OutOfMemory};
 
-use crate::asking::{
-    Assembling, CheckedRunning, Checking, Explaining, Grouping, Inferring, Listing, Migrating,
-    Running,
-};
+use crate::asking::{Assembling, CheckedRunning, Checking, Explaining, Grouping, Inferring, Listing, Migrating, Running};
 use crate::certifying::Certifying;
+use crate::commands::command;
 use crate::contexts::Contexts;
 use crate::converting::Converting;
 use crate::emitting::Emitting;
@@ -19,7 +17,6 @@ use crate::hardening::Hardening;
 use crate::replaying::Replaying;
 use crate::subject::{Subject, Told, subject_of};
 use bpf_insn::Order;
-use bpf_words::command;
 use clap::{ArgMatches, Error};
 use std::alloc::Global;
 

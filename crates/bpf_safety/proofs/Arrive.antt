@@ -6,9 +6,9 @@ use Rattle.bpf_insn.specs.Instruction.{Instructions}
 use Rattle.bpf_semantics.specs.State as machine
 use Rattle.bpf_num.specs.Interval.{Interval}
 use Rattle.bpf_state.specs.State.{IsPlace, AbstractState, tightened, IsAbstract}
-use Rattle.bpf_sound.specs.Describes.{Describes}
+use Rattle.bpf_safety.specs.Describes.{Describes}
 use Rattle.bpf_state.specs.Entails.{state_entails}
-use Rattle.bpf_sound.specs.Laws as abstract
+use Rattle.bpf_safety.specs.Laws as abstract
 use Rattle.bpf_state.specs.declared.known.Place.{Place}
 use Rattle.bpf_cert.specs.declared.certificate.Term.{Term}
 use Rattle.bpf_cert.specs.View.{LabelView, CertificateView}

@@ -16,7 +16,7 @@ use Rattle.bpf_state.specs.declared.known.RegState.{RegState}
 use Rattle.bpf_state.specs.declared.known.RegState.TheVariants.{Any, Num, Ptr}
 use Rattle.bpf_state.specs.State.{AbstractState, register}
 use Rattle.bpf_state.specs.Fault.{fault_of, is_number, have_right_kinds, reads_part, reads_any, has_wrong_kinds, is_out_of_bounds, reads_unknown_byte, writes_protected}
-use Rattle.bpf_sound.specs.Describes.{DescribesRegister}
+use Rattle.bpf_safety.specs.Describes.{DescribesRegister}
 use Rattle.bpf_cert.specs.View.{CertificateView}
 use Rattle.bpf_safety.specs.Flow.{Arrival, Visit, jump_target, jump_state, next_state, cost_after}
 use Rattle.bpf_safety.specs.Flaw.{Edge, edge_to, edges, is_refused_by, is_unpaid, is_not_entailed, is_over_budget, enters_wrongly, returns_wrongly, exits_unpaid}

@@ -21,9 +21,9 @@ use Rattle.bpf_state.specs.declared.known.RegState.TheVariants.{Any, Num, Ptr}
 use Rattle.bpf_state.specs.State.{AbstractState, first_state, register, callee_state, caller_state, IsAbstract}
 use Rattle.bpf_num.specs.Number.{Has}
 use Rattle.bpf_state.specs.Fault.{fault_of, some_passes, is_number}
-use Rattle.bpf_sound.specs.Describes.{Describes, DescribesRegister}
+use Rattle.bpf_safety.specs.Describes.{Describes, DescribesRegister}
 use Rattle.bpf_state.specs.Entails.{state_entails, register_entails}
-use Rattle.bpf_sound.specs.Laws as abstract
+use Rattle.bpf_safety.specs.Laws as abstract
 use Rattle.bpf_cert.specs.View.{LabelView, FunctionView, CertificateView}
 use Rattle.bpf_safety.specs.Labels.{label_at, function_at, function_from}
 use Rattle.bpf_safety.specs.Budget.{budget as budget_of, InBox, place_of, least_slack, least_budget, greatest_budget, HaveTagsOf}

@@ -9,7 +9,7 @@ use Rattle.bpf_insn.specs.Instruction.{Instructions, insn_at, slots}
 use Rattle.bpf_semantics.specs.State as machine
 use Rattle.bpf_semantics.specs.Run.{Steps}
 use Rattle.bpf_state.specs.State.{AbstractState, IsAbstract}
-use Rattle.bpf_sound.specs.Describes.{Describes, LengthWithin, IsStored, slot_cell}
+use Rattle.bpf_safety.specs.Describes.{Describes, LengthWithin, IsStored, slot_cell}
 use Rattle.bpf_state.specs.Fault.{fault_of}
 use Rattle.bpf_state.specs.declared.known.Place.{Place}
 use Rattle.bpf_cert.specs.declared.certificate.Term.{Term}

@@ -1,7 +1,7 @@
 -- What the safety theorem rests on.
 use Rattle.bpf_semantics.specs.MachineLaws as insn
 use Rattle.bpf_num.specs.Laws.{EntailsIncludes}
-use Rattle.bpf_sound.specs.Laws as abstract
+use Rattle.bpf_safety.specs.Laws as abstract
 
 pub record Laws : Type 0 where
   pub stuck_has_reason : insn.StuckHasReason

@@ -25,7 +25,7 @@ use Rattle.bpf_semantics.specs.State as machine
 use Rattle.bpf_semantics.specs.Step.{Step, step_of, does, jump, next, operand, test_of_values, alu_result, load, load_extended, store, atomic_result, fetched, entered, saved, left}
 use Rattle.bpf_insn.specs.Effects.{fetch_register}
 use Rattle.bpf_state.specs.State.{AbstractState}
-use Rattle.bpf_sound.specs.Laws as abstract
+use Rattle.bpf_safety.specs.Laws as abstract
 use Rattle.bpf_safety.proofs.Basics.{some_is}
 use Rattle.bpf_safety.proofs.LawsBelow.{Laws}
 use Rattle.bpf_cert.specs.View.{CertificateView}

@@ -21,7 +21,7 @@ use Rattle.bpf_state.specs.declared.known.SlotState.TheVariants.{Bytes, Word, Sp
 use Rattle.bpf_state.specs.declared.known.Area.TheVariants.{Frame}
 use Rattle.bpf_state.specs.declared.known.Tag.{Tag}
 use Rattle.bpf_state.specs.State.{IsPlace, is_frame, start_of, callee_state, without_frame, each_without_frame, AbstractState, register, register_tag, slot, slot_tag, slot_value, no_tags, each_if, tightened, tightened_register, tightened_slot, IsAbstract}
-use Rattle.bpf_sound.specs.Describes.{Describes, IsStored, slot_cell, DescribesRegister, DescribesSlot, TaggedRegister, TaggedSlot, IsTagged}
+use Rattle.bpf_safety.specs.Describes.{Describes, IsStored, slot_cell, DescribesRegister, DescribesSlot, TaggedRegister, TaggedSlot, IsTagged}
 use Rattle.bpf_state.specs.Entails.{state_entails, register_entails, slot_entails, all_pairs}
 use Rattle.bpf_state.specs.declared.known.Place.{Place}
 use Rattle.bpf_cert.specs.declared.certificate.Term.{Term}

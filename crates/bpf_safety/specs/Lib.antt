@@ -1,4 +1,9 @@
 -- Definitions, in the order in which they read best.
+-- which states of the machine an abstract state describes
+pub mod Describes
+-- what the abstract steps promise of the machine's
+pub mod Laws
+-- Definitions, in the order in which they read best.
 -- which function and which label stand at a slot
 pub mod Labels
 -- ranking functions, and how an edge pays

@@ -10,7 +10,7 @@ use Rattle.bpf_semantics.specs.Run.{Steps, IsDone, IsFault, CanMake}
 use Rattle.bpf_semantics.specs.Flat.{Placement, FlatState, FlatStep, FlatFinish, FlatSteps}
 use Rattle.bpf_semantics.specs.Placement.{IsPlacement, IsFlatStart, StaysInside}
 use Rattle.bpf_state.specs.State.{AbstractState, IsAbstract}
-use Rattle.bpf_sound.specs.Describes.{LengthWithin}
+use Rattle.bpf_safety.specs.Describes.{LengthWithin}
 use Rattle.bpf_cert.specs.View.{CertificateView}
 use Rattle.bpf_cert.specs.Limits.{IsCertificate}
 use Rattle.bpf_safety.specs.Budget.{Budget, least_slack, Pays, HaveTagsOf}

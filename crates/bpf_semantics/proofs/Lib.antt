@@ -17,3 +17,11 @@ pub mod FlatCall
 pub mod FlatLaw
 pub mod FlatBytesLaw
 pub mod FlatRegistersLaw
+pub mod Values
+pub mod Cells
+pub mod States
+pub mod Head
+pub mod Places
+pub mod Instruction
+pub mod Law
+pub mod AccessLaw

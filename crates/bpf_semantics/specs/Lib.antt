@@ -21,3 +21,8 @@ pub mod Placement
 pub mod FlatLaws
 -- where jumps and calls lead
 pub mod Targets
+-- Definitions, in the order in which they read best.
+-- blocks, and a state inside of one
+pub mod Blocks
+-- laws of runs inside of a block
+pub mod Laws

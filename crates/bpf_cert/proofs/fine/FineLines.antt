@@ -2,7 +2,7 @@
 use Rattle.std.proofs.Common.{◌≡◌, ◌≤◌, true, false, List, [], ◌∷◌, length}
 use Rattle.bpf_cert.specs.Line.{Line, is_line, line_text}
 use Rattle.bpf_cert.specs.Faults.{is_ended}
-use Rattle.bpf_lines.specs.Taken.{IsOneLine}
+use Rattle.bpf_streams.specs.Taken.{IsOneLine}
 use Rattle.bpf_cert.proofs.AfterLemmas.{IsFine}
 
 -- each line is fine behind those before it, of which the nearest comes first

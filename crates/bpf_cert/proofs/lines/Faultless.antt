@@ -5,7 +5,7 @@ use Rattle.bpf_cert.specs.Line.{Line, line_text}
 use Rattle.bpf_cert.specs.Reading.{line_in}
 use Rattle.bpf_cert.specs.Spelling.{lines_text}
 use Rattle.bpf_cert.specs.Faults.{judged, rest_fault, fault_from, text_fault, complete}
-use Rattle.bpf_lines.specs.Taken.{IsOneLine}
+use Rattle.bpf_streams.specs.Taken.{IsOneLine}
 use Rattle.bpf_cert.proofs.AfterLemmas.{IsFine}
 use Rattle.bpf_cert.proofs.fine.FineLines.{AreFine, IsWritten, AreWritten}
 use Rattle.bpf_cert.proofs.lines.LineAgain.{line_again}

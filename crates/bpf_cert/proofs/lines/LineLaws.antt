@@ -5,8 +5,8 @@ use Rattle.std.specs.List.{slice_split, join_with_byte}
 use Rattle.std.specs.Str.{bytes_eq}
 use Rattle.std.proofs.lemmas.Bool.{eqb-true}
 use Rattle.std.proofs.lemmas.List.Splits.{join_with_byte-slice_split}
-use Rattle.bpf_lines.specs.Words.{behind}
-use Rattle.bpf_lines.proofs.WordLemmas.{behind_is}
+use Rattle.bpf_streams.specs.Words.{behind}
+use Rattle.bpf_streams.proofs.WordLemmas.{behind_is}
 use Rattle.bpf_cert.specs.Numeral.{is_numeral}
 use Rattle.bpf_cert.specs.Line.{Part, Number, Content, PlaceText, Measure, Lengths, Line, signed_text, range_text, part_text, number_text, content_text, place_text, measure_text, term_text, fields, line_text}
 use Rattle.bpf_cert.specs.Reading.{◌>>=◌, or_else, all_there, cut, numeral_in, end_in, signed_in, range_in, part_in, number_in, pointer_in, bytes_in, content_in, place_in, place_closed_in, measure_in, term_in, one_length_in, two_lengths_in, header_in, function_in, label_in, entry_in, line_of_fields, line_in}

@@ -7,7 +7,7 @@ use Rattle.std.proofs.lemmas.Int.{ints}
 use Rattle.std.proofs.lemmas.Fmt.{length-decimal-le}
 use Rattle.std.proofs.lemmas.List.{length-map}
 use Rattle.std.proofs.lemmas.List.Elements.{All-append, All-from_recursion}
-use Rattle.bpf_lines.specs.Taken.{IsOneLine}
+use Rattle.bpf_streams.specs.Taken.{IsOneLine}
 use Rattle.bpf_cert.specs.Numeral.{is_decimal_digit, is_numeral, digits_of_int, SignedDigits, int_eq, is_from_to}
 use Rattle.bpf_cert.specs.Line.{Part, Number, Content, PlaceText, Measure as MeasureText, Term as TermText, signed_text, range_text, part_text, number_text, content_text, place_text, measure_text, term_text, is_part, is_number, is_content, is_place, is_measure, is_term}
 use Rattle.bpf_cert.specs.Limits.{is_int_range, is_range, is_bits, is_limited_num, is_limited_place, is_limited_measure, is_limited_term, is_limited_pointer}

@@ -4,8 +4,8 @@ use Rattle.bpf_cert.specs.Line.{Line}
 use Rattle.bpf_cert.specs.View.{CertificateView}
 use Rattle.bpf_cert.specs.declared.error.CertError.{CertError}
 use Rattle.bpf_cert.specs.declared.error.CertError.TheVariants as errors
-use Rattle.bpf_lines.specs.declared.line_reader.Stop.{Stop}
-use Rattle.bpf_lines.specs.declared.line_reader.Stop.TheVariants as stop
+use Rattle.bpf_streams.specs.declared.line_reader.Stop.{Stop}
+use Rattle.bpf_streams.specs.declared.line_reader.Stop.TheVariants as stop
 use Rattle.bpf_cert.specs.code.Building.{Finishes}
 
 abbrev pub AnswersBehindEnd : Stop → Bool → ℕ → List Line → Result CertificateView CertError → Type 0

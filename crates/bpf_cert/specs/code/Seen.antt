@@ -1,6 +1,6 @@
 -- Forms that the code keeps, without where their digits lie in memory.
 use Rattle.std.specs.Prelude.{◌≡◌, ℕ, Bool, true, not, ◌&&◌, List, codes, Option, Some, None, ℤ, pos, neg_ℤ, min, ◌^◌, if◌then◌else◌}
-use Rattle.bpf_lines.specs.Words.{behind}
+use Rattle.bpf_streams.specs.Words.{behind}
 use Rattle.bpf_cert.specs.Numeral.{SignedDigits, number, is_numeral, is_plain}
 use Rattle.bpf_cert.specs.Line.{Part, PlaceText, Content, Measure, Term, Lengths, Line}
 use Rattle.bpf_cert.specs.Reading.{◌>>=◌, cut}

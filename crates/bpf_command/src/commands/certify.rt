@@ -4,18 +4,17 @@ ghost use Rattle.std.specs.Prelude.{◌≡◌, ◌≤◌, IfOk, IfErr, IfSome, f
 ghost use Rattle.bpf_insn.specs.Limits.{max_context};
 ghost use Rattle.bpf_certify.specs.Certified.{Answers as IsAnswer, IsRefused};
 ghost use Rattle.bpf_answers.specs.Both.{putting};
-ghost use Rattle.bpf_follows_notes.specs.NotesText.{notes_text};
+ghost use Rattle.bpf_follows.specs.NotesText.{notes_text};
 ghost use Rattle.bpf_command.specs.Certified.{CertifyFails, CertifySays, CertifyWithFails, CertifyWithSays, IsAllPut, NotAllPut, NotAllStand, NotCertified, NotCertifiedWith, assessment_answer, made_of, notes_of, refused_as, rewriting_of, told_of, wish_of};
 
 use crate::commands::explain::lines_at;
 use crate::commands::harden::{Beside, changes_of, put_beside, text_of};
-use bpf_answers::{Answer, Certification, Failure, Rewriting, program_at, put_both};
+use bpf_answers::{Answer, Certification, Failure, Places, Rewriting, program_at, put_both};
 use bpf_cert::Certificate;
 use bpf_certify::{Certified, CertifyError, MOST_BOUND, Wish, certify};
-use bpf_follows_law::Place;
+use bpf_follows::Place;
 use bpf_harden::HardenError;
 use bpf_insn::{Code, DecodeError, MAX_CONTEXT, Program};
-use bpf_places::Places;
 use bpf_request::Certifying;
 use std::alloc::{AllocError, Global};
 

@@ -8,7 +8,9 @@ ghost use Rattle.bpf_command.specs.Explained.{Answers, ExplainFails, ExplainSays
 ghost use Rattle.bpf_command_core.specs.Printed.{ImageSays, JudgedSays, ListSays, LoadedFails, LoadedSays, YesSays};
 ghost use Rattle.bpf_answers.specs.Told.{OutputFails};
 
-use bpf_answers::{Answer, DONE, Failure, REFUSED, image_at, print, readable_text_at, text_at};
+use bpf_answers::{
+    Answer, DONE, Failure, Keeping, Places, REFUSED, image_at, print, readable_text_at, text_at,
+};
 use bpf_cert::{CertError, Certificate, read};
 use bpf_check::Refusal;
 use bpf_explain::{
@@ -18,7 +20,6 @@ use bpf_explain::{
 use bpf_explain_harden::{Hardening, explain_hardening};
 use bpf_infer::{Wanted, Watch};
 use bpf_insn::{Code, DecodeError, MAX_CONTEXT, Order, Program, ProgramView, decode};
-use bpf_places::{Keeping, Places};
 use bpf_request::{Aspect, Explaining, Subject, USUAL_TURNS};
 use bpf_text::{TextError, assemble};
 use std::alloc::Global;

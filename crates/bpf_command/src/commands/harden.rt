@@ -3,20 +3,17 @@
 ghost use Rattle.std.specs.Prelude.{◌≡◌, ◌<◌, IfOk, IfErr, IfSome, None, false};
 ghost use Rattle.bpf_insn.specs.Instruction.{slots};
 ghost use Rattle.bpf_insn.specs.Image.{IsProgram};
-ghost use Rattle.bpf_harden_notes.specs.RefusalNumbers.{harden_slot};
-ghost use Rattle.bpf_follows_notes.specs.NotesText.{notes_text};
+ghost use Rattle.bpf_changes.specs.RefusalNumbers.{harden_slot};
+ghost use Rattle.bpf_follows.specs.NotesText.{notes_text};
 ghost use Rattle.bpf_command.specs.Hardened.{AreLeft, BothStand, HardenFails, HardenSays, IsLeft, IsLeftSaid, IsNoted, IsUnshown, NotAllMade, NotBothPut, NotBothStand, Show, Stands, Unput, asked_bytes, attempt_answer, bounds_of};
-ghost use Rattle.bpf_places.specs.Made.{making};
+ghost use Rattle.bpf_answers.specs.Made.{making};
 
 use crate::commands::changes::changes_text;
-use bpf_answers::{Answer, Content, DONE, Failure, program_at, put};
-use bpf_follows::Mismatch;
-use bpf_follows_law::{Bounds, Place, matching_keeps_meaning};
-use bpf_follows_notes::write;
+use bpf_answers::{Answer, Content, DONE, Failure, Places, program_at, put};
+use bpf_follows::{Bounds, Mismatch, Place, matching_keeps_meaning, write};
 use bpf_harden::{HardenError, Hardened, Options, harden};
 use bpf_harden_follows::{Evidence, evidence_for, evidence_of};
 use bpf_insn::{Code, DecodeError, MAX_CONTEXT, Program};
-use bpf_places::Places;
 use bpf_request::Hardening;
 use std::alloc::{AllocError, Global};
 

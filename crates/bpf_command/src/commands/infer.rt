@@ -2,14 +2,13 @@
 
 ghost use Rattle.std.specs.Prelude.{◌≡◌, ◌≤◌, IfOk, IfErr};
 ghost use Rattle.bpf_insn.specs.Limits.{max_context};
-ghost use Rattle.bpf_places.specs.Made.{making};
+ghost use Rattle.bpf_answers.specs.Made.{making};
 ghost use Rattle.bpf_command.specs.Inferred.{InferFails, InferSays, NotInferred, inference_answer};
 
-use bpf_answers::{Answer, Failure, program_at, put};
+use bpf_answers::{Answer, Failure, Places, program_at, put};
 use bpf_explain::may_be_found;
 use bpf_infer::{InferError, Wanted, Watch, propose};
 use bpf_insn::{DecodeError, MAX_CONTEXT};
-use bpf_places::Places;
 use bpf_request::Inferring;
 use std::alloc::Global;
 

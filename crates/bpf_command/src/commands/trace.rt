@@ -6,10 +6,10 @@ ghost use Rattle.bpf_machine.specs.Answers.{IsRun};
 
 use crate::aside::Aside;
 use bpf_command_core::Tracer;
-use bpf_explain_page::{Page, Tell};
 use bpf_explain_program::{Spelled, register, write_padded};
 use bpf_insn::{Code, Insn, Reg};
 use bpf_machine::{Machine, Outcome, Region, Value};
+use bpf_streams::{Page, Tell};
 use std::fmt;
 use std::io::Write;
 

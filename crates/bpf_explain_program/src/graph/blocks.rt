@@ -4,8 +4,8 @@ use crate::graph::Scene;
 use crate::known::Spelled;
 use crate::listing::{write_budget, write_function};
 use bpf_check::{Index, Refusal, function_at, label_at};
-use bpf_explain_page::Tell;
 use bpf_insn::{Code, Insn, MAX_SLOTS};
+use bpf_streams::Tell;
 
 /// How a block looks.
 #[derive(Clone, Copy)]

@@ -7,8 +7,8 @@ use crate::graph::Scene;
 use crate::graph::plan::call_target;
 use crate::sight::is_test;
 use bpf_check::jump_target;
-use bpf_explain_page::Tell;
 use bpf_insn::{Code, Insn, MAX_SLOTS};
+use bpf_streams::Tell;
 
 /// What is written behind the ends of an edge that is live, and of one that is dead.
 type Style = (&'static str, &'static str);

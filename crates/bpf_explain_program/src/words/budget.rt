@@ -5,9 +5,9 @@ use crate::places::tag_at;
 use crate::sight::{Sight, Way};
 use bpf_cert::{Label, Measure, Term};
 use bpf_check::place_of;
-use bpf_explain_page::Tell;
 use bpf_insn::Code;
 use bpf_state::{Place, SlotState, State, Tag};
+use bpf_streams::Tell;
 
 /// How far a counter moved on the way: `r6 falls by 1 at weight 5`.
 fn tell_step<W: Tell>(out: &mut W, name: Name, step: i64, weight: u32) {

@@ -4,9 +4,9 @@ use crate::known::{Known, Name, Written, known_register};
 use crate::sight::{Sight, Way};
 use bpf_cert::Label;
 use bpf_check::Callee;
-use bpf_explain_page::Tell;
 use bpf_insn::{Code, Reg};
 use bpf_state::{SlotState, State, enter};
+use bpf_streams::Tell;
 
 /// The first place at which a state doesn't lie in a label's: what it holds, and what the label says of it.
 pub fn first_difference(state: &State, label: &Label) -> Option<(Name, Known, Written)> {

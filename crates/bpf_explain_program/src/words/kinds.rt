@@ -2,11 +2,11 @@
 
 use crate::known::{Known, Name, Offset, known_register};
 use crate::sight::Sight;
-use crate::words::origins::tell_lost;
 use crate::words::register;
-use bpf_explain_page::Tell;
+use crate::words::origins::tell_lost;
 use bpf_insn::{AluOp, Code, Insn, Operand, Reg, Width};
 use bpf_state::{Mistake, Place, State, mistake_of_kinds, unset_register};
+use bpf_streams::Tell;
 
 /// C3: a register that is read may be uninitialised.
 pub fn tell_unknown<C: Code, W: Tell>(out: &mut W, sight: &Sight<'_, C>) {

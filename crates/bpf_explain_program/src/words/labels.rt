@@ -5,9 +5,9 @@ use crate::listing::steps_of;
 use crate::words::edges::first_difference;
 use bpf_cert::{Function, Label, Measure, Term};
 use bpf_check::{Index, SeenStart, Standing, function_at, label_at, place_of};
-use bpf_explain_page::{Count, Tell};
 use bpf_insn::Code;
 use bpf_state::{Condition, SlotState, State};
+use bpf_streams::{Count, Tell};
 
 /// C2: a label is at no instruction's first slot.
 fn tell_place<C: Code, W: Tell>(out: &mut W, program: &C, slot: u32) {

@@ -5,9 +5,9 @@ use crate::sight::Sight;
 use crate::trail::Trail;
 use crate::words::register;
 use bpf_check::Index;
-use bpf_explain_page::Tell;
 use bpf_insn::{Code, Reg};
 use bpf_state::{RegState, State};
+use bpf_streams::Tell;
 
 /// How many labels, one before the other, are looked at, each in a pass over the program.
 const LABELS: u32 = 8;

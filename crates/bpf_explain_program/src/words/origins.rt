@@ -7,8 +7,8 @@ use crate::trail::{Trail, Use};
 use crate::words::register;
 use arrayvec::ArrayVec;
 use bpf_check::{Index, label_at};
-use bpf_explain_page::Tell;
 use bpf_insn::{Code, Insn, MAX_SLOTS, Reg};
+use bpf_streams::Tell;
 
 /// How far back an instruction is looked for that gave a register its value before the last label.
 const BACK: u32 = 4096;

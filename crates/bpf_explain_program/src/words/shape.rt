@@ -2,8 +2,8 @@
 
 use crate::sight::Sight;
 use bpf_check::{Spot, WayOut};
-use bpf_explain_page::Tell;
 use bpf_insn::Code;
+use bpf_streams::Tell;
 
 /// Why no state goes on to an instruction without a label.
 #[derive(Clone, Copy, PartialEq)]

@@ -6,8 +6,7 @@ use crate::judge::lower;
 use crate::liveness::{keep_live, least_number, places_read};
 use crate::states::Analysis;
 use bpf_cert::{Function, Label};
-use bpf_infer_base::{Fault, Meter, PlaceSet, Stop, Task, Watch, get_or, held, labels_of, put};
-use bpf_infer_error::InferError;
+use bpf_infer_base::{Fault, InferError, Meter, PlaceSet, Stop, Task, Watch, get_or, held, labels_of, put};
 use bpf_num::Num;
 use std::alloc::AllocError;
 

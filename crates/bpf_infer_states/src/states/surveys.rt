@@ -4,11 +4,7 @@ ghost use Rattle.std.specs.Prelude.{◌≤◌};
 
 use crate::states::Analysis;
 use bpf_cert::Function;
-use bpf_infer_base::{
-    Callee, Edge, Fault, LabelState, Meter, Task, Visitor, Watch, get_or, held, load_at, put,
-    vacant,
-};
-use bpf_infer_error::{Condition, InferError};
+use bpf_infer_base::{Callee, Condition, Edge, Fault, InferError, LabelState, Meter, Task, Visitor, Watch, get_or, held, load_at, put, vacant};
 use bpf_insn::{Insn, Reg};
 use bpf_num::Num;
 use bpf_state::{RegState, State};

@@ -1,7 +1,7 @@
 use Rattle.std.proofs.Common.{◌≤◌, ◌<◌, length, inr, arith}
 use Rattle.std.specs.Io.KnownBytes.{Consumes, IsAtEnd}
 use Rattle.bpf_answers.proofs.TextLemmas.{may_fail}
-use Rattle.bpf_places.proofs.ReadingLemmas.{at_end, some_is, too_many}
+use Rattle.bpf_answers.proofs.ReadingLemmas.{at_end, some_is, too_many}
 use Rattle.bpf_answers.proofs.bytes.bytes_at.Goals as goal
 
 pub returns-in_default-clause-err : goal.returns-in_default-clause-err

@@ -2,7 +2,7 @@ use Rattle.std.proofs.Common.{rules, ◌≡◌, ℕ, Err, subst, true, false, in
 use Rattle.bpf_cert.specs.Spelling.{certificate_text}
 use Rattle.bpf_cert.specs.View.{CertificateView}
 use Rattle.bpf_answers.specs.Loaded.{CertificateAt}
-use Rattle.bpf_places.specs.Made.{making}
+use Rattle.bpf_answers.specs.Made.{making}
 use Rattle.bpf_command_core.specs.Printed.{MigrateFails, migrated}
 use Rattle.bpf_answers.proofs.MadeLemmas.{put_fails}
 use Rattle.bpf_command_core.proofs.migrate.migrated.Goals as goal

@@ -1,5 +1,5 @@
 use Rattle.std.proofs.Common.{rules, ◌≡◌, ◌<◌, ◌∙◌, ap, inl, refl}
-use Rattle.bpf_packets.specs.Blocks.{head_bytes}
+use Rattle.bpf_semantics.specs.Blocks.{head_bytes}
 use Rattle.bpf_safety.specs.Certified.{IsLeastFlaw}
 use Rattle.bpf_check.specs.CheckedProgram.{CheckedProgram, IsCertifiedBy, checked}
 use Rattle.bpf_check.specs.RefusalNumbers.{refusal_slot, refusal_number}

@@ -1,6 +1,6 @@
 use Rattle.std.proofs.Common.{◌+◌, ◌-◌, ◌<◌, ◌≤◌, sym, ap, ap₂, ◌∙◌, arith}
 use Rattle.bpf_insn.specs.Instruction.{Instructions}
-use Rattle.bpf_follows_law.specs.Ahead.{joined, ahead}
+use Rattle.bpf_follows.specs.Ahead.{joined, ahead}
 use Rattle.bpf_follows.proofs.AheadLemmas.{few_slots, stops, ends, goes, over}
 use Rattle.bpf_follows.proofs.ahead.span_ahead.Goals as goal
 

@@ -1,6 +1,6 @@
 use Rattle.std.proofs.Common.{◌≡◌, ◌≤◌, ◌+◌, ◌*◌}
 use Rattle.bpf_insn.specs.Limits.{max_slots}
-use Rattle.bpf_follows_law.specs.Ahead.{ahead, span_ahead}
+use Rattle.bpf_follows.specs.Ahead.{ahead, span_ahead}
 use Rattle.bpf_follows.proofs.ahead.span_ahead.Given as goal
 
 abbrev pub invariant-ahead : goal.invariant-ahead

@@ -1,5 +1,5 @@
 use Rattle.std.proofs.Common.{subst}
-use Rattle.bpf_follows_law.specs.Relation.{kind_in, kinds_of, Gives}
+use Rattle.bpf_follows.specs.Relation.{kind_in, kinds_of, Gives}
 use Rattle.bpf_follows.proofs.Further.{one_more}
 use Rattle.bpf_follows.proofs.edges.all_entered.Goals as goal
 

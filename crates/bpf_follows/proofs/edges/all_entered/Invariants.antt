@@ -1,5 +1,5 @@
 use Rattle.std.proofs.Common.{◌<◌, ℕ}
-use Rattle.bpf_follows_law.specs.Relation.{kind_in, kinds_of, Gives}
+use Rattle.bpf_follows.specs.Relation.{kind_in, kinds_of, Gives}
 use Rattle.bpf_follows.proofs.edges.all_entered.Given as goal
 
 -- the registers so far

@@ -1,6 +1,6 @@
 use Rattle.std.proofs.Common.{subst}
-use Rattle.bpf_follows_law.specs.Relation.{Kinds, kinds_of, known, Gives}
-use Rattle.bpf_follows_law.specs.Matching.{kinds_along}
+use Rattle.bpf_follows.specs.Relation.{Kinds, kinds_of, known, Gives}
+use Rattle.bpf_follows.specs.Matching.{kinds_along}
 use Rattle.bpf_follows.proofs.Further.{one_more}
 use Rattle.bpf_follows.proofs.edges.all_given.Goals as goal
 

@@ -1,6 +1,6 @@
 use Rattle.std.proofs.Common.{◌<◌, ℕ}
-use Rattle.bpf_follows_law.specs.Relation.{kinds_of, known, Gives}
-use Rattle.bpf_follows_law.specs.Matching.{kinds_along}
+use Rattle.bpf_follows.specs.Relation.{kinds_of, known, Gives}
+use Rattle.bpf_follows.specs.Matching.{kinds_along}
 use Rattle.bpf_follows.proofs.edges.all_given.Given as goal
 
 -- the registers so far

@@ -1,5 +1,5 @@
 use Rattle.std.proofs.Common.{◌≡◌, ◌-◌, Some}
-use Rattle.bpf_follows_law.specs.Sequence.{behind}
+use Rattle.bpf_follows.specs.Sequence.{behind}
 use Rattle.bpf_follows.proofs.extras.extras.Given as goal
 
 -- behind the slots so far

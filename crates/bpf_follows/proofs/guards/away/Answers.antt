@@ -1,6 +1,6 @@
 use Rattle.std.proofs.Common.{◌≡◌, pos, ◌+ℤ◌, ◌-ℤ◌, FitsSigned, to_z, of_z, w32, w64, sym, ap₂, ◌∙◌, subst}
 use Rattle.std.proofs.lemmas.Int.{to_z-of_z}
-use Rattle.bpf_follows_law.proofs.Offsets.{apart_held, sum_held, most_fits}
+use Rattle.bpf_follows.proofs.Offsets.{apart_held, sum_held, most_fits}
 use Rattle.bpf_follows.proofs.guards.away.Goals as goal
 
 pub overflow_sub-result : goal.overflow_sub-result

@@ -1,9 +1,9 @@
 use Rattle.std.proofs.Common.{None, get_or, sym, ◌∙◌, refl, arith}
 use Rattle.std.proofs.lemmas.Bool.{false≢true}
-use Rattle.bpf_follows_law.specs.Relation.{Kinds, known}
-use Rattle.bpf_follows_law.specs.Matching.{IsSame}
+use Rattle.bpf_follows.specs.Relation.{Kinds, known}
+use Rattle.bpf_follows.specs.Matching.{IsSame}
 use Rattle.bpf_follows.proofs.Further.{one_more}
-use Rattle.bpf_follows_law.proofs.KindLemmas.{each_same}
+use Rattle.bpf_follows.proofs.KindLemmas.{each_same}
 use Rattle.bpf_follows.proofs.pairs.all_same.Goals as goal
 
 pub returns-then-not-reads_same : goal.returns-then-not-reads_same

@@ -1,6 +1,6 @@
 use Rattle.std.proofs.Common.{◌<◌, ℕ, get_or, None}
-use Rattle.bpf_follows_law.specs.Relation.{known}
-use Rattle.bpf_follows_law.specs.Matching.{IsSame}
+use Rattle.bpf_follows.specs.Relation.{known}
+use Rattle.bpf_follows.specs.Matching.{IsSame}
 use Rattle.bpf_follows.proofs.pairs.all_same.Given as goal
 
 -- the registers so far

@@ -1,6 +1,6 @@
 use Rattle.std.proofs.Common.{◌<◌, refl, arith}
 use Rattle.std.proofs.lemmas.Bool.{false≢true}
-use Rattle.bpf_follows_law.specs.Matching.{StandsAt}
+use Rattle.bpf_follows.specs.Matching.{StandsAt}
 use Rattle.bpf_follows.proofs.Further.{one_more}
 use Rattle.bpf_follows.proofs.InsideLemmas.{insn_inside}
 use Rattle.bpf_follows.proofs.pass.all_stand.Goals as goal

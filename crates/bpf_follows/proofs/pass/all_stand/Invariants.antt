@@ -1,5 +1,5 @@
 use Rattle.std.proofs.Common.{◌<◌, ℕ}
-use Rattle.bpf_follows_law.specs.Matching.{StandsAt}
+use Rattle.bpf_follows.specs.Matching.{StandsAt}
 use Rattle.bpf_follows.proofs.pass.all_stand.Given as goal
 
 -- the slots so far

@@ -1,6 +1,6 @@
 use Rattle.std.proofs.Common.{◌≡◌, ◌-ℤ◌, to_z, of_z, w16, w32, w64, ap₂, ◌∙◌}
 use Rattle.std.proofs.lemmas.Int.{to_z-of_z}
-use Rattle.bpf_follows_law.proofs.Offsets.{difference_fits}
+use Rattle.bpf_follows.proofs.Offsets.{difference_fits}
 use Rattle.bpf_follows.proofs.rebased.behind.Goals as goal
 
 pub returns : goal.returns

@@ -1,6 +1,6 @@
 use Rattle.std.proofs.Common.{◌≡◌, ◌+ℤ◌, to_z, of_z, w16, w32, w64, ap₂, ◌∙◌}
 use Rattle.std.proofs.lemmas.Int.{to_z-of_z}
-use Rattle.bpf_follows_law.proofs.Offsets.{sum_fits}
+use Rattle.bpf_follows.proofs.Offsets.{sum_fits}
 use Rattle.bpf_follows.proofs.rebased.far.Goals as goal
 
 pub returns : goal.returns

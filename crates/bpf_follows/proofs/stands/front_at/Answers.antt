@@ -1,8 +1,8 @@
 use Rattle.std.proofs.Common.{ℕ, List, Option, ap₂}
 use Rattle.bpf_insn.specs.declared.instruction.Insn.{Insn}
-use Rattle.bpf_follows_law.specs.declared.notes.Bounds.{Bounds}
-use Rattle.bpf_follows_law.specs.declared.site.Span.{Span}
-use Rattle.bpf_follows_law.specs.declared.site.Front.{Front}
+use Rattle.bpf_follows.specs.declared.notes.Bounds.{Bounds}
+use Rattle.bpf_follows.specs.declared.site.Span.{Span}
+use Rattle.bpf_follows.specs.declared.site.Front.{Front}
 use Rattle.bpf_follows.proofs.stands.front_at.Goals as goal
 
 abbrev front : ℕ → Insn → Bounds → List (Option Span) → Option Span → Front

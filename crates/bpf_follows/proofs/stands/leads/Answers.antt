@@ -1,10 +1,10 @@
 use Rattle.std.proofs.Common.{◌≡◌, true, Some, sym, ◌∙◌, subst}
 use Rattle.std.proofs.lemmas.Option.{same_Some}
 use Rattle.bpf_insn.specs.Instruction.{Instructions}
-use Rattle.bpf_follows_law.specs.declared.site.Site.{Site}
-use Rattle.bpf_follows_law.specs.Relation.{Kinds, known}
-use Rattle.bpf_follows_law.specs.Returned.{is_call, led}
-use Rattle.bpf_follows_law.specs.Matching.{kinds_called, listed, Enters, Reaches}
+use Rattle.bpf_follows.specs.declared.site.Site.{Site}
+use Rattle.bpf_follows.specs.Relation.{Kinds, known}
+use Rattle.bpf_follows.specs.Returned.{is_call, led}
+use Rattle.bpf_follows.specs.Matching.{kinds_called, listed, Enters, Reaches}
 use Rattle.bpf_follows.proofs.stands.leads.Goals as goal
 
 pub returns-then-is_call : goal.returns-then-is_call

@@ -3,12 +3,12 @@ use Rattle.std.specs.Prelude.{option_copied}
 use Rattle.std.proofs.lemmas.Bool.{false≢true}
 use Rattle.std.proofs.lemmas.Option.{same_Some}
 use Rattle.bpf_insn.specs.Instruction.{Instructions}
-use Rattle.bpf_follows_law.specs.declared.site.Site.{Site}
-use Rattle.bpf_follows_law.specs.Relation.{kinds_of, known, is_alone}
-use Rattle.bpf_follows_law.specs.Returned.{GivesBack}
-use Rattle.bpf_follows_law.specs.Stuck.{is_stuck}
-use Rattle.bpf_follows_law.specs.declared.notes.Place.{Place}
-use Rattle.bpf_follows_law.specs.Matching.{front_at, IsLone, IsSite, Falls, Leads, Stands}
+use Rattle.bpf_follows.specs.declared.site.Site.{Site}
+use Rattle.bpf_follows.specs.Relation.{kinds_of, known, is_alone}
+use Rattle.bpf_follows.specs.Returned.{GivesBack}
+use Rattle.bpf_follows.specs.Stuck.{is_stuck}
+use Rattle.bpf_follows.specs.declared.notes.Place.{Place}
+use Rattle.bpf_follows.specs.Matching.{front_at, IsLone, IsSite, Falls, Leads, Stands}
 use Rattle.bpf_follows.specs.Mismatches.{IsNoSite}
 use Rattle.bpf_follows.proofs.SiteLemmas.{one_site, unless_stuck}
 use Rattle.bpf_follows.proofs.stands.stands_at.Goals as goal

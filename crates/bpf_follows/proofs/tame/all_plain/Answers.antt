@@ -1,6 +1,6 @@
 use Rattle.std.proofs.Common.{◌≡◌, ◌+◌, true, sym, ap, ◌∙◌}
-use Rattle.bpf_follows_law.specs.Relation.{Kinds, known}
-use Rattle.bpf_follows_law.specs.Matching.{is_plain}
+use Rattle.bpf_follows.specs.Relation.{Kinds, known}
+use Rattle.bpf_follows.specs.Matching.{is_plain}
 use Rattle.bpf_follows.proofs.Further.{one_more}
 use Rattle.bpf_follows.proofs.tame.all_plain.Goals as goal
 

@@ -1,6 +1,6 @@
 use Rattle.std.proofs.Common.{◌≡◌, ◌<◌, ◌+◌, ℕ, true}
-use Rattle.bpf_follows_law.specs.Relation.{known}
-use Rattle.bpf_follows_law.specs.Matching.{is_plain}
+use Rattle.bpf_follows.specs.Relation.{known}
+use Rattle.bpf_follows.specs.Matching.{is_plain}
 use Rattle.bpf_follows.proofs.tame.all_plain.Given as goal
 
 -- the slots so far

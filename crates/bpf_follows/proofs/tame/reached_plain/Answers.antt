@@ -1,5 +1,5 @@
-use Rattle.bpf_follows_law.specs.Relation.{Kinds, known}
-use Rattle.bpf_follows_law.specs.Matching.{IsPlainAt}
+use Rattle.bpf_follows.specs.Relation.{Kinds, known}
+use Rattle.bpf_follows.specs.Matching.{IsPlainAt}
 use Rattle.bpf_follows.proofs.Further.{one_more}
 use Rattle.bpf_follows.proofs.tame.reached_plain.Goals as goal
 

@@ -1,6 +1,6 @@
 use Rattle.std.proofs.Common.{◌<◌, ℕ}
-use Rattle.bpf_follows_law.specs.Relation.{known}
-use Rattle.bpf_follows_law.specs.Matching.{IsPlainAt}
+use Rattle.bpf_follows.specs.Relation.{known}
+use Rattle.bpf_follows.specs.Matching.{IsPlainAt}
 use Rattle.bpf_follows.proofs.tame.reached_plain.Given as goal
 
 -- the slots so far

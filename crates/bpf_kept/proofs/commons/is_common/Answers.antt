@@ -1,8 +1,8 @@
 use Rattle.std.proofs.Common.{◌≡◌, arith, sym, ap, ◌∙◌}
 use Rattle.std.specs.Prelude.{not, ◌||◌}
-use Rattle.bpf_kept_law.specs.Terms.{is_noted, frame_slots}
-use Rattle.bpf_kept_law.specs.Slots.{each_slot, misses}
-use Rattle.bpf_kept_law.specs.Rules.{is_common}
+use Rattle.bpf_kept.specs.Terms.{is_noted, frame_slots}
+use Rattle.bpf_kept.specs.Slots.{each_slot, misses}
+use Rattle.bpf_kept.specs.Rules.{is_common}
 use Rattle.bpf_kept.proofs.SlotLemmas.{one_slot, not_each}
 use Rattle.bpf_kept.proofs.commons.is_common.Goals as goal
 

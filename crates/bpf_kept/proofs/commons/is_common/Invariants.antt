@@ -1,7 +1,7 @@
 use Rattle.std.proofs.Common.{◌≡◌, true}
 use Rattle.std.specs.Prelude.{not, ◌||◌}
-use Rattle.bpf_kept_law.specs.Terms.{is_noted}
-use Rattle.bpf_kept_law.specs.Slots.{each_slot, misses}
+use Rattle.bpf_kept.specs.Terms.{is_noted}
+use Rattle.bpf_kept.specs.Slots.{each_slot, misses}
 use Rattle.bpf_kept.proofs.commons.is_common.Given as goal
 
 -- the slots so far

@@ -4,8 +4,8 @@ use Rattle.std.specs.List.{find}
 use Rattle.std.proofs.lemmas.Iterator.{YieldsList-from_slice}
 use Rattle.std.proofs.lemmas.Iterator.Search.{find_from_yields_List}
 use Rattle.bpf_insn.specs.Options.{◌>>=◌}
-use Rattle.bpf_kept_law.specs.declared.notes.Fact.{Fact}
-use Rattle.bpf_kept_law.specs.Rules.{is_pin, pinned}
+use Rattle.bpf_kept.specs.declared.notes.Fact.{Fact}
+use Rattle.bpf_kept.specs.Rules.{is_pin, pinned}
 use Rattle.bpf_kept.proofs.facts.pinned.Goals as goal
 
 pub returns-in-Some : goal.returns-in-Some

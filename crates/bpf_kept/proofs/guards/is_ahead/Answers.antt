@@ -1,6 +1,6 @@
 use Rattle.std.proofs.Common.{◌+◌, ◌-◌, ◌<◌, ◌≤◌, refl, sym, ap, ◌∙◌, arith}
 use Rattle.bpf_insn.specs.Instruction.{Instructions}
-use Rattle.bpf_kept_law.specs.Guards.{is_ahead}
+use Rattle.bpf_kept.specs.Guards.{is_ahead}
 use Rattle.bpf_kept.proofs.AheadLemmas.{ahead, stops, found, ends, goes, over}
 use Rattle.bpf_kept.proofs.guards.is_ahead.Goals as goal
 

@@ -1,5 +1,5 @@
 use Rattle.std.proofs.Common.{◌≡◌}
-use Rattle.bpf_kept_law.specs.Guards.{is_ahead}
+use Rattle.bpf_kept.specs.Guards.{is_ahead}
 use Rattle.bpf_kept.proofs.AheadLemmas.{ahead}
 use Rattle.bpf_kept.proofs.guards.is_ahead.Given as goal
 

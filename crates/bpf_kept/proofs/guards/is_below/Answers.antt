@@ -5,7 +5,7 @@ use Rattle.std.proofs.lemmas.Iterator.Search.{any_from_yields_List}
 use Rattle.std.specs.Int.{w32}
 use Rattle.std.proofs.lemmas.Int.{to_z-of_z}
 use Rattle.bpf_insn.specs.Arithmetic.{extended}
-use Rattle.bpf_kept_law.specs.Guards.{Front, guarded}
+use Rattle.bpf_kept.specs.Guards.{Front, guarded}
 use Rattle.bpf_kept.specs.Fronts.{front}
 use Rattle.bpf_kept.proofs.guards.is_below.Goals as goal
 

@@ -1,8 +1,8 @@
 use Rattle.std.proofs.Common.{◌≡◌, ◌+◌, ◌-◌, ◌≤◌, ◌++◌}
 use Rattle.std.specs.Prelude.{not}
-use Rattle.bpf_kept_law.specs.Terms.{is_noted, frame_slots}
-use Rattle.bpf_kept_law.specs.Slots.{slot_facts}
-use Rattle.bpf_kept_law.specs.Matching.{same_slot}
+use Rattle.bpf_kept.specs.Terms.{is_noted, frame_slots}
+use Rattle.bpf_kept.specs.Slots.{slot_facts}
+use Rattle.bpf_kept.specs.Matching.{same_slot}
 use Rattle.bpf_kept.specs.Knowns.{facts_in}
 use Rattle.bpf_kept.proofs.known.add_same.Given as goal
 

@@ -1,8 +1,8 @@
 use Rattle.std.proofs.Common.{◌≡◌, ◌-◌, ◌<◌, [], ◌++◌, arith, sym, ap, ◌∙◌}
 use Rattle.std.proofs.lemmas.List.{append-nil}
-use Rattle.bpf_kept_law.specs.Terms.{is_noted}
-use Rattle.bpf_kept_law.specs.Slots.{slot_facts}
-use Rattle.bpf_kept_law.specs.Matching.{is_zero_slot}
+use Rattle.bpf_kept.specs.Terms.{is_noted}
+use Rattle.bpf_kept.specs.Slots.{slot_facts}
+use Rattle.bpf_kept.specs.Matching.{is_zero_slot}
 use Rattle.bpf_kept.specs.Knowns.{facts_in}
 use Rattle.bpf_kept.proofs.SlotLemmas.{one_fact}
 use Rattle.bpf_kept.proofs.known.add_zeros.Goals as goal

@@ -1,7 +1,7 @@
 use Rattle.std.proofs.Common.{◌≡◌, ◌+◌, ◌-◌, ◌≤◌, ◌++◌}
-use Rattle.bpf_kept_law.specs.Terms.{is_noted, frame_slots}
-use Rattle.bpf_kept_law.specs.Slots.{slot_facts}
-use Rattle.bpf_kept_law.specs.Matching.{is_zero_slot}
+use Rattle.bpf_kept.specs.Terms.{is_noted, frame_slots}
+use Rattle.bpf_kept.specs.Slots.{slot_facts}
+use Rattle.bpf_kept.specs.Matching.{is_zero_slot}
 use Rattle.bpf_kept.specs.Knowns.{facts_in}
 use Rattle.bpf_kept.proofs.known.add_zeros.Given as goal
 

@@ -1,7 +1,7 @@
 use Rattle.std.proofs.Common.{◌≡◌, ◌≤◌, List, false, arith, sym, ◌∙◌}
 use Rattle.bpf_insn.specs.Instruction.{slots}
 use Rattle.bpf_insn.specs.declared.instruction.Insn.{Insn}
-use Rattle.bpf_kept_law.specs.Matching.{hands_frame}
+use Rattle.bpf_kept.specs.Matching.{hands_frame}
 use Rattle.bpf_kept.proofs.Further.{one_more}
 use Rattle.bpf_kept.proofs.WalkLemmas.{at_slot, none_holds, one_holds}
 use Rattle.bpf_kept.proofs.known.hands_none.Goals as goal

@@ -1,5 +1,5 @@
 use Rattle.std.proofs.Common.{◌≡◌, ◌<◌, ℕ, false}
-use Rattle.bpf_kept_law.specs.Matching.{hands_frame}
+use Rattle.bpf_kept.specs.Matching.{hands_frame}
 use Rattle.bpf_kept.proofs.WalkLemmas.{at_slot}
 use Rattle.bpf_kept.proofs.known.hands_none.Given as goal
 

@@ -1,8 +1,8 @@
 use Rattle.std.proofs.Common.{None, sym, ap, ◌∙◌, rules, tests}
 use Rattle.std.proofs.lemmas.Iterator.{YieldsList-from_slice}
 use Rattle.std.proofs.lemmas.Iterator.Search.{any_from_yields_List}
-use Rattle.bpf_kept_law.specs.Terms.{zero_term}
-use Rattle.bpf_kept_law.specs.Rules.{gives, known_number, change_gives, holds_behind}
+use Rattle.bpf_kept.specs.Terms.{zero_term}
+use Rattle.bpf_kept.specs.Rules.{gives, known_number, change_gives, holds_behind}
 use Rattle.bpf_kept.proofs.RuleLemmas.{or_else}
 use Rattle.bpf_kept.proofs.made.holds_behind.Goals as goal
 

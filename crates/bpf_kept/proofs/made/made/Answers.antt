@@ -4,8 +4,8 @@ use Rattle.std.specs.Option.{option_map_or}
 use Rattle.std.proofs.lemmas.Iterator.{YieldsList-from_slice}
 use Rattle.std.proofs.lemmas.Iterator.Search.{any_from_yields_List}
 use Rattle.bpf_insn.specs.declared.instruction.Insn.TheVariants.{LoadImm64}
-use Rattle.bpf_kept_law.specs.Terms.{constant}
-use Rattle.bpf_kept_law.specs.Rules.{is_moved, known_number, of_number}
+use Rattle.bpf_kept.specs.Terms.{constant}
+use Rattle.bpf_kept.specs.Rules.{is_moved, known_number, of_number}
 use Rattle.bpf_kept.proofs.RuleLemmas.{or_else, made_constant}
 use Rattle.bpf_kept.proofs.made.made.Goals as goal
 

@@ -2,7 +2,7 @@ use Rattle.std.proofs.Common.{refl, sym, ◌∙◌, arith, None, inl, inr}
 use Rattle.std.proofs.lemmas.Bool.{false≢true, cases_lt}
 use Rattle.std.proofs.lemmas.Option.{none-some}
 use Rattle.std.proofs.lemmas.List.{get_or_past}
-use Rattle.bpf_kept_law.specs.Matching.{HoldsAt}
+use Rattle.bpf_kept.specs.Matching.{HoldsAt}
 use Rattle.bpf_kept.specs.Shown.{bounds_of}
 use Rattle.bpf_kept.proofs.Further.{one_more}
 use Rattle.bpf_kept.proofs.pass.all_hold.Goals as goal

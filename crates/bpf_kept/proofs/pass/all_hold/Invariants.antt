@@ -1,5 +1,5 @@
 use Rattle.std.proofs.Common.{◌<◌, ℕ}
-use Rattle.bpf_kept_law.specs.Matching.{HoldsAt}
+use Rattle.bpf_kept.specs.Matching.{HoldsAt}
 use Rattle.bpf_kept.specs.Shown.{bounds_of}
 use Rattle.bpf_kept.proofs.pass.all_hold.Given as goal
 

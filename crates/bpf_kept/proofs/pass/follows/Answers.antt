@@ -1,6 +1,6 @@
 use Rattle.std.proofs.Common.{refl}
 use Rattle.bpf_insn.specs.Instruction.{Instructions}
-use Rattle.bpf_kept_law.specs.Matching.{Matches}
+use Rattle.bpf_kept.specs.Matching.{Matches}
 use Rattle.bpf_kept.specs.Shown.{bounds_of}
 use Rattle.bpf_kept.proofs.ShownLemmas.{kept}
 use Rattle.bpf_kept.proofs.pass.follows.Goals as goal

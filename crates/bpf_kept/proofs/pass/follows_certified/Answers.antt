@@ -1,7 +1,7 @@
 use Rattle.std.proofs.Common.{refl, sym, ◌∙◌}
 use Rattle.std.proofs.lemmas.Bool.{false≢true}
 use Rattle.bpf_insn.specs.Instruction.{Instructions}
-use Rattle.bpf_kept_law.specs.Matching.{Matches}
+use Rattle.bpf_kept.specs.Matching.{Matches}
 use Rattle.bpf_kept.specs.Shown.{bounds_of}
 use Rattle.bpf_kept.specs.NoteFaults.{IsFaultBeside}
 use Rattle.bpf_kept.proofs.ShownLemmas.{kept}

@@ -3,7 +3,7 @@ use Rattle.std.specs.List.{list_all}
 use Rattle.std.specs.Option.{option_map_or}
 use Rattle.std.proofs.lemmas.Iterator.{YieldsList-from_slice}
 use Rattle.std.proofs.lemmas.Iterator.Search.{all_from_yields_List}
-use Rattle.bpf_kept_law.specs.Rules.{is_low}
+use Rattle.bpf_kept.specs.Rules.{is_low}
 use Rattle.bpf_kept.proofs.ReadLemmas.{all_there}
 use Rattle.bpf_kept.proofs.results.all_low.Goals as goal
 

@@ -3,7 +3,7 @@ use Rattle.bpf_insn.specs.Instruction.{slots}
 use Rattle.bpf_safety.specs.Certified.{IsLeastFlaw}
 use Rattle.bpf_check.specs.CheckedProgram.{IsCertifiedBy}
 use Rattle.bpf_check.specs.RefusalNumbers.{refusal_number, refusal_slot}
-use Rattle.bpf_infer_error.specs.RefusalNumbers.{infer_slot}
+use Rattle.bpf_infer_base.specs.RefusalNumbers.{infer_slot}
 use Rattle.bpf_answers.specs.declared.answer.Answer.TheVariants.{NotProposed}
 use Rattle.bpf_command.specs.Inferred.{IsProposal}
 use Rattle.bpf_command.proofs.ExplainedLemmas.{judges_by, sought}

@@ -3,7 +3,7 @@ use Rattle.std.proofs.lemmas.Result.{err_from_is_err_and}
 use Rattle.bpf_insn.specs.Instruction.{slots}
 use Rattle.bpf_insn.specs.Image.{image as image_of}
 use Rattle.bpf_answers.specs.Loaded.{LoadsImage}
-use Rattle.bpf_places.specs.Made.{making}
+use Rattle.bpf_answers.specs.Made.{making}
 use Rattle.bpf_answers.specs.declared.failure.Failure.TheVariants.{CannotWrite, NoMemory}
 use Rattle.bpf_answers.proofs.MadeLemmas.{on_failure}
 use Rattle.bpf_command.proofs.HardenedLemmas.{all_stand, made_of, out_fails, texts_fail}

@@ -1,5 +1,5 @@
 use Rattle.std.proofs.Common.{inl, rules, IfErr}
-use Rattle.bpf_places.specs.Made.{making}
+use Rattle.bpf_answers.specs.Made.{making}
 use Rattle.bpf_answers.proofs.MadeLemmas.{on_failure}
 use Rattle.bpf_command.specs.Hardened.{Unput}
 use Rattle.bpf_command.proofs.HardenedLemmas.{both_put, changes_left, changes_unput, notes_unput}

@@ -1,4 +1,4 @@
-use Rattle.bpf_places.specs.Made.{making}
+use Rattle.bpf_answers.specs.Made.{making}
 use Rattle.bpf_command.proofs.HardenedLemmas.{put_fault}
 use Rattle.bpf_command.proofs.commands.harden.put_if.Goals as goal
 

@@ -1,0 +1,5 @@
+mod FillLemmas
+mod CaptureLemmas
+pub mod ReplayLemmas
+mod CountLemmas
+mod PutLemmas

@@ -1,0 +1,13 @@
+-- The block into which a packet is laid.
+use Rattle.std.specs.Prelude.{ℕ, ◌-◌, ◌^◌, ◌<◌, List, ◌++◌, length, take, replicate}
+use Rattle.bpf_insn.specs.Order.{bytes_of}
+use Rattle.bpf_insn.specs.declared.order.Order.{Order}
+use Rattle.bpf_semantics.specs.Blocks.{IsBlock, head_bytes}
+
+-- so many bytes: the packet's length in eight bytes, the packet cut to the room behind them, and zeros
+abbrev pub block_of : Order → ℕ → List ℕ → List ℕ
+block_of order size packet = bytes_of order head_bytes (length packet) ++ take (size - head_bytes) (packet ++ replicate (size - head_bytes) 0)
+
+-- It holds the packet, cut to that room.
+abbrev pub BlockHolds : Type 0
+BlockHolds = (order : Order) (size : ℕ) (packet : List ℕ) → length packet < 2 ^ 64 → IsBlock order (take (size - head_bytes) packet) (block_of order size packet)

@@ -1,0 +1,7 @@
+use Rattle.std.proofs.Common.{◌≡◌}
+use Rattle.bpf_classic.specs.Meaning.{insns}
+use Rattle.bpf_classic.proofs.marks.arrive_back.Given as goal
+
+-- the instructions stay as they are
+abbrev pub invariant-loop-at : goal.invariant-loop-at
+invariant-loop-at l = insns l.list.items ≡ insns l.initial.list.items

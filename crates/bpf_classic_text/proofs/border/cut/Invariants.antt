@@ -1,5 +1,0 @@
-use Rattle.bpf_classic_text.proofs.PartLemmas.{Lacks}
-use Rattle.bpf_classic_text.proofs.border.cut.Given as goal
-
-abbrev pub invariant-loop-at : goal.invariant-loop-at
-invariant-loop-at l = Lacks l.border l.text l.at

@@ -1,2 +1,0 @@
--- which text is written, what is answered, and what is put at OUT
-pub mod Emitted

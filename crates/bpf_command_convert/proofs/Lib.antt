@@ -1,2 +1,0 @@
-pub mod ConvertedLemmas
-pub mod StandingLemmas

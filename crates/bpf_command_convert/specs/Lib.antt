@@ -1,6 +1,0 @@
--- what the bytes at a name spell, and what is made of it
-pub mod Spelled
--- what comes to stand at the names of a conversion
-pub mod Standing
--- what comes of a filter, and what is put at the names of the answers
-pub mod Converted

@@ -1,5 +1,0 @@
-use Rattle.bpf_convert.proofs.Spending.{more_turns_keep_answers}
-use Rattle.bpf_convert.proofs.laws.more_turns_keep_answers.Goals as goal
-
-pub returns : goal.returns
-returns c = more_turns_keep_answers

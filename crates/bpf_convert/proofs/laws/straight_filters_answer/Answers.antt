@@ -1,5 +1,0 @@
-use Rattle.bpf_convert.proofs.Spending.{straight_filters_answer}
-use Rattle.bpf_convert.proofs.laws.straight_filters_answer.Goals as goal
-
-pub returns : goal.returns
-returns c = straight_filters_answer

@@ -1,7 +1,0 @@
-use Rattle.std.proofs.Common.{◌-◌, length}
-use Rattle.bpf_convert.proofs.Tables.{TableFrom}
-use Rattle.bpf_convert.proofs.writing.slots_from.Given as goal
-
--- the table is right for the instructions behind
-abbrev pub invariant-back : goal.invariant-back
-invariant-back l = TableFrom l.layout l.list (length l.list - l.back) l.table.items l.slots

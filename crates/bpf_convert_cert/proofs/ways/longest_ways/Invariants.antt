@@ -1,7 +1,0 @@
-use Rattle.std.proofs.Common.{◌-◌, length}
-use Rattle.bpf_convert_cert.proofs.LongestLemmas.{WaysFrom}
-use Rattle.bpf_convert_cert.proofs.ways.longest_ways.Given as goal
-
--- the ways behind are right
-abbrev pub invariant-back : goal.invariant-back
-invariant-back l = WaysFrom l.program.list (length l.program.list - l.back) l.ways.items

@@ -1,2 +1,0 @@
--- what is made of a filter
-pub mod Made

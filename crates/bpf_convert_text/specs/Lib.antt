@@ -1,2 +1,0 @@
--- the listing of a filter's program
-pub mod Listed

@@ -1,7 +1,0 @@
-pub mod Spelled
-pub mod Decimals
-pub mod Again
-pub mod Found
-pub mod Said
-pub mod Whole
-pub mod Loops

@@ -1,0 +1,46 @@
+//! Runs of prepared programs.
+
+ghost use Rattle.std.specs.Prelude.{◌≤◌, ◌↔◌, IsSome, IfSome, length};
+ghost use Rattle.bpf_host_calls.specs.Answers.{IsVerifiedFor, MayRun, EndsAsVerified, EndsAsPrepared};
+ghost use Rattle.bpf_host_calls.specs.Prepared.{IsMarked, IsWhole, prepared_head};
+ghost use Rattle.bpf_host_calls.specs.Told.{order_named};
+
+use crate::ordered::Ordered;
+use crate::prepared::found_in;
+use bpf_flat::run;
+use bpf_insn::Order;
+use bpf_semantics::{finish_is_last, runs_are_one, stuck_has_reason};
+
+/// The number with which the program of a verified image in the byte order of a number ends on a context.
+fn end_in<const ORDER: u32>(image: &[u8], context: &[u8]) -> u64
+    requires { IsVerifiedFor (order_named ORDER) image.now context.now }
+    ensures { EndsAsVerified (order_named ORDER) image.now context.now result }
+{
+    finish_is_last();
+    stuck_has_reason();
+    runs_are_one();
+    let program: Ordered<'_, ORDER> = Ordered::of(image);
+    run(&program, context, u32::MAX)
+}
+
+/// The number with which the program of a verified image ends on a context.
+pub(crate) fn end_of_image(image: &[u8], order: Order, context: &[u8]) -> u64
+    requires { IsVerifiedFor order image.now context.now }
+    ensures { EndsAsVerified order image.now context.now result }
+{
+    match order {
+        Order::Little => end_in::<0>(image, context),
+        Order::Big => end_in::<1>(image, context),
+    }
+}
+
+/// The number with which a prepared program ends on a context; None where another version prepared it, or words of it aren't there.
+pub(crate) fn end_of(memory: &[u8], context: &[u8]) -> Option<u64>
+    requires head { prepared_head ≤ length memory.now }
+    requires may { IsMarked memory.now → IsWhole memory.now → MayRun memory.now context.now }
+    ensures ends { IfSome result (EndsAsPrepared memory.now context.now) }
+    ensures known { IsSome result ↔ (IsMarked memory.now × IsWhole memory.now) }
+{
+    let found = found_in(memory)?;
+    Some(end_of_image(found.image, found.order, context))
+}

@@ -1,0 +1,73 @@
+//! The call for hosts that makes an image of a filter of classic BPF, on what C hands over. `bpf_host` exports it
+//! under C's name.
+
+ghost use Rattle.std.specs.Prelude.{◌≡◌, ◌⊎◌, ◌↔◌, ◌<◌, false};
+ghost use Rattle.bpf_host_calls.specs.Told.{order_named};
+ghost use Rattle.bpf_host_calls.specs.Forms.{form_part, form_asked, may_have, wanted_as};
+ghost use Rattle.bpf_host_calls.specs.Converted.{GivesConverted, IsNotConverted, WantsConvertedRoom};
+ghost use Rattle.bpf_host_calls.specs.declared.answers.TheConstants.{YES, NO, NO_MEMORY, BAD_CALL, TOO_SMALL};
+
+use crate::answers::{BAD_CALL, BpfRefusal, NO, NO_MEMORY, order_of};
+use crate::asked::ConvertAsked;
+use crate::conversion::{BpfConverted, Given, conversion, give_both};
+use crate::forms::{form_of, form_part, may_have, wanted_by};
+use crate::unconverted::Unmade;
+use std::alloc::Global;
+
+/// Makes an image of a filter of classic BPF, whose instructions are eight bytes each with numbers in the order `filter_order`, for contexts of
+/// exactly `size` bytes in a form: 0 blocks of a packet's length, the packet and padding, 1 packets, 2 `struct seccomp_data`, 3 blocks with
+/// sixteen words of Linux's auxiliary data between the length and the packet; and a certificate. The form stands in the low 16 bits of `form`; the
+/// high 16 say how often a run may jump back, 0 as often as is usual.
+/// 1: `converted` says how many of the first bytes of `made` are the image and how many of `text` the certificate, which certifies it with the
+/// bound that is told. On each such context the image's program ends with what the filter answers, with 0 where the filter's run jumps back more often. 0: the bytes are no filter, and `refusal` says why, by
+/// B with the instruction. -1: memory ran out. -2: an order is neither 0 nor 1, the form is above 3, or no context of the form has `size` bytes. -3:
+/// `made` or `text` has less room than `converted` says. What isn't answered stays as it was. What comes out was checked: `verify` of
+/// `bpf_host_calls` says yes of it.
+pub fn convert(
+    alloc: Global,
+    filter: &[u8],
+    asked: ConvertAsked,
+    made: &mut [u8],
+    text: &mut [u8],
+    converted: &mut BpfConverted,
+    refusal: &mut BpfRefusal,
+) -> i32
+    ensures given { result ≡ YES → GivesConverted (order_named asked.filter_order) filter.now (wanted_as asked) converted.new made.old made.new text.old text.new }
+    ensures small { result ≡ TOO_SMALL → WantsConvertedRoom (order_named asked.filter_order) filter.now (wanted_as asked) converted.new made.old text.old }
+    ensures refused { result ≡ NO → IsNotConverted (order_named asked.filter_order) filter.now (form_asked asked.form) refusal.new }
+    ensures call { (result ≡ BAD_CALL) ↔ ((1 < asked.filter_order) ⊎ ((1 < asked.order) ⊎ ((3 < form_part asked.form) ⊎ (may_have (form_asked asked.form) asked.size ≡ false)))) }
+    ensures answers { (result ≡ YES) ⊎ (result ≡ NO) ⊎ (result ≡ NO_MEMORY) ⊎ (result ≡ BAD_CALL) ⊎ (result ≡ TOO_SMALL) }
+    ensures made_kept { (result ≡ YES) ⊎ (made.new ≡ made.old) }
+    ensures text_kept { (result ≡ YES) ⊎ (text.new ≡ text.old) }
+    ensures converted_kept { (result ≡ YES) ⊎ (result ≡ TOO_SMALL) ⊎ (converted.new ≡ converted.old) }
+    ensures refusal_kept { (result ≡ NO) ⊎ (refusal.new ≡ refusal.old) }
+{
+    let Some(filter_order) = order_of(u64::from(asked.filter_order)) else {
+        return BAD_CALL;
+    };
+    let Some(order) = order_of(u64::from(asked.order)) else {
+        return BAD_CALL;
+    };
+    let Some(named) = form_of(form_part(asked.form)) else {
+        return BAD_CALL;
+    };
+    if !may_have(named, asked.size) {
+        return BAD_CALL;
+    }
+    let given = Given {
+        filter,
+        order: filter_order,
+    };
+    let wanted = wanted_by(named, asked.form, asked.size, order);
+    match conversion(alloc, given, wanted) {
+        Ok(found) => {
+            *converted = found.told;
+            give_both(&found, made, text)
+        }
+        Err(Unmade::Memory) => NO_MEMORY,
+        Err(Unmade::Refused(told)) => {
+            *refusal = told;
+            NO
+        }
+    }
+}

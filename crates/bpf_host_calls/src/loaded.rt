@@ -1,0 +1,71 @@
+//! Handles: a verdict's numbers in front of the prepared program that it is about, in memory that the caller gives.
+
+ghost use Rattle.std.specs.Prelude.{◌≡◌, ◌≤◌, ◌+◌, ◌*◌, ◌↔◌, IsTrue, IsSome, IfSome, List, ℕ, length, drop};
+ghost use Rattle.bpf_insn.specs.Limits.{max_slots};
+ghost use Rattle.bpf_insn.specs.declared.order.Order.{Order as ByteOrderOf};
+ghost use Rattle.bpf_host_calls.specs.Prepared.{IsPrepared, prepared_head};
+ghost use Rattle.bpf_host_calls.specs.Loaded.{handle_head, IsLoaded, IsMarkedHandle, IsWholeHandle, HasRange, loaded_least, loaded_most};
+
+use crate::answers::BpfVerdict;
+use crate::prepared::{Found, found_in, put};
+use bpf_insn::Order;
+use byteorder::{ByteOrder, LittleEndian};
+
+/// How many bytes stand before the prepared program: the verdict's three numbers, each of eight bytes.
+const RANGE: usize = 24;
+
+/// How many bytes stand before the image.
+const HEAD: usize = RANGE + 16;
+
+/// How many bytes the handle of an image takes.
+pub(crate) fn handle_size(len: usize) -> usize
+    requires { len ≤ 8 * max_slots }
+    ensures { result ≡ handle_head + len }
+{
+    HEAD + len
+}
+
+/// Whether memory is as large as the handle of an image of `len` bytes.
+pub(crate) fn has_handle_room(memory: &[u8], len: usize) -> bool
+    ensures { IsTrue result ↔ (length memory.now ≡ handle_head + len) }
+{
+    memory.len() >= HEAD && memory.len() - HEAD == len
+}
+
+/// Writes a verdict's numbers.
+fn put_range(verdict: BpfVerdict, memory: &mut [u8])
+    requires { 24 ≤ length memory.old }
+    ensures numbers { HasRange verdict.least verdict.most verdict.bound memory.new }
+    ensures as_long { length memory.new ≡ length memory.old }
+{
+    LittleEndian::write_u64(memory, u64::from(verdict.least));
+    LittleEndian::write_u64(&mut memory[8..], u64::from(verdict.most));
+    LittleEndian::write_u64(&mut memory[16..], u64::from(verdict.bound));
+}
+
+/// Writes the handle of an image.
+pub(crate) fn put_loaded(image: &[u8], order: Order, verdict: BpfVerdict, memory: &mut [u8])
+    requires { length memory.old ≡ handle_head + length image.now }
+    ensures { IsLoaded order image.now verdict.least verdict.most verdict.bound memory.new }
+{
+    put_range(verdict, memory);
+    put(image, order, &mut memory[RANGE..]);
+}
+
+/// Whether a context's length is in the range of a handle.
+pub(crate) fn takes(memory: &[u8], len: usize) -> bool
+    requires { prepared_head ≤ length memory.now }
+    ensures { IsTrue result ↔ ((loaded_least memory.now ≤ len) × (len ≤ loaded_most memory.now)) }
+{
+    let len = len as u64;
+    LittleEndian::read_u64(memory) <= len && len <= LittleEndian::read_u64(&memory[8..])
+}
+
+/// What stands prepared in a handle; None where another version wrote it, or words of it aren't there.
+pub(crate) fn found_loaded(memory: &[u8]) -> Option<Found<'_>>
+    requires { handle_head ≤ length memory.now }
+    ensures found { IfSome result (λ f. (order : ByteOrderOf) (image : List ℕ) → IsPrepared order image (drop 24 memory.now) → (f.image.now ≡ image) × (f.order ≡ order)) }
+    ensures known { IsSome result ↔ (IsMarkedHandle memory.now × IsWholeHandle memory.now) }
+{
+    found_in(&memory[RANGE..])
+}

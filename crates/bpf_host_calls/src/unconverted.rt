@@ -1,0 +1,28 @@
+//! Why no program is made of a filter, as C sees it.
+
+ghost use Rattle.std.specs.Prelude.{◌≡◌};
+ghost use Rattle.bpf_host_calls.specs.ToldConverted.{TellsConversion};
+
+use crate::answers::{BpfRefusal, told_refusal};
+use bpf_conversion::ConvertError;
+use bpf_refusals::{FILTER_MEMORY, Tells};
+
+/// Why no image is made of a filter.
+#[derive(Clone, Copy)]
+pub(crate) enum Unmade {
+    /// Memory ran out.
+    Memory,
+    /// The bytes are no filter, or its certificate is refused.
+    Refused(BpfRefusal),
+}
+
+/// Why no program is made of instructions.
+pub(crate) fn of_conversion(error: ConvertError) -> Unmade
+    ensures { TellsConversion error result }
+{
+    let told = error.told();
+    if told.number == FILTER_MEMORY {
+        return Unmade::Memory;
+    }
+    Unmade::Refused(told_refusal(told))
+}

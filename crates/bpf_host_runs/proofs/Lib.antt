@@ -1,3 +1,0 @@
-pub mod EndLemmas
-pub mod VerdictLemmas
-pub mod LoadedLemmas

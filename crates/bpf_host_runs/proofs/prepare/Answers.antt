@@ -1,5 +1,0 @@
-use Rattle.std.proofs.Common.{rules}
-use Rattle.bpf_host_runs.proofs.prepare.Goals as goal
-
-pub returns-clause-prepared : goal.returns-clause-prepared
-returns-clause-prepared c = search rules

@@ -1,0 +1,32 @@
+-- What the simulation is given: both programs, notes that match, a context, the old program's two runs, and that the new one is never stuck.
+use Rattle.std.proofs.Common.{◌≡◌, ℕ, false, List, length}
+use Rattle.bpf_insn.specs.Image.{IsProgram}
+use Rattle.bpf_insn.specs.Laws.{AreBytes}
+use Rattle.bpf_insn.specs.declared.order.Order.{Order}
+use Rattle.bpf_insn.specs.declared.instruction.Insn.{Insn}
+use Rattle.bpf_semantics.specs.State.{State, start}
+use Rattle.bpf_semantics.specs.Step.{IsStuck}
+use Rattle.bpf_semantics.specs.Run.{Steps}
+use Rattle.bpf_kept.specs.Far.{near, wide}
+use Rattle.bpf_kept.specs.Meaning.{Bounds, FlatEnds}
+use Rattle.bpf_kept.specs.Matching.{Notes, Matches}
+use Rattle.bpf_kept.proofs.Simulation.{program}
+
+pub record Setting : Type 0 where
+  pub order : Order
+  pub is : List Insn
+  pub js : List Insn
+  pub notes : Notes
+  pub bounds : Bounds
+  pub old_valid : IsProgram is
+  pub new_valid : IsProgram js
+  pub matches : Matches (program order is) (program order js) notes bounds
+  pub context : List ℕ
+  pub bytes : AreBytes context
+  pub long : length context ≡ bounds.length
+  pub never : (k : ℕ) (s : State) → Steps (program order js) k (start context) s → IsStuck (program order js) s → ⊥
+  pub v : ℕ
+  pub k : ℕ
+  pub l : ℕ
+  pub near_ends : FlatEnds (near false) (program order is) context bounds v k
+  pub wide_ends : FlatEnds (wide false) (program order is) context bounds v l

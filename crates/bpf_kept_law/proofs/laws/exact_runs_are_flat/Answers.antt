@@ -1,5 +1,0 @@
-use Rattle.bpf_kept_law.proofs.ExactLaw.{exact_runs_are_flat}
-use Rattle.bpf_kept_law.proofs.laws.exact_runs_are_flat.Goals as goal
-
-pub returns : goal.returns
-returns c = exact_runs_are_flat

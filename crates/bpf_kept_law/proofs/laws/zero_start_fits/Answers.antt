@@ -1,5 +1,0 @@
-use Rattle.bpf_kept_law.proofs.ZeroLaw.{zero_start_fits}
-use Rattle.bpf_kept_law.proofs.laws.zero_start_fits.Goals as goal
-
-pub returns : goal.returns
-returns c = zero_start_fits

@@ -1,2 +1,0 @@
-mod FillLemmas
-mod CaptureLemmas

@@ -1,5 +1,0 @@
-use Rattle.bpf_pcap.proofs.CaptureLemmas.{rest_is_there}
-use Rattle.bpf_pcap.proofs.capture.rest_is_there.Goals as goal
-
-pub returns : goal.returns
-returns c = rest_is_there

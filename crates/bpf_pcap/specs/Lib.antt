@@ -1,8 +1,0 @@
--- the form of a capture file
-pub mod Capture
--- the block of a packet
-pub mod Block
--- what is taken of a file
-pub mod Taken
--- the numbers of refusals
-pub mod Refused

@@ -1,3 +1,0 @@
-pub mod Opened
-pub mod Made
-pub mod Causes

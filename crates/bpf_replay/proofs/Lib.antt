@@ -1,3 +1,0 @@
-pub mod ReplayLemmas
-mod CountLemmas
-mod PutLemmas

@@ -1,5 +1,0 @@
-use Rattle.bpf_sound.proofs.NotStuck.{not_stuck_inside}
-use Rattle.bpf_sound.proofs.laws.not_stuck_inside.Goals as goal
-
-pub returns : goal.returns
-returns c = not_stuck_inside c.constant_has.ensures c.tighten_keeps.ensures
