@@ -1,7 +1,7 @@
 //! The command `bpf`: a toolchain for eBPF programs that hosts can trust.
 #![tactic(auto)]
 
-use bpf_answers::{Cause, Failure, Fault, FilePlaces, Noted};
+use bpf_answers::{Cause, Failure, FilePlaces, LastFault, Noted};
 use bpf_command::{Progress, fail, respond};
 use std::io::{ErrorKind, IsTerminal};
 use std::process::ExitCode;
@@ -14,7 +14,7 @@ fn words_of(rt: &(impl Env + AllocGlobal)) -> io::Result<Vec<String>> {
 }
 
 fn main(rt: HostRuntime) -> ExitCode {
-    let fault = Fault::new();
+    let fault = LastFault::new();
     let mut out = Noted::new(rt.stdout(), &fault);
     let mut err = rt.stderr();
     let status = match words_of(&rt) {

@@ -12,8 +12,8 @@ use Rattle.bpf_answers.specs.Each.{LinesLeft}
 use Rattle.bpf_answers.specs.Lines.{AllAnswered, BegunLines, FirstRefused, LineSays, LinesSay, NextLine, Spelled, Turns, RefusedLine, lines_in, line_context, max_line, onto, texts_of, worst}
 use Rattle.bpf_answers.specs.declared.context.ContextError.{ContextError}
 use Rattle.bpf_answers.specs.declared.context.ContextError.TheVariants.{TooLong}
-use Rattle.bpf_answers.specs.declared.each.Turn.{Turn}
-use Rattle.bpf_answers.specs.declared.each.Turn.TheVariants.{Context, End, Refused, Failed}
+use Rattle.bpf_answers.specs.declared.each.NextContext.{NextContext}
+use Rattle.bpf_answers.specs.declared.each.NextContext.TheVariants.{Context, End, Refused, Failed}
 
 -- ---- lines
 
@@ -109,7 +109,7 @@ long_refused (Some text) (Some rest) line b one h is took =
     let long : max_line < length (line ++ b ∷ []) = let l = length-append line (b ∷ []) in omega (arith, l, is) in
     subst (λ t. FirstRefused t TooLong) (sym took) (long_text (line ++ b ∷ []) rest (one_more line b one h) long)
 
-pub turns : (old new : Option (List ℕ)) (line buffer : List ℕ) (turn : Turn) → NextLine old new line → Spelled line buffer turn → Turns old new buffer turn
+pub turns : (old new : Option (List ℕ)) (line buffer : List ℕ) (turn : NextContext) → NextLine old new line → Spelled line buffer turn → Turns old new buffer turn
 turns old new line buffer (Context count) next h = (line, next, h)
 turns old new line buffer End next h = absurd h
 turns old new line buffer (Refused error) next h = first_refused old new line error next h

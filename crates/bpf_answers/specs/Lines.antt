@@ -6,8 +6,8 @@ use Rattle.bpf_answers.specs.Context.{context_in}
 use Rattle.bpf_answers.specs.Answer.{Answer, status_of, text_of}
 use Rattle.bpf_answers.specs.declared.context.ContextError.{ContextError}
 use Rattle.bpf_answers.specs.declared.context.ContextError.TheVariants.{TooLong}
-use Rattle.bpf_answers.specs.declared.each.Turn.{Turn}
-use Rattle.bpf_answers.specs.declared.each.Turn.TheVariants.{Context, End, Refused, Failed}
+use Rattle.bpf_answers.specs.declared.each.NextContext.{NextContext}
+use Rattle.bpf_answers.specs.declared.each.NextContext.TheVariants.{Context, End, Refused, Failed}
 
 -- ---- lines
 
@@ -45,14 +45,14 @@ pub record FirstRefused (text : List ℕ) (error : ContextError) : Type 0 where
   pub refused : line_context line ≡ Err error
 
 -- the line's context stands at the front of the buffer, or why it has none
-abbrev pub Spelled : List ℕ → List ℕ → Turn → Type 0
+abbrev pub Spelled : List ℕ → List ℕ → NextContext → Type 0
 Spelled line buffer (Context count) = (count ≤ max_context) × (line_context line ≡ Ok (take count buffer))
 Spelled line buffer End = ⊥
 Spelled line buffer (Refused error) = line_context line ≡ Err error
 Spelled line buffer Failed = ⊥
 
 -- what is found of the next context, which stands at the front of the buffer
-abbrev pub Turns : Option (List ℕ) → Option (List ℕ) → List ℕ → Turn → Type 0
+abbrev pub Turns : Option (List ℕ) → Option (List ℕ) → List ℕ → NextContext → Type 0
 Turns old new buffer (Context count) = (line : List ℕ) × NextLine old new line × Spelled line buffer (Context count)
 Turns old new buffer End = IfSome old (λ text. lines_in text ≡ [])
 Turns old new buffer (Refused error) = IfSome old (λ text. FirstRefused text error)

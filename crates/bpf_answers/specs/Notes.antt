@@ -2,7 +2,7 @@
 use Rattle.std.specs.Prelude.{◌≡◌, ◌⊎◌, ◌<◌, ℕ, ◌+◌, ◌*◌, List, length, Option, Result, MatchResult}
 use Rattle.std.specs.Global.{Vec}
 use Rattle.std.specs.List.{AllByRecursion}
-use Rattle.bpf_follows.specs.declared.notes.Place.{Place}
+use Rattle.bpf_follows.specs.declared.notes.Counterpart.{Counterpart}
 use Rattle.bpf_follows.specs.NotesText.{max_lines, SaysAll, notes_text}
 use Rattle.bpf_follows.specs.Refused.{IsRefused}
 use Rattle.bpf_follows.specs.declared.error.NotesError.{NotesError}
@@ -17,14 +17,14 @@ abbrev pub max_notes : ℕ
 max_notes = 3072 * (max_lines + 1)
 
 -- the text at the name is that of the notes, each of which says something of all places: there is one such list
-abbrev pub LoadsNotes : {S : Type 0} → Opening S → S → List ℕ → S → List (Option Place) → Type 0
+abbrev pub LoadsNotes : {S : Type 0} → Opening S → S → List ℕ → S → List (Option Counterpart) → Type 0
 LoadsNotes opening old name new notes = TextAt opening old name new (λ text. AllByRecursion SaysAll notes × (text ≡ notes_text notes))
 
 abbrev pub NotesRefused : {S : Type 0} → Opening S → S → List ℕ → S → NotesError → Type 0
 NotesRefused opening old name new e = TextAt opening old name new (λ text. IsRefused text e)
 
 -- the notes that were read at the name, or why their text is refused
-abbrev pub ReadsNotesAt : {S : Type 0} → Opening S → S → List ℕ → S → Result (Vec (Option Place)) NotesError → Type 0
+abbrev pub ReadsNotesAt : {S : Type 0} → Opening S → S → List ℕ → S → Result (Vec (Option Counterpart)) NotesError → Type 0
 ReadsNotesAt opening old name new read = MatchResult read (λ v. LoadsNotes opening old name new v.items) (NotesRefused opening old name new)
 
 -- the name can't be opened, its reader fails, or its text is longer

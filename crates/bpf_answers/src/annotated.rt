@@ -13,13 +13,13 @@ use std::marker::Model;
 
 /// A program with its image, and the comments that its listing has.
 #[derive(Drop)]
-pub struct Annotated {
+pub struct CommentedListing {
     program: Program,
     bytes: Vec<u8>,
     notes: Notes,
 }
 
-impl Model for Annotated {
+impl Model for CommentedListing {
     ghost use Rattle.std.specs.Prelude.{◌≡◌};
     ghost use Rattle.bpf_insn.specs.Image.{image};
     ghost use Rattle.bpf_answers.specs.Commented.{Commented};
@@ -31,14 +31,14 @@ impl Model for Annotated {
     ghost invariant = { λ a. a.bytes.items ≡ image a.program.order a.program.list };
 }
 
-impl Annotated {
+impl CommentedListing {
     /// The listing of a program, of which these are the image.
     pub fn new(program: Program, bytes: Vec<u8>, notes: Notes) -> Self
         requires { bytes.items ≡ image program.order program.list }
         ensures notes { result.notes ≡ notes }
         ensures program { result.program ≡ program }
     {
-        Annotated {
+        CommentedListing {
             program,
             bytes,
             notes,

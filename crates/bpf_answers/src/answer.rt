@@ -6,7 +6,7 @@ ghost use Rattle.bpf_insn.specs.Written.{AppendsBeginning, Gathers};
 ghost use Rattle.bpf_answers.specs.Answer.{Says, is_written, status_of, status_of_run, text_of};
 ghost use Rattle.bpf_answers.specs.Told.{OutputFails};
 
-use crate::annotated::Annotated;
+use crate::annotated::CommentedListing;
 use crate::certified::Certification;
 use crate::counted::Counted;
 use crate::failure::{DONE, Failure, REFUSED};
@@ -86,7 +86,7 @@ pub enum Answer {
     /// The instructions of a program.
     Lists(Program),
     /// The same with comments.
-    Annotates(Annotated),
+    Annotates(CommentedListing),
     /// What was asked for was written at a name.
     Written,
     /// The same of a hardened image that is shown to keep the meaning of runs that leave so many bytes of each frame to r10, which nobody

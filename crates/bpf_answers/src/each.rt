@@ -16,7 +16,7 @@ use crate::places::Places;
 use arrayvec::ArrayVec;
 use bpf_insn::MAX_CONTEXT;
 use bpf_insn::written::Pending;
-use bpf_streams::{LineReader, Stop};
+use bpf_streams::{LineReader, LineStop};
 use std::io::{Read, Write};
 
 /// The greatest length of a line, which spells the longest context.
@@ -38,7 +38,7 @@ pub trait Runner {
 
 /// What is found of the next context.
 #[derive(Clone, Copy)]
-pub enum Turn {
+pub enum NextContext {
     /// It has so many bytes, which stand at the front of the buffer.
     Context(usize),
     /// There is none.
@@ -50,18 +50,18 @@ pub enum Turn {
 }
 
 /// Puts the context that a line spells at the front of the buffer.
-fn put_context(line: &[u8], buffer: &mut [u8]) -> Turn
+fn put_context(line: &[u8], buffer: &mut [u8]) -> NextContext
     requires short { length line.now ≤ max_line }
     requires room { length buffer.old ≡ max_context }
     ensures { Spelled line.now buffer.new result }
 {
     if line == b"none".as_slice() {
-        return Turn::Context(0);
+        return NextContext::Context(0);
     }
     let count = line.len() / 2;
     match hex::decode_to_slice(line, &mut buffer[..count]) {
-        Ok(()) => Turn::Context(count),
-        Err(_) => Turn::Refused(ContextError::BadHex),
+        Ok(()) => NextContext::Context(count),
+        Err(_) => NextContext::Refused(ContextError::BadHex),
     }
 }
 
@@ -70,18 +70,18 @@ fn next_context<R: Read + Drop>(
     lines: &mut LineReader<R>,
     line: &mut ArrayVec<u8, MAX_LINE>,
     buffer: &mut [u8],
-) -> Turn
+) -> NextContext
     requires { length buffer.old ≡ max_context }
     ensures { Turns lines.old lines.new buffer.new result }
 {
     line.clear();
     let stop = lines.next_line(line);
     match stop {
-        Stop::Failed => Turn::Failed,
-        Stop::Long => Turn::Refused(ContextError::TooLong),
-        Stop::End if line.is_empty() => Turn::End,
-        Stop::End => put_context(line.as_slice(), buffer),
-        Stop::LineEnd => put_context(line.as_slice(), buffer),
+        LineStop::Failed => NextContext::Failed,
+        LineStop::Long => NextContext::Refused(ContextError::TooLong),
+        LineStop::End if line.is_empty() => NextContext::End,
+        LineStop::End => put_context(line.as_slice(), buffer),
+        LineStop::LineEnd => put_context(line.as_slice(), buffer),
     }
 }
 
@@ -151,19 +151,19 @@ fn answer_lines<'a, R: Read + Drop, Q: Runner, W: Write>(
     'answers: for before in 0..u64::MAX {
         send_before_a_read(lines, &mut pending, out)?;
         match next_context(lines, &mut line, &mut buffer) {
-            Turn::Context(count) => {
+            NextContext::Context(count) => {
                 status = status.max(answer_context(&mut pending, out, runner, &buffer[..count])?);
             }
-            Turn::End => {
+            NextContext::End => {
                 send(&mut pending, out)?;
                 return Ok(status);
             }
-            Turn::Refused(error) => {
+            NextContext::Refused(error) => {
                 send(&mut pending, out)?;
                 let line = before + 1;
                 return Err(Failure::BadLine { error, line });
             }
-            Turn::Failed => {
+            NextContext::Failed => {
                 send(&mut pending, out)?;
                 return Err(Failure::CannotRead(name));
             }

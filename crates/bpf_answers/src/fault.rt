@@ -48,14 +48,14 @@ fn cause_of(error: &io::Error) -> Cause {
 
 /// The cause of the last fault, which whoever reads or writes for a command shares.
 #[derive(Drop)]
-pub struct Fault {
+pub struct LastFault {
     cause: Cell<Cause>,
 }
 
-impl Fault {
+impl LastFault {
     /// Nothing has failed.
     pub fn new() -> Self {
-        Fault {
+        LastFault {
             cause: Cell::new(Cause::Unknown),
         }
     }
@@ -80,12 +80,12 @@ impl Fault {
 #[derive(Drop)]
 pub struct Noted<'a, T: Drop> {
     stream: T,
-    fault: &'a Fault,
+    fault: &'a LastFault,
 }
 
 impl<'a, T: Drop> Noted<'a, T> {
     /// The same, with its faults noted there.
-    pub fn new(stream: T, fault: &'a Fault) -> Self {
+    pub fn new(stream: T, fault: &'a LastFault) -> Self {
         Noted { stream, fault }
     }
 

@@ -4,7 +4,7 @@ ghost use Rattle.std.specs.Prelude.{◌≡◌};
 
 use crate::beside::Beside;
 use crate::error::PlaceError;
-use crate::fault::{Cause, Fault, Noted};
+use crate::fault::{Cause, LastFault, Noted};
 use crate::links::{behind_links, is_name_of, lead_to_one};
 use crate::places::Places;
 use std::alloc::{AllocError, Global};
@@ -60,7 +60,7 @@ impl<F: Write + Drop> Write for FileWriter<F> {
 #[derive(Drop)]
 pub struct FilePlaces<'a, R: Files> {
     runtime: &'a R,
-    fault: &'a Fault,
+    fault: &'a LastFault,
     alloc: Global,
     input: Stdin,
     output: Stdout,
@@ -70,7 +70,7 @@ impl<'a, R: Files> FilePlaces<'a, R> {
     /// The files that the runtime reaches, and these streams. What fails of them is noted there.
     pub fn new(
         runtime: &'a R,
-        fault: &'a Fault,
+        fault: &'a LastFault,
         alloc: Global,
         input: Stdin,
         output: Stdout,

@@ -31,7 +31,7 @@ mod reply;
 mod text;
 mod whole;
 
-pub use annotated::Annotated;
+pub use annotated::CommentedListing;
 pub use answer::{Answer, print};
 pub use both::put_both;
 pub use bytes::{BytesError, bytes_at};
@@ -42,7 +42,7 @@ pub use counted::Counted;
 pub use each::{Runner, answered};
 pub use error::PlaceError;
 pub use failure::{BAD_WORDS, CLOSED, DONE, FAILED, Failure, REFUSED, tell};
-pub use fault::{Cause, Fault, Noted};
+pub use fault::{Cause, LastFault, Noted};
 pub use files::FilePlaces;
 pub use image::{image_at, program_at};
 pub use keeping::Keeping;

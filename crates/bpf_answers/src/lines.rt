@@ -13,7 +13,7 @@ use crate::counted::Counted;
 use crate::pieces::{put_pieces, write_at, write_pieces};
 use bpf_captures::CaptureRefusal;
 use bpf_follows::Bounds;
-use bpf_infer_base::{Condition, InferError};
+use bpf_infer_base::{ForeseenCondition, InferError};
 use bpf_insn::written::{Pending, write_bytes};
 use bpf_insn::{BuildError, Groups};
 use bpf_machine::Outcome;
@@ -131,7 +131,7 @@ pub fn write_text_refusal<W: Write>(out: &mut W, error: TextError) -> io::Result
 }
 
 /// `no I4 (C5) at slot 0`.
-fn write_no_state<W: Write>(out: &mut W, slot: u32, condition: Condition) -> io::Result<()>
+fn write_no_state<W: Write>(out: &mut W, slot: u32, condition: ForeseenCondition) -> io::Result<()>
     ensures ok { OnOk result (Appends (W.contents out.old) (W.contents out.new) (infer_refusal_line (NoState slot condition))) }
     ensures err { OnErr result (AppendsBeginning (W.contents out.old) (W.contents out.new) (infer_refusal_line (NoState slot condition))) }
 {

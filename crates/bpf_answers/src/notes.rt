@@ -8,7 +8,7 @@ ghost use Rattle.bpf_answers.specs.Told.{IsQuiet};
 use crate::bytes::{BytesError, bytes_at};
 use crate::failure::Failure;
 use crate::places::Places;
-use bpf_follows::{NotesError, Place, read};
+use bpf_follows::{Counterpart, NotesError, read};
 use bpf_insn::MAX_SLOTS;
 use std::alloc::Global;
 
@@ -21,7 +21,7 @@ pub fn notes_at<'a, P: Places>(
     alloc: Global,
     places: &mut P,
     name: &'a str,
-) -> Result<Result<Vec<Option<Place>>, NotesError>, Failure<'a>>
+) -> Result<Result<Vec<Option<Counterpart>>, NotesError>, Failure<'a>>
     ensures ok { IfOk result (ReadsNotesAt P.opens places.old name.entry.now places.new) }
     ensures err { IfErr result (NotesFail P.opens places.old name.entry.now places.new) }
     ensures quiet { IfErr result IsQuiet }

@@ -4,7 +4,7 @@ use Rattle.std.specs.List.{concat}
 use Rattle.bpf_c.specs.Words.{cond_word, width_word, register_word}
 use Rattle.bpf_c.specs.Statements.{operand_text}
 use Rattle.bpf_c.specs.declared.parts.TheConstants.{PART_SLOTS}
-use Rattle.bpf_c.specs.declared.parts.Test.{Test}
+use Rattle.bpf_c.specs.declared.parts.JumpTest.{JumpTest}
 use Rattle.bpf_insn.specs.Instruction.{Instructions, slots, target, distance}
 use Rattle.bpf_insn.specs.declared.instruction.Insn.{Insn}
 use Rattle.bpf_insn.specs.declared.instruction.Insn.TheVariants.{CallLocal}
@@ -37,7 +37,7 @@ abbrev pub jump_text : ℕ → ℤ → List ℕ
 jump_text slot off = codes "    " ++ way_text slot off
 
 -- `if (bpf_eq64(r1, UINT64_C(5))) goto L5;`
-abbrev pub branch_text : ℕ → Test → ℤ → List ℕ
+abbrev pub branch_text : ℕ → JumpTest → ℤ → List ℕ
 branch_text slot test off =
     cond_word test.cond ++ (width_word test.width ++ (register_word test.dst ++ (codes ", " ++ (operand_text test.src ++ (codes ")) " ++ way_text slot off)))))
 

@@ -7,15 +7,15 @@ ghost use Rattle.bpf_c.specs.Unit.{statement_text, line_text, lines_text, entran
 ghost use Rattle.bpf_c.specs.code.Says.{Says};
 
 use crate::memory::{Cell, put_atomic, put_load, put_store};
-use crate::page::Page;
-use crate::parts::{Test, put_branch, put_call, put_entrance, put_jump};
+use crate::page::Waiting;
+use crate::parts::{JumpTest, put_branch, put_call, put_entrance, put_jump};
 use crate::statement::{put_alu, put_extension, put_neg, put_swap, put_wide};
 use bpf_insn::{Code, Insn, Operand, Order, Size};
 use std::io::Write;
 
 /// Puts the statement of an instruction at a slot.
 fn put_statement<W: Write>(
-    page: &mut Page,
+    page: &mut Waiting,
     out: &mut W,
     name: &str,
     order: Order,
@@ -149,7 +149,7 @@ fn put_statement<W: Write>(
                 page,
                 out,
                 slot,
-                Test {
+                JumpTest {
                     cond,
                     width,
                     dst,
@@ -164,7 +164,7 @@ fn put_statement<W: Write>(
 }
 
 /// `L5:     bpf_add64(r1, r2);`, and nothing at a second slot
-fn put_line<C: Code, W: Write>(page: &mut Page, out: &mut W, name: &str, program: &C, slot: u32)
+fn put_line<C: Code, W: Write>(page: &mut Waiting, out: &mut W, name: &str, program: &C, slot: u32)
     requires { slot ≤ max_slots }
     ensures { Says (W.contents out.old) page.old (line_text name.now (C.program program.now) slot) (W.contents out.new) page.new }
 {
@@ -178,7 +178,7 @@ fn put_line<C: Code, W: Write>(page: &mut Page, out: &mut W, name: &str, program
 
 /// The lines of `count` slots from a slot on.
 pub fn put_lines<C: Code, W: Write>(
-    page: &mut Page,
+    page: &mut Waiting,
     out: &mut W,
     name: &str,
     program: &C,
@@ -193,7 +193,7 @@ pub fn put_lines<C: Code, W: Write>(
     }
 }
 
-fn put_way_in<C: Code, W: Write>(page: &mut Page, out: &mut W, program: &C, part: u32, slot: u32)
+fn put_way_in<C: Code, W: Write>(page: &mut Waiting, out: &mut W, program: &C, part: u32, slot: u32)
     requires { slot ≤ max_slots }
     ensures { Says (W.contents out.old) page.old (way_in_text (C.program program.now) part slot) (W.contents out.new) page.new }
 {
@@ -203,7 +203,7 @@ fn put_way_in<C: Code, W: Write>(page: &mut Page, out: &mut W, program: &C, part
 }
 
 /// The ways into a part from outside.
-pub fn put_entrances<C: Code, W: Write>(page: &mut Page, out: &mut W, program: &C, part: u32)
+pub fn put_entrances<C: Code, W: Write>(page: &mut Waiting, out: &mut W, program: &C, part: u32)
     ensures { Says (W.contents out.old) page.old (entrances_text (C.program program.now) part) (W.contents out.new) page.new }
 {
     for slot in 0..program.slots() {

@@ -3,7 +3,7 @@
 ghost use Rattle.bpf_c.specs.Statements.{place_text, load_text, store_text, atomic_text};
 ghost use Rattle.bpf_c.specs.code.Says.{Says};
 
-use crate::page::Page;
+use crate::page::Waiting;
 use crate::statement::{put_constant, put_operand, put_register};
 use crate::words::{atomic_word, order_word, size_word};
 use bpf_insn::{AtomicOp, Operand, Order, Reg, Size};
@@ -19,7 +19,7 @@ pub struct Cell {
 }
 
 /// `r1, UINT64_C(8)`
-fn put_place<W: Write>(page: &mut Page, out: &mut W, cell: Cell)
+fn put_place<W: Write>(page: &mut Waiting, out: &mut W, cell: Cell)
     ensures { Says (W.contents out.old) page.old (place_text cell) (W.contents out.new) page.new }
 {
     put_register(page, out, cell.base);
@@ -28,7 +28,7 @@ fn put_place<W: Write>(page: &mut Page, out: &mut W, cell: Cell)
 }
 
 /// `bpf_load64_le(r0, r1, UINT64_C(8));`, by the word in front
-pub fn put_load<W: Write>(page: &mut Page, out: &mut W, word: &str, dst: Reg, cell: Cell)
+pub fn put_load<W: Write>(page: &mut Waiting, out: &mut W, word: &str, dst: Reg, cell: Cell)
     ensures { Says (W.contents out.old) page.old (load_text word.now dst cell) (W.contents out.new) page.new }
 {
     page.put(out, word);
@@ -41,7 +41,7 @@ pub fn put_load<W: Write>(page: &mut Page, out: &mut W, word: &str, dst: Reg, ce
 }
 
 /// `bpf_store64_le(r10, -UINT64_C(8), r1);`
-pub fn put_store<W: Write>(page: &mut Page, out: &mut W, cell: Cell, src: Operand)
+pub fn put_store<W: Write>(page: &mut Waiting, out: &mut W, cell: Cell, src: Operand)
     ensures { Says (W.contents out.old) page.old (store_text cell src) (W.contents out.new) page.new }
 {
     page.put(out, "    bpf_store");
@@ -54,7 +54,7 @@ pub fn put_store<W: Write>(page: &mut Page, out: &mut W, cell: Cell, src: Operan
 }
 
 /// `bpf_fetch_add64_le(r10, -UINT64_C(8), r1);`
-pub fn put_atomic<W: Write>(page: &mut Page, out: &mut W, op: AtomicOp, cell: Cell, src: Reg)
+pub fn put_atomic<W: Write>(page: &mut Waiting, out: &mut W, op: AtomicOp, cell: Cell, src: Reg)
     ensures { Says (W.contents out.old) page.old (atomic_text op cell src) (W.contents out.new) page.new }
 {
     page.put(out, atomic_word(op));

@@ -12,23 +12,23 @@ use std::marker::Model;
 
 /// What waits to go out, and the writer's fault, if it failed.
 #[derive(Drop)]
-pub struct Page {
+pub struct Waiting {
     pending: Pending,
     fault: Option<io::Error>,
 }
 
-impl Model for Page {
+impl Model for Waiting {
     ghost Value = { Sheet };
 
     ghost view = { λ p. record { waits = p.pending; failed = is_some p.fault } };
 }
 
-impl Page {
+impl Waiting {
     /// Nothing waits, and no writer failed.
     pub fn new() -> Self
         ensures { result ≡ record { waits = []; failed = false } }
     {
-        Page {
+        Waiting {
             pending: Pending::new(),
             fault: None,
         }

@@ -5,7 +5,7 @@ ghost use Rattle.bpf_insn.specs.Limits.{max_slots};
 ghost use Rattle.bpf_c.specs.Parts.{part_of, entrance, part_to, goto_text, jump_text, branch_text, call_text, entrance_text, way_text};
 ghost use Rattle.bpf_c.specs.code.Says.{Says};
 
-use crate::page::Page;
+use crate::page::Waiting;
 use crate::statement::{put_operand, put_register};
 use crate::words::{cond_word, width_word};
 use bpf_insn::{Cond, Insn, Operand, Reg, Width, target};
@@ -22,7 +22,7 @@ pub fn part_of(slot: u32) -> u32
 }
 
 /// `goto L5;`, or `bpf_leave(1, 5);` where the target is in another part
-fn put_goto<W: Write>(page: &mut Page, out: &mut W, slot: u32, to: u32)
+fn put_goto<W: Write>(page: &mut Waiting, out: &mut W, slot: u32, to: u32)
     ensures { Says (W.contents out.old) page.old (goto_text slot to) (W.contents out.new) page.new }
 {
     if part_of(slot) == part_of(to) {
@@ -39,7 +39,7 @@ fn put_goto<W: Write>(page: &mut Page, out: &mut W, slot: u32, to: u32)
 }
 
 /// A jump by a distance; nothing is done where the distance leads below slot 0, as in no program.
-fn put_way<W: Write>(page: &mut Page, out: &mut W, slot: u32, off: i32)
+fn put_way<W: Write>(page: &mut Waiting, out: &mut W, slot: u32, off: i32)
     requires { slot ≤ max_slots }
     ensures { Says (W.contents out.old) page.old (way_text slot off) (W.contents out.new) page.new }
 {
@@ -49,7 +49,7 @@ fn put_way<W: Write>(page: &mut Page, out: &mut W, slot: u32, off: i32)
     }
 }
 
-pub fn put_jump<W: Write>(page: &mut Page, out: &mut W, slot: u32, off: i32)
+pub fn put_jump<W: Write>(page: &mut Waiting, out: &mut W, slot: u32, off: i32)
     requires { slot ≤ max_slots }
     ensures { Says (W.contents out.old) page.old (jump_text slot off) (W.contents out.new) page.new }
 {
@@ -59,7 +59,7 @@ pub fn put_jump<W: Write>(page: &mut Page, out: &mut W, slot: u32, off: i32)
 
 /// The test of a conditional jump.
 #[derive(Clone, Copy)]
-pub struct Test {
+pub struct JumpTest {
     pub cond: Cond,
     pub width: Width,
     pub dst: Reg,
@@ -67,7 +67,7 @@ pub struct Test {
 }
 
 /// `if (bpf_eq64(r1, UINT64_C(5))) goto L5;`
-pub fn put_branch<W: Write>(page: &mut Page, out: &mut W, slot: u32, test: Test, off: i32)
+pub fn put_branch<W: Write>(page: &mut Waiting, out: &mut W, slot: u32, test: JumpTest, off: i32)
     requires { slot ≤ max_slots }
     ensures { Says (W.contents out.old) page.old (branch_text slot test off) (W.contents out.new) page.new }
 {
@@ -91,7 +91,7 @@ fn part_to(target: Option<u32>) -> u32
 }
 
 /// `bpf_call(filter_from, 0, 5);`
-pub fn put_call<W: Write>(page: &mut Page, out: &mut W, name: &str, slot: u32, off: i32)
+pub fn put_call<W: Write>(page: &mut Waiting, out: &mut W, name: &str, slot: u32, off: i32)
     requires { slot ≤ max_slots }
     ensures { Says (W.contents out.old) page.old (call_text name.now slot off) (W.contents out.new) page.new }
 {
@@ -119,7 +119,7 @@ fn entrance(part: u32, slot: u32, insn: &Insn) -> Option<u32>
 }
 
 /// `case 5: goto L1030;`
-pub fn put_entrance<W: Write>(page: &mut Page, out: &mut W, part: u32, slot: u32, insn: &Insn)
+pub fn put_entrance<W: Write>(page: &mut Waiting, out: &mut W, part: u32, slot: u32, insn: &Insn)
     requires { slot ≤ max_slots }
     ensures { Says (W.contents out.old) page.old (entrance_text part slot insn.now) (W.contents out.new) page.new }
 {

@@ -5,19 +5,19 @@ ghost use Rattle.bpf_c.specs.Statements.{constant_text, operand_text, alu_text, 
 ghost use Rattle.bpf_c.specs.Words.{register_word};
 ghost use Rattle.bpf_c.specs.code.Says.{Says};
 
-use crate::page::Page;
+use crate::page::Waiting;
 use crate::words::{alu_word, bits_word, extension_word, register_word, swap_word, width_word};
 use bpf_insn::{AluOp, EndBits, EndKind, Operand, Order, Reg, SignBits, Width};
 use std::io::Write;
 
-pub fn put_register<W: Write>(page: &mut Page, out: &mut W, reg: Reg)
+pub fn put_register<W: Write>(page: &mut Waiting, out: &mut W, reg: Reg)
     ensures { Says (W.contents out.old) page.old (register_word reg) (W.contents out.new) page.new }
 {
     page.put(out, register_word(reg));
 }
 
 /// `UINT64_C(5)`, or `-UINT64_C(5)`
-pub fn put_constant<W: Write>(page: &mut Page, out: &mut W, value: i32)
+pub fn put_constant<W: Write>(page: &mut Waiting, out: &mut W, value: i32)
     ensures { Says (W.contents out.old) page.old (constant_text value) (W.contents out.new) page.new }
 {
     let front = if value < 0 { "-UINT64_C(" } else { "UINT64_C(" };
@@ -26,7 +26,7 @@ pub fn put_constant<W: Write>(page: &mut Page, out: &mut W, value: i32)
     page.put(out, ")");
 }
 
-pub fn put_operand<W: Write>(page: &mut Page, out: &mut W, src: Operand)
+pub fn put_operand<W: Write>(page: &mut Waiting, out: &mut W, src: Operand)
     ensures { Says (W.contents out.old) page.old (operand_text src) (W.contents out.new) page.new }
 {
     match src {
@@ -37,7 +37,7 @@ pub fn put_operand<W: Write>(page: &mut Page, out: &mut W, src: Operand)
 
 /// `bpf_add64(r1, r2);`
 pub fn put_alu<W: Write>(
-    page: &mut Page,
+    page: &mut Waiting,
     out: &mut W,
     op: AluOp,
     width: Width,
@@ -55,7 +55,7 @@ pub fn put_alu<W: Write>(
 }
 
 /// `bpf_neg64(r1);`
-pub fn put_neg<W: Write>(page: &mut Page, out: &mut W, width: Width, dst: Reg)
+pub fn put_neg<W: Write>(page: &mut Waiting, out: &mut W, width: Width, dst: Reg)
     ensures { Says (W.contents out.old) page.old (neg_text width dst) (W.contents out.new) page.new }
 {
     page.put(out, "    bpf_neg");
@@ -66,7 +66,7 @@ pub fn put_neg<W: Write>(page: &mut Page, out: &mut W, width: Width, dst: Reg)
 
 /// `bpf_s8to64(r1, r2);`
 pub fn put_extension<W: Write>(
-    page: &mut Page,
+    page: &mut Waiting,
     out: &mut W,
     width: Width,
     bits: SignBits,
@@ -85,7 +85,7 @@ pub fn put_extension<W: Write>(
 
 /// `bpf_swap16(r1);`
 pub fn put_swap<W: Write>(
-    page: &mut Page,
+    page: &mut Waiting,
     out: &mut W,
     order: Order,
     kind: EndKind,
@@ -101,7 +101,7 @@ pub fn put_swap<W: Write>(
 }
 
 /// `bpf_mov64(r1, UINT64_C(5));`
-pub fn put_wide<W: Write>(page: &mut Page, out: &mut W, dst: Reg, value: u64)
+pub fn put_wide<W: Write>(page: &mut Waiting, out: &mut W, dst: Reg, value: u64)
     ensures { Says (W.contents out.old) page.old (wide_text dst value) (W.contents out.new) page.new }
 {
     page.put(out, "    bpf_mov64(");

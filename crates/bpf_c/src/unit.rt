@@ -11,7 +11,7 @@ ghost use Rattle.bpf_c.specs.code.Says.{Says};
 use crate::body::{put_entrances, put_lines};
 use crate::bounds::Promise;
 use crate::operations::OPERATIONS;
-use crate::page::Page;
+use crate::page::Waiting;
 use crate::parts::PART_SLOTS;
 use bpf_insn::Code;
 use std::io::{self, Write};
@@ -36,7 +36,7 @@ const FRAME: &str =
 
 const END: &str = "    default: return r[0];\n    }\n}\n\n";
 
-fn put_each<W: Write>(page: &mut Page, out: &mut W, lines: &[&str])
+fn put_each<W: Write>(page: &mut Waiting, out: &mut W, lines: &[&str])
     ensures { Says (W.contents out.old) page.old (flat_map (λ line. line.now) lines.now) (W.contents out.new) page.new }
 {
     for line in lines {
@@ -44,14 +44,14 @@ fn put_each<W: Write>(page: &mut Page, out: &mut W, lines: &[&str])
     }
 }
 
-fn put_operations<W: Write>(page: &mut Page, out: &mut W)
+fn put_operations<W: Write>(page: &mut Waiting, out: &mut W)
     ensures { Says (W.contents out.old) page.old operations_text (W.contents out.new) page.new }
 {
     put_each(page, out, &OPERATIONS);
 }
 
 /// `#define filter_LEAST UINT64_C(16)`
-fn put_define<W: Write>(page: &mut Page, out: &mut W, name: &str, word: &str, value: u32)
+fn put_define<W: Write>(page: &mut Waiting, out: &mut W, name: &str, word: &str, value: u32)
     ensures { Says (W.contents out.old) page.old (define_text name.now word.now value) (W.contents out.new) page.new }
 {
     page.put(out, "#define ");
@@ -61,7 +61,7 @@ fn put_define<W: Write>(page: &mut Page, out: &mut W, name: &str, word: &str, va
     page.put(out, ")\n");
 }
 
-fn put_defines<W: Write>(page: &mut Page, out: &mut W, name: &str, promise: Promise)
+fn put_defines<W: Write>(page: &mut Waiting, out: &mut W, name: &str, promise: Promise)
     ensures { Says (W.contents out.old) page.old (defines_text name.now promise) (W.contents out.new) page.new }
 {
     put_define(page, out, name, "_LEAST UINT64_C(", promise.least);
@@ -69,7 +69,7 @@ fn put_defines<W: Write>(page: &mut Page, out: &mut W, name: &str, promise: Prom
     put_define(page, out, name, "_BOUND UINT64_C(", promise.bound);
 }
 
-fn put_declarations<W: Write>(page: &mut Page, out: &mut W, name: &str)
+fn put_declarations<W: Write>(page: &mut Waiting, out: &mut W, name: &str)
     ensures { Says (W.contents out.old) page.old (declarations_text name.now) (W.contents out.new) page.new }
 {
     page.put(out, "\nint ");
@@ -103,7 +103,7 @@ fn part_count<C: Code>(program: &C) -> u32
 
 /// The lines of a part.
 fn put_part_lines<C: Code, W: Write>(
-    page: &mut Page,
+    page: &mut Waiting,
     out: &mut W,
     name: &str,
     program: &C,
@@ -128,7 +128,7 @@ fn part_word<C: Code>(program: &C) -> &'static str
 }
 
 /// The function of a part.
-fn put_part<C: Code, W: Write>(page: &mut Page, out: &mut W, name: &str, program: &C, part: u32)
+fn put_part<C: Code, W: Write>(page: &mut Waiting, out: &mut W, name: &str, program: &C, part: u32)
     requires inside { part < part_count (C.program program.now) }
     requires few { part < 64 }
     ensures { Says (W.contents out.old) page.old (part_text name.now (C.program program.now) part) (W.contents out.new) page.new }
@@ -146,7 +146,13 @@ fn put_part<C: Code, W: Write>(page: &mut Page, out: &mut W, name: &str, program
     page.put(out, LEAVE);
 }
 
-fn put_parts<C: Code, W: Write>(page: &mut Page, out: &mut W, name: &str, program: &C, count: u32)
+fn put_parts<C: Code, W: Write>(
+    page: &mut Waiting,
+    out: &mut W,
+    name: &str,
+    program: &C,
+    count: u32,
+)
     requires all { count ≡ part_count (C.program program.now) }
     requires few { count ≤ 64 }
     ensures { Says (W.contents out.old) page.old (parts_text name.now (C.program program.now)) (W.contents out.new) page.new }
@@ -157,7 +163,7 @@ fn put_parts<C: Code, W: Write>(page: &mut Page, out: &mut W, name: &str, progra
 }
 
 /// `case 0: part = filter_part_0(&site, r); break;`
-fn put_case<W: Write>(page: &mut Page, out: &mut W, name: &str, part: u32)
+fn put_case<W: Write>(page: &mut Waiting, out: &mut W, name: &str, part: u32)
     ensures { Says (W.contents out.old) page.old (case_text name.now part) (W.contents out.new) page.new }
 {
     page.put(out, "    case ");
@@ -169,7 +175,7 @@ fn put_case<W: Write>(page: &mut Page, out: &mut W, name: &str, part: u32)
     page.put(out, "(&site, r); break;\n");
 }
 
-fn put_cases<W: Write>(page: &mut Page, out: &mut W, name: &str, count: u32)
+fn put_cases<W: Write>(page: &mut Waiting, out: &mut W, name: &str, count: u32)
     ensures { Says (W.contents out.old) page.old (cases_text name.now count) (W.contents out.new) page.new }
 {
     for part in 0..count {
@@ -178,7 +184,7 @@ fn put_cases<W: Write>(page: &mut Page, out: &mut W, name: &str, count: u32)
 }
 
 /// The function of a frame: a run goes from part to part in it, until an `exit`.
-fn put_frame<W: Write>(page: &mut Page, out: &mut W, name: &str, count: u32)
+fn put_frame<W: Write>(page: &mut Waiting, out: &mut W, name: &str, count: u32)
     ensures { Says (W.contents out.old) page.old (frame_text name.now count) (W.contents out.new) page.new }
 {
     page.put(out, "static uint64_t ");
@@ -190,7 +196,7 @@ fn put_frame<W: Write>(page: &mut Page, out: &mut W, name: &str, count: u32)
 }
 
 /// The functions for hosts.
-fn put_host<W: Write>(page: &mut Page, out: &mut W, name: &str)
+fn put_host<W: Write>(page: &mut Waiting, out: &mut W, name: &str)
     ensures { Says (W.contents out.old) page.old (host_text name.now) (W.contents out.new) page.new }
 {
     page.put(
@@ -234,7 +240,7 @@ pub fn write_c<C: Code, W: Write>(
     ensures err { OnErr result (AppendsBeginning (W.contents out.old) (W.contents out.new) (unit_text name.now promise (C.program program.now))) }
 {
     let count = part_count(program);
-    let mut page = Page::new();
+    let mut page = Waiting::new();
     put_operations(&mut page, out);
     put_defines(&mut page, out, name, promise);
     put_declarations(&mut page, out, name);

@@ -8,9 +8,9 @@ use Rattle.bpf_captures.specs.Capture.{AreRecords, Begins, BreaksOff, IsBroken, 
 use Rattle.bpf_captures.specs.Taken.{TakesHeader}
 use Rattle.bpf_captures.specs.declared.error.CaptureError.TheVariants.{ShortRecord}
 use Rattle.bpf_captures.specs.Stops.{AllGive, Replayed, StopsBy, TurnsTo, block_in}
-use Rattle.bpf_captures.specs.declared.answerer.Blocks.{Blocks}
-use Rattle.bpf_captures.specs.declared.turn.Stop.{Stop}
-use Rattle.bpf_captures.specs.declared.turn.Stop.TheVariants.{End, Refused, Failed}
+use Rattle.bpf_captures.specs.declared.answerer.BlockLayout.{BlockLayout}
+use Rattle.bpf_captures.specs.declared.turn.CaptureEnd.{CaptureEnd}
+use Rattle.bpf_captures.specs.declared.turn.CaptureEnd.TheVariants.{End, Refused, Failed}
 use Rattle.bpf_captures.specs.declared.turn.Turn.TheVariants as turns
 
 -- a file begins with these packets, and this is left
@@ -19,7 +19,7 @@ Split order packets None rest = ⊤
 Split order packets (Some text) None = ⊥
 Split order packets (Some text) (Some rest) = Begins order packets text rest
 
-pub record SoFar (gives : List ℕ → ℕ → Type 0) (blocks : Blocks) (order : Order) (known rest : Option (List ℕ)) (values : List ℕ) (count byte : ℕ) : Type 0 where
+pub record SoFar (gives : List ℕ → ℕ → Type 0) (blocks : BlockLayout) (order : Order) (known rest : Option (List ℕ)) (values : List ℕ) (count byte : ℕ) : Type 0 where
   pub packets : List (List ℕ)
   pub split : Split order packets known rest
   pub given : AllGive gives blocks packets values
@@ -31,7 +31,7 @@ split_first order None rest h = tt
 split_first order (Some text) None h = absurd h.1
 split_first order (Some text) (Some rest) h = record { header = h.0; records = []; text_is = h.1; is_header = h.2; are_records = refl }
 
-pub at_first : (gives : List ℕ → ℕ → Type 0) (blocks : Blocks) (order : Order) (known rest : Option (List ℕ)) → TakesHeader known rest order → SoFar gives blocks order known rest [] 0 24
+pub at_first : (gives : List ℕ → ℕ → Type 0) (blocks : BlockLayout) (order : Order) (known rest : Option (List ℕ)) → TakesHeader known rest order → SoFar gives blocks order known rest [] 0 24
 at_first gives blocks order known rest h = record { packets = []; split = split_first order known rest h; given = tt; count_is = refl; byte_is = refl }
 
 records_more : (order : Order) (packets : List (List ℕ)) (records packet bytes : List ℕ) → AreRecords order packets records → IsRecord order packet bytes → AreRecords order (packets ++ packet ∷ []) (records ++ bytes)
@@ -50,7 +50,7 @@ split_more order packets (Some text) (Some rest) (Some new) packet bytes h took 
   are_records = records_more order packets h.records packet bytes h.are_records r;
 }
 
-given_more : (gives : List ℕ → ℕ → Type 0) (blocks : Blocks) (packets : List (List ℕ)) (values packet : List ℕ) (value : ℕ) → AllGive gives blocks packets values → gives (block_in blocks packet) value
+given_more : (gives : List ℕ → ℕ → Type 0) (blocks : BlockLayout) (packets : List (List ℕ)) (values packet : List ℕ) (value : ℕ) → AllGive gives blocks packets values → gives (block_in blocks packet) value
     → AllGive gives blocks (packets ++ packet ∷ []) (values ++ value ∷ [])
 given_more gives blocks [] [] packet value h one = (one, tt)
 given_more gives blocks [] (v ∷ vs) packet value h one = absurd h
@@ -64,7 +64,7 @@ length_more (p ∷ ps) packet = let more = length_more ps packet in omega (arith
 place_more : (packets : List (List ℕ)) (packet : List ℕ) (byte count : ℕ) → byte ≡ place_behind packets → length packet ≡ count → byte + (16 + count) ≡ place_behind (packets ++ packet ∷ [])
 place_more packets packet byte count at is = let more = length_more packets packet in omega (arith, more, at, is)
 
-pub one_more : (gives : List ℕ → ℕ → Type 0) (blocks : Blocks) (order : Order) (known rest new : Option (List ℕ)) (values : List ℕ) (before byte value count : ℕ)
+pub one_more : (gives : List ℕ → ℕ → Type 0) (blocks : BlockLayout) (order : Order) (known rest new : Option (List ℕ)) (values : List ℕ) (before byte value count : ℕ)
     → SoFar gives blocks order known rest values before byte → TurnsTo gives blocks order rest new (turns.Value value count) → SoFar gives blocks order known new (values ++ value ∷ []) (before + 1) (byte + (16 + count))
 one_more gives blocks order known rest new values before byte value count h turn = record {
   packets = h.packets ++ turn.0 ∷ [];
@@ -91,7 +91,7 @@ first order packets None rest h = tt
 first order packets (Some text) None h = absurd h
 first order packets (Some text) (Some rest) h = (rest, h)
 
-module _ (gives : List ℕ → ℕ → Type 0) (blocks : Blocks) where
+module _ (gives : List ℕ → ℕ → Type 0) (blocks : BlockLayout) where
   pub ends : (order : Order) (known rest : Option (List ℕ)) (values : List ℕ) (count byte : ℕ) → SoFar gives blocks order known rest values count byte → IfSome rest (λ text. text ≡ []) → Replayed gives blocks known End values
   ends order known rest values count byte h end = record { order = order; packets = h.packets; stops = whole order h.packets known rest h.split end; given = h.given }
 
@@ -108,7 +108,7 @@ module _ (gives : List ℕ → ℕ → Type 0) (blocks : Blocks) where
   fails order known rest values count byte h = record { order = order; packets = h.packets; stops = inr (first order h.packets known rest h.split); given = h.given }
 
   -- there is no header
-  pub headless : (known : Option (List ℕ)) (stop : Stop) → StopsBy Little known [] stop → Replayed gives blocks known stop []
+  pub headless : (known : Option (List ℕ)) (stop : CaptureEnd) → StopsBy Little known [] stop → Replayed gives blocks known stop []
   headless known stop h = record { order = Little; packets = []; stops = h; given = tt }
 
   capture_begins : (order : Order) (packets : List (List ℕ)) (known : Option (List ℕ)) → IfSome known (λ text. IsCapture order packets text) → IfSome known (λ text. (left : List ℕ) × Begins order packets text left)
@@ -119,12 +119,12 @@ module _ (gives : List ℕ → ℕ → Type 0) (blocks : Blocks) where
   broken_begins order packets None h = tt
   broken_begins order packets (Some text) h = (h.0, h.1)
 
-  stops_anyway : (order : Order) (packets : List (List ℕ)) (known : Option (List ℕ)) (stop : Stop) → StopsBy order known packets stop → StopsBy order known packets Failed
+  stops_anyway : (order : Order) (packets : List (List ℕ)) (known : Option (List ℕ)) (stop : CaptureEnd) → StopsBy order known packets stop → StopsBy order known packets Failed
   stops_anyway order packets known End h = inr (capture_begins order packets known h)
   stops_anyway order packets known (Refused refusal) (inl h) = inl h.0
   stops_anyway order packets known (Refused refusal) (inr h) = inr (broken_begins order packets known h.breaks_off)
   stops_anyway order packets known Failed h = h
 
   -- wherever it ended, the first packets were answered
-  pub anyway : (known : Option (List ℕ)) (stop : Stop) (values : List ℕ) → Replayed gives blocks known stop values → Replayed gives blocks known Failed values
+  pub anyway : (known : Option (List ℕ)) (stop : CaptureEnd) (values : List ℕ) → Replayed gives blocks known stop values → Replayed gives blocks known Failed values
   anyway known stop values h = record { order = h.order; packets = h.packets; stops = stops_anyway h.order h.packets known stop h.stops; given = h.given }

@@ -4,7 +4,7 @@ use bpf_insn::Order;
 
 /// How packets are laid into blocks: in which byte order the length stands in front, and how many bytes a block has.
 #[derive(Clone, Copy)]
-pub struct Blocks {
+pub struct BlockLayout {
     pub order: Order,
     pub size: usize,
 }

@@ -6,12 +6,12 @@ ghost use Rattle.bpf_insn.specs.Limits.{max_context};
 ghost use Rattle.bpf_insn.specs.Written.{AppendsBeginning, Gathers};
 ghost use Rattle.bpf_semantics.specs.Blocks.{head_bytes};
 ghost use Rattle.bpf_captures.specs.Stops.{Replays};
-ghost use Rattle.bpf_captures.specs.declared.turn.Stop.TheVariants.{Failed};
+ghost use Rattle.bpf_captures.specs.declared.turn.CaptureEnd.TheVariants.{Failed};
 
-use crate::answerer::{Answerer, Blocks};
+use crate::answerer::{Answerer, BlockLayout};
 use crate::counting::{Counts, count_each, print_counts};
 use crate::printing::print_each;
-use crate::turn::Stop;
+use crate::turn::CaptureEnd;
 use bpf_insn::written::Pending;
 use std::alloc::Global;
 use std::io::{Read, Write};
@@ -32,8 +32,8 @@ fn tell_counts<R: Read, Q: Answerer, W: Write>(
     out: &mut W,
     pending: &mut Pending,
     answerer: &Q,
-    blocks: Blocks,
-) -> Result<Stop, ReplayFault>
+    blocks: BlockLayout,
+) -> Result<CaptureEnd, ReplayFault>
     requires taken { Q.takes answerer.now blocks.size }
     requires room { head_bytes ≤ blocks.size }
     requires short { blocks.size ≤ max_context }
@@ -61,9 +61,9 @@ fn tell_each<R: Read, Q: Answerer, W: Write>(
     out: &mut W,
     pending: &mut Pending,
     answerer: &Q,
-    blocks: Blocks,
+    blocks: BlockLayout,
     counts: bool,
-) -> Result<Stop, ReplayFault>
+) -> Result<CaptureEnd, ReplayFault>
     requires taken { Q.takes answerer.now blocks.size }
     requires room { head_bytes ≤ blocks.size }
     requires short { blocks.size ≤ max_context }
@@ -88,9 +88,9 @@ pub fn replay<R: Read, Q: Answerer, W: Write>(
     reader: &mut R,
     out: &mut W,
     answerer: &Q,
-    blocks: Blocks,
+    blocks: BlockLayout,
     counts: bool,
-) -> Result<Stop, ReplayFault>
+) -> Result<CaptureEnd, ReplayFault>
     requires taken { Q.takes answerer.now blocks.size }
     requires room { head_bytes ≤ blocks.size }
     requires short { blocks.size ≤ max_context }

@@ -9,11 +9,11 @@ ghost use Rattle.bpf_semantics.specs.Blocks.{head_bytes};
 ghost use Rattle.bpf_captures.specs.Lines.{AreCounts, count_line};
 ghost use Rattle.bpf_captures.specs.Stops.{Replayed};
 
-use crate::answerer::{Answerer, Blocks};
+use crate::answerer::{Answerer, BlockLayout};
 use crate::answers::ReplayFault;
 use crate::error::{CaptureError, CaptureRefusal};
 use crate::lines::put_count;
-use crate::turn::{FIRST, Stop, Turn, behind, first_of, next_value};
+use crate::turn::{CaptureEnd, FIRST, Turn, behind, first_of, next_value};
 use bpf_insn::MAX_CONTEXT;
 use bpf_insn::written::Pending;
 use std::alloc::AllocError;
@@ -48,8 +48,8 @@ pub fn count_each<R: Read, Q: Answerer>(
     reader: &mut R,
     counts: &mut Counts,
     answerer: &Q,
-    blocks: Blocks,
-) -> Result<Stop, ReplayFault>
+    blocks: BlockLayout,
+) -> Result<CaptureEnd, ReplayFault>
     requires taken { Q.takes answerer.now blocks.size }
     requires room { head_bytes ≤ blocks.size }
     requires short { blocks.size ≤ max_context }
@@ -78,13 +78,13 @@ pub fn count_each<R: Read, Q: Answerer>(
                 };
                 byte = next;
             }
-            Turn::End => return Ok(Stop::End),
-            Turn::Broken => return Ok(Stop::Refused(CaptureRefusal {
+            Turn::End => return Ok(CaptureEnd::End),
+            Turn::Broken => return Ok(CaptureEnd::Refused(CaptureRefusal {
                 error: CaptureError::ShortRecord,
                 packet: before + 1,
                 byte,
             })),
-            Turn::Failed => return Ok(Stop::Failed),
+            Turn::Failed => return Ok(CaptureEnd::Failed),
         }
     }
     // No file has as many packets as that.

@@ -11,10 +11,10 @@ const PIECE: usize = 4_096;
 
 /// The reader failed.
 #[derive(Clone, Copy)]
-pub struct ReadFault;
+pub struct FillFault;
 
 /// Puts the next bytes of a reader at the front of the room: as many as it has bytes, or fewer at the end. How many.
-pub fn fill<R: Read>(reader: &mut R, room: &mut [u8]) -> Result<usize, ReadFault>
+pub fn fill<R: Read>(reader: &mut R, room: &mut [u8]) -> Result<usize, FillFault>
     ensures taken { IfOk result (λ n. Consumes (R.remaining reader.old) (R.remaining reader.new) (take n room.new)) }
     ensures few { IfOk result (λ n. n ≤ length room.old) }
     ensures all { IfOk result (λ n. n < length room.old → IsAtEnd (R.remaining reader.new)) }
@@ -22,7 +22,7 @@ pub fn fill<R: Read>(reader: &mut R, room: &mut [u8]) -> Result<usize, ReadFault
     let mut count = 0;
     'reads: while count < room.len() {
         let Ok(more) = reader.read(&mut room[count..]) else {
-            return Err(ReadFault);
+            return Err(FillFault);
         };
         if more == 0 {
             return Ok(count);
@@ -33,7 +33,7 @@ pub fn fill<R: Read>(reader: &mut R, room: &mut [u8]) -> Result<usize, ReadFault
 }
 
 /// Passes over so many bytes of a reader, or fewer at the end. How many.
-pub fn skip<R: Read>(reader: &mut R, count: usize) -> Result<usize, ReadFault>
+pub fn skip<R: Read>(reader: &mut R, count: usize) -> Result<usize, FillFault>
     ensures taken { IfOk result (Passes (R.remaining reader.old) (R.remaining reader.new)) }
     ensures few { IfOk result (λ n. n ≤ count) }
     ensures all { IfOk result (λ n. n < count → IsAtEnd (R.remaining reader.new)) }
@@ -43,7 +43,7 @@ pub fn skip<R: Read>(reader: &mut R, count: usize) -> Result<usize, ReadFault>
     'pieces: while passed < count {
         let wanted = (count - passed).min(PIECE);
         let Ok(more) = fill(reader, &mut piece[..wanted]) else {
-            return Err(ReadFault);
+            return Err(FillFault);
         };
         passed += more;
         if more < wanted {

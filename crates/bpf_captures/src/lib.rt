@@ -13,9 +13,9 @@ mod lines;
 mod printing;
 mod turn;
 
-pub use answerer::{Answerer, Blocks};
+pub use answerer::{Answerer, BlockLayout};
 pub use answers::{ReplayFault, replay};
 pub use block::block_holds;
 pub use capture::{next_packet, rest_is_there};
 pub use error::{CaptureError, CaptureRefusal};
-pub use turn::Stop;
+pub use turn::CaptureEnd;

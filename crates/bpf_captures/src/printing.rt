@@ -5,13 +5,13 @@ ghost use Rattle.bpf_insn.specs.Limits.{max_context};
 ghost use Rattle.bpf_insn.specs.Written.{AppendsBeginning, Gathers};
 ghost use Rattle.bpf_semantics.specs.Blocks.{head_bytes};
 ghost use Rattle.bpf_captures.specs.Stops.{ReplaysEach};
-ghost use Rattle.bpf_captures.specs.declared.turn.Stop.TheVariants.{Failed};
+ghost use Rattle.bpf_captures.specs.declared.turn.CaptureEnd.TheVariants.{Failed};
 
-use crate::answerer::{Answerer, Blocks};
+use crate::answerer::{Answerer, BlockLayout};
 use crate::answers::ReplayFault;
 use crate::error::{CaptureError, CaptureRefusal};
 use crate::lines::put_value;
-use crate::turn::{FIRST, Stop, Turn, behind, first_of, next_value};
+use crate::turn::{CaptureEnd, FIRST, Turn, behind, first_of, next_value};
 use bpf_insn::MAX_CONTEXT;
 use bpf_insn::written::Pending;
 use std::io::{Read, Write};
@@ -22,8 +22,8 @@ pub fn print_each<R: Read, Q: Answerer, W: Write>(
     out: &mut W,
     pending: &mut Pending,
     answerer: &Q,
-    blocks: Blocks,
-) -> Result<Stop, ReplayFault>
+    blocks: BlockLayout,
+) -> Result<CaptureEnd, ReplayFault>
     requires taken { Q.takes answerer.now blocks.size }
     requires room { head_bytes ≤ blocks.size }
     requires short { blocks.size ≤ max_context }
@@ -51,13 +51,13 @@ pub fn print_each<R: Read, Q: Answerer, W: Write>(
                 };
                 byte = next;
             }
-            Turn::End => return Ok(Stop::End),
-            Turn::Broken => return Ok(Stop::Refused(CaptureRefusal {
+            Turn::End => return Ok(CaptureEnd::End),
+            Turn::Broken => return Ok(CaptureEnd::Refused(CaptureRefusal {
                 error: CaptureError::ShortRecord,
                 packet: before + 1,
                 byte,
             })),
-            Turn::Failed => return Ok(Stop::Failed),
+            Turn::Failed => return Ok(CaptureEnd::Failed),
         }
     }
     // No file has as many packets as that.

@@ -6,7 +6,7 @@ ghost use Rattle.bpf_captures.specs.Taken.{TakesHeader};
 ghost use Rattle.bpf_captures.specs.Stops.{StopsBy, TurnsTo};
 ghost use Rattle.bpf_insn.specs.declared.order.Order.TheVariants.{Little};
 
-use crate::answerer::{Answerer, Blocks};
+use crate::answerer::{Answerer, BlockLayout};
 use crate::block::next_block;
 use crate::capture::read_header;
 use crate::error::{CaptureError, CaptureRefusal};
@@ -21,7 +21,7 @@ const FRONT: u64 = 16;
 
 /// Where the packets of a capture file end.
 #[derive(Clone, Copy)]
-pub enum Stop {
+pub enum CaptureEnd {
     /// At the end of the file.
     End,
     /// The file is refused.
@@ -44,14 +44,14 @@ pub enum Turn {
 }
 
 /// Takes the header of a file, and gives the byte order of the file's numbers, or why there are no packets.
-pub fn first_of<R: Read>(reader: &mut R) -> Result<Order, Stop>
+pub fn first_of<R: Read>(reader: &mut R) -> Result<Order, CaptureEnd>
     ensures ok { IfOk result (TakesHeader (R.remaining reader.old) (R.remaining reader.new)) }
     ensures err { IfErr result (StopsBy Little (R.remaining reader.old) []) }
 {
     match read_header(reader) {
         Ok(order) => Ok(order),
-        Err(CaptureError::Unreadable) => Err(Stop::Failed),
-        Err(error) => Err(Stop::Refused(CaptureRefusal {
+        Err(CaptureError::Unreadable) => Err(CaptureEnd::Failed),
+        Err(error) => Err(CaptureEnd::Refused(CaptureRefusal {
             error,
             packet: 0,
             byte: 0,
@@ -64,7 +64,7 @@ pub fn next_value<R: Read, Q: Answerer>(
     reader: &mut R,
     order: Order,
     answerer: &Q,
-    blocks: Blocks,
+    blocks: BlockLayout,
     block: &mut [u8],
 ) -> Turn
     requires taken { Q.takes answerer.now blocks.size }

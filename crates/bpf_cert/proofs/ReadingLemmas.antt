@@ -13,8 +13,8 @@ use Rattle.bpf_cert.specs.Faults.{judged, rest_fault, fault_from, text_fault, is
 use Rattle.bpf_cert.specs.declared.error.CertError.{CertError}
 use Rattle.bpf_cert.specs.declared.error.CertError.TheVariants.{Syntax, NotCanonical, Limit, Memory, Read}
 use Rattle.bpf_cert.specs.View.{CertificateView}
-use Rattle.bpf_streams.specs.declared.line_reader.Stop.{Stop}
-use Rattle.bpf_streams.specs.declared.line_reader.Stop.TheVariants as stop
+use Rattle.bpf_streams.specs.declared.line_reader.LineStop.{LineStop}
+use Rattle.bpf_streams.specs.declared.line_reader.LineStop.TheVariants as stop
 use Rattle.bpf_cert.specs.ReadAnswers.{IsFaultOf, FailsAt}
 use Rattle.bpf_cert.specs.Certificates.{Spells}
 use Rattle.bpf_cert.specs.code.Building.{Takes, Finishes}
@@ -249,7 +249,7 @@ positive : (line : List ℕ) → eqb (length line) 0 ≡ false → 0 < length li
 positive [] e = cc
 positive (x ∷ xs) e = omega arith
 
-pub ended_given : (text old new : Option (List ℕ)) (line : List ℕ) (s : Stop) (is_empty : Bool) (n : ℕ) (before : List Line) (r : Result CertificateView CertError)
+pub ended_given : (text old new : Option (List ℕ)) (line : List ℕ) (s : LineStop) (is_empty : Bool) (n : ℕ) (before : List Line) (r : Result CertificateView CertError)
     → Progresses text old n before → TakesLine 256 old new line s → is_empty ≡ eqb (length line) 0 → is_ended before ≡ true → AnswersBehindEnd s is_empty n before r → Gives text r
 ended_given text old new line stop.End true n before r p took bare ended a =
     finished_given text before r (finished text old new n before p (nothing old new line (eqb-true (length line) 0 (sym bare)) took.0) took.1) a
@@ -307,7 +307,7 @@ memory_given (Some t) = tt
 
 -- a fault of the reader, where one is answered
 
-pub ended_fails : (text old new : Option (List ℕ)) (line : List ℕ) (s : Stop) (is_empty : Bool) (n : ℕ) (before : List Line) (r : Result CertificateView CertError)
+pub ended_fails : (text old new : Option (List ℕ)) (line : List ℕ) (s : LineStop) (is_empty : Bool) (n : ℕ) (before : List Line) (r : Result CertificateView CertError)
     → Progresses text old n before → TakesLine 256 old new line s → is_empty ≡ eqb (length line) 0 → is_ended before ≡ true → AnswersBehindEnd s is_empty n before r → IfErr r (λ e. FailsAt text new e)
 ended_fails text old new line stop.End true n before (Ok c) p took bare ended a = tt
 ended_fails text old new line stop.End true n before (Err e) p took bare ended a = absurd a

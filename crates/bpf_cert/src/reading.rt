@@ -13,14 +13,14 @@ use crate::building::Builder;
 use crate::certificate::Certificate;
 use crate::error::CertError;
 use arrayvec::ArrayVec;
-use bpf_streams::{LineReader, Stop};
+use bpf_streams::{LineReader, LineStop};
 use std::alloc::Global;
 use std::io::Read;
 
 // What is answered where `end` came, and behind it nothing or some bytes.
 fn behind_end(
     builder: Builder,
-    stop: Stop,
+    stop: LineStop,
     is_empty: bool,
     line: usize,
 ) -> Result<Certificate, CertError>
@@ -28,8 +28,8 @@ fn behind_end(
     ensures { (lines : List Line) → IsBuilt lines builder → is_ended lines ≡ true → AnswersBehindEnd stop is_empty line lines result }
 {
     match (stop, is_empty) {
-        (Stop::End, true) => Ok(builder.finish()),
-        (Stop::Failed, true) => Err(CertError::Read { line }),
+        (LineStop::End, true) => Ok(builder.finish()),
+        (LineStop::Failed, true) => Err(CertError::Read { line }),
         (_, _) => Err(CertError::Syntax { line }),
     }
 }
@@ -55,10 +55,10 @@ pub fn read_lines<R: Read + Drop>(
             return behind_end(builder, stop, text.is_empty(), line);
         }
         match stop {
-            Stop::End => return Err(CertError::Syntax { line }),
-            Stop::Failed => return Err(CertError::Read { line }),
-            Stop::Long => return Err(CertError::Limit { line }),
-            Stop::LineEnd => {
+            LineStop::End => return Err(CertError::Syntax { line }),
+            LineStop::Failed => return Err(CertError::Read { line }),
+            LineStop::Long => return Err(CertError::Limit { line }),
+            LineStop::LineEnd => {
                 if let Err(error) = builder.take(line, text.as_slice()) {
                     return Err(error);
                 }

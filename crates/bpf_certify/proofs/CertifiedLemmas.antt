@@ -8,7 +8,7 @@ use Rattle.bpf_insn.specs.Instruction.{Instructions, insn_at, layout, slots}
 use Rattle.bpf_insn.specs.Limits.{frame_bytes}
 use Rattle.bpf_insn.specs.declared.instruction.Insn.{Insn}
 use Rattle.bpf_follows.specs.declared.notes.Bounds.{Bounds}
-use Rattle.bpf_follows.specs.declared.notes.Place.{Place}
+use Rattle.bpf_follows.specs.declared.notes.Counterpart.{Counterpart}
 use Rattle.bpf_follows.specs.Laws.{MatchingKeepsMeaning}
 use Rattle.bpf_follows.specs.Matching.{Matches}
 use Rattle.bpf_follows.specs.Mismatches.{IsMismatch, mismatch_slot}
@@ -40,7 +40,7 @@ insn_inside : (is : List Insn) (slot : ℕ) (i : Insn) → insn_at is slot ≡ S
 insn_inside is slot i e = elim (cases_lt slot (slots is)) [ inl less ↦ less | inr more ↦ absurd (none-some i (sym (get_or_past (layout is) slot None more) ∙ e)) ]
 
 -- what fails of notes fails at a slot of the old program
-mismatch_inside : (old made : Instructions) (bounds : Bounds) (m : Mismatch) (notes : List (Option Place)) → 0 < slots old.list → IsMismatch old made notes bounds m → mismatch_slot m < slots old.list
+mismatch_inside : (old made : Instructions) (bounds : Bounds) (m : Mismatch) (notes : List (Option Counterpart)) → 0 < slots old.list → IsMismatch old made notes bounds m → mismatch_slot m < slots old.list
 unfolding IsMismatch
 mismatch_inside old made bounds Order notes some fails = some
 mismatch_inside old made bounds Start notes some fails = some

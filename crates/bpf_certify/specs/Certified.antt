@@ -8,7 +8,7 @@ use Rattle.bpf_check.specs.CheckedProgram.{IsCertifiedBy}
 use Rattle.bpf_check.specs.RefusalNumbers.{refusal_number, refusal_slot}
 use Rattle.bpf_check.specs.declared.refusal.Refusal.{Refusal}
 use Rattle.bpf_follows.specs.declared.notes.Bounds.{Bounds}
-use Rattle.bpf_follows.specs.declared.notes.Place.{Place}
+use Rattle.bpf_follows.specs.declared.notes.Counterpart.{Counterpart}
 use Rattle.bpf_follows.specs.Matching.{Matches}
 use Rattle.bpf_follows.specs.Meaning.{KeepsMeaning}
 use Rattle.bpf_follows.specs.Mismatches.{IsMismatch, mismatch_slot}
@@ -84,7 +84,7 @@ Answers old length wish c = StandsFor old length wish c c.rewritten
 -- this fails first of notes for a new program, for the turns that are wished
 pub record IsUnshown (old : Instructions) (length : ℕ) (wish : Wish) (m : Mismatch) : Type 0 where
   pub made : Instructions
-  pub notes : List (Option Place)
+  pub notes : List (Option Counterpart)
   pub turns : ℕ
   pub turns_are : AreWished wish turns
   pub fails : IsMismatch old made notes (runs_for length wish turns) m
@@ -92,7 +92,7 @@ pub record IsUnshown (old : Instructions) (length : ℕ) (wish : Wish) (m : Mism
 -- memory ran out, or this fails first of notes for a new program and these runs
 abbrev pub IsUnjudged : (old made : Instructions) → Bounds → CertifyError → Type 0
 IsUnjudged old made runs (Unhardened e) = harden_slot e ≡ 0
-IsUnjudged old made runs (Unshown m) = (notes : List (Option Place)) × IsMismatch old made notes (leaving runs 0) m
+IsUnjudged old made runs (Unshown m) = (notes : List (Option Counterpart)) × IsMismatch old made notes (leaving runs 0) m
 IsUnjudged old made runs (TooDear turns bound) = ⊥
 IsUnjudged old made runs (Uncertified r) = ⊥
 

@@ -12,7 +12,7 @@ use crate::error::CertifyError;
 use crate::wish::Wish;
 use bpf_cert::Certificate;
 use bpf_check::check;
-use bpf_follows::{Bounds, Mismatch, Place, matching_keeps_meaning};
+use bpf_follows::{Bounds, Counterpart, Mismatch, matching_keeps_meaning};
 use bpf_harden::{Fitted, HardenError, Hardened, Options, Unfit, fit};
 use bpf_harden_follows::{Evidence, evidence_of};
 use bpf_infer::{InferError, search};
@@ -34,7 +34,7 @@ pub struct Rewritten {
     /// What of the notes fails where it isn't, if that was looked at.
     pub mismatch: Option<Mismatch>,
     /// The notes by which it is shown. Empty where nothing was to be shown and none were wanted.
-    pub notes: Vec<Option<Place>>,
+    pub notes: Vec<Option<Counterpart>>,
 }
 
 /// A certificate within a bound, and what it certifies.
@@ -56,11 +56,11 @@ struct Paid {
 
 /// What is shown of a hardened program.
 #[derive(Drop)]
-struct Shown {
+struct ShownMeaning {
     untouched: u32,
     is_shown: bool,
     mismatch: Option<Mismatch>,
-    notes: Vec<Option<Place>>,
+    notes: Vec<Option<Counterpart>>,
 }
 
 /// The refusal where there is no certificate for a whole program.
@@ -131,11 +131,11 @@ fn as_it_stands(
 }
 
 /// Nothing is shown, and nothing was looked at.
-fn unseen(alloc: Global) -> Shown
+fn unseen(alloc: Global) -> ShownMeaning
     ensures few { result.untouched ≡ 0 }
     ensures unshown { result.is_shown ≡ false }
 {
-    Shown {
+    ShownMeaning {
         untouched: 0,
         is_shown: false,
         mismatch: None,
@@ -144,12 +144,12 @@ fn unseen(alloc: Global) -> Shown
 }
 
 /// What was found, as it is told.
-fn seen(found: Evidence, is_shown: bool) -> Shown
+fn seen(found: Evidence, is_shown: bool) -> ShownMeaning
     ensures untouched { result.untouched ≡ found.untouched }
     ensures shown { result.is_shown ≡ is_shown }
     ensures notes { result.notes.items ≡ found.notes.items }
 {
-    Shown {
+    ShownMeaning {
         untouched: found.untouched,
         is_shown,
         mismatch: found.mismatch,
@@ -171,7 +171,7 @@ fn judged(
     new: &Hardened,
     runs: Bounds,
     wish: Wish,
-) -> Result<Shown, CertifyError>
+) -> Result<ShownMeaning, CertifyError>
     ensures order { IfOk result (λ _. new.now.program.order ≡ old.now.order) }
     ensures few { IfOk result (λ s. s.untouched ≤ frame_bytes) }
     ensures shows { IfOk result (λ s. IsTrue s.is_shown → Matches old.now new.now.program s.notes.items (leaving runs s.untouched)) }

@@ -5,7 +5,7 @@ mod certified;
 mod error;
 mod wish;
 
-pub use bpf_follows::{Mismatch, Place};
+pub use bpf_follows::{Counterpart, Mismatch};
 pub use bpf_harden::{FunctionNote, HardenError, Hardened, Note};
 pub use certified::{Certified, Rewritten, certify};
 pub use error::CertifyError;

@@ -3,7 +3,7 @@
 ghost use Rattle.std.specs.Prelude.{◌≡◌, ◌<◌, ◌≤◌, ◌↔◌, [], IsSome, IfSome, MatchOption, get_or, length};
 ghost use Rattle.bpf_changes.specs.RefusalNumbers.{harden_number, harden_slot, harden_texts, within};
 
-use bpf_infer_base::Condition;
+use bpf_infer_base::ForeseenCondition;
 use std::alloc::{AllocError, AllocFailed};
 use thiserror::Error;
 
@@ -12,35 +12,56 @@ use thiserror::Error;
 pub enum HardenError {
     /// H1: the access at the slot goes by a pointer into a caller's frame.
     #[error("at slot {slot}: {}", self.text())]
-    FramePointer { slot: u32 },
+    FramePointer {
+        slot: u32,
+    },
     /// H2: the instruction at the slot reads what is a pointer on one way and a number, another pointer or nothing on another.
     #[error("at slot {slot}: {}", self.text())]
-    MixedKinds { slot: u32 },
+    MixedKinds {
+        slot: u32,
+    },
     /// H3: neither a register nor the frame of the function at the slot has room for what hardening has to keep.
     #[error("at slot {slot}: {}", self.text())]
-    FullFrame { slot: u32 },
+    FullFrame {
+        slot: u32,
+    },
     /// H4: the program would have more than 65,536 slots; the slot is its last one.
     #[error("at slot {slot}: {}", self.text())]
-    TooLong { slot: u32 },
+    TooLong {
+        slot: u32,
+    },
     /// H5: the call at the slot is part of a recursion.
     #[error("at slot {slot}: {}", self.text())]
-    Recursion { slot: u32 },
+    Recursion {
+        slot: u32,
+    },
     /// H6: the function at the slot reads all five arguments, so the context can't be handed to it.
     #[error("at slot {slot}: {}", self.text())]
-    FiveArguments { slot: u32 },
+    FiveArguments {
+        slot: u32,
+    },
     /// H7: the checker would refuse the instruction at the slot, and no change makes it take it.
     #[error("at slot {slot}: {}: {condition}", self.text())]
-    Fault { slot: u32, condition: Condition },
+    Fault {
+        slot: u32,
+        condition: ForeseenCondition,
+    },
     /// H8: the budget of the loop at the slot is over a limit, or of the whole program where it is slot 0, or isn't found though
     /// the loop has a counter of turns; at slot 0 also where 48 rounds weren't enough.
     #[error("at slot {slot}: {}", self.text())]
-    NoBudget { slot: u32 },
+    NoBudget {
+        slot: u32,
+    },
     /// H9: the jump at the slot would lead further than 32,767 slots.
     #[error("at slot {slot}: {}", self.text())]
-    FarJump { slot: u32 },
+    FarJump {
+        slot: u32,
+    },
     /// H10: no states are found for the function at the slot.
     #[error("at slot {slot}: {}", self.text())]
-    Unstable { slot: u32 },
+    Unstable {
+        slot: u32,
+    },
     /// H11: a block has less than eight bytes.
     #[error("{}", self.text())]
     ShortBlock,

@@ -8,10 +8,10 @@ use Rattle.bpf_classic.specs.declared.border.Border.{Border}
 use Rattle.bpf_classic.specs.declared.border.Border.TheVariants.{Line as AtLine, Word as AtWord}
 use Rattle.bpf_classic.specs.declared.fault.TextFault.{TextFault}
 use Rattle.bpf_classic.specs.declared.fault.TextFault.TheVariants.{Row as RowFault, Count as CountFault}
-use Rattle.bpf_classic.specs.declared.line.Found.{Found}
-use Rattle.bpf_classic.specs.declared.line.Line.{Line}
-use Rattle.bpf_classic.specs.declared.line.Line.TheVariants.{Blank, Count, Row, Other}
-use Rattle.bpf_classic.specs.declared.text.Said.{Said}
+use Rattle.bpf_classic.specs.declared.line.NumbersSoFar.{NumbersSoFar}
+use Rattle.bpf_classic.specs.declared.line.TextLine.{TextLine}
+use Rattle.bpf_classic.specs.declared.line.TextLine.TheVariants.{Blank, Count, Row, Other}
+use Rattle.bpf_classic.specs.declared.text.SaidCount.{SaidCount}
 
 -- ---- parts
 
@@ -63,11 +63,11 @@ number word = if is_hexadecimal word then digits_value 16 (drop 2 word) else dig
 -- ---- lines
 
 -- no numbers so far
-abbrev pub none_found : Found
+abbrev pub none_found : NumbersSoFar
 none_found = record { count = 0; code = 0; jt = 0; jf = 0; k = 0 }
 
 -- one more number; none behind four
-abbrev pub with_number : Found → ℕ → Option Found
+abbrev pub with_number : NumbersSoFar → ℕ → Option NumbersSoFar
 with_number f n =
     if f.count == 0 then Some (record { count = 1; code = n; jt = f.jt; jf = f.jf; k = f.k })
     else if f.count == 1 then Some (record { count = 2; code = f.code; jt = n; jf = f.jf; k = f.k })
@@ -76,49 +76,49 @@ with_number f n =
     else None
 
 -- one more word; between two borders side by side there is none
-abbrev pub with_word : Found → List ℕ → Option Found
+abbrev pub with_word : NumbersSoFar → List ℕ → Option NumbersSoFar
 with_word f word = if length word == 0 then Some f else option_and_then (with_number f) (number word)
 
 -- the numbers of words, behind those that were found; none where a word isn't a number
-abbrev pub numbers_from : Found → List (List ℕ) → Option Found
+abbrev pub numbers_from : NumbersSoFar → List (List ℕ) → Option NumbersSoFar
 numbers_from f [] = Some f
 numbers_from f (word ∷ words) = option_and_then (λ g. numbers_from g words) (with_word f word)
 
-abbrev pub numbers : List ℕ → Option Found
+abbrev pub numbers : List ℕ → Option NumbersSoFar
 numbers line = numbers_from none_found (parts AtWord line)
 
 -- four numbers are an instruction, if they aren't too great
-abbrev pub row_of : Found → Line
+abbrev pub row_of : NumbersSoFar → TextLine
 row_of f =
     if nat_lt f.code (2 ^ 16) && (nat_lt f.jt (2 ^ 8) && nat_lt f.jf (2 ^ 8)) then Row (record { code = f.code; jt = f.jt; jf = f.jf; k = f.k }) else Other
 
-abbrev pub line_with : Option Found → Line
+abbrev pub line_with : Option NumbersSoFar → TextLine
 line_with None = Other
 line_with (Some f) = if f.count == 0 then Blank else if f.count == 1 then Count f.code else if f.count == 4 then row_of f else Other
 
-abbrev pub line_of : List ℕ → Line
+abbrev pub line_of : List ℕ → TextLine
 line_of line = line_with (numbers line)
 
 -- ---- the text
 
 -- behind the last line there are as many instructions as a line said
-abbrev pub ended : Option Said → List Raw → Result (List Raw) TextFault
+abbrev pub ended : Option SaidCount → List Raw → Result (List Raw) TextFault
 ended None raws = Ok raws
 ended (Some s) raws = if s.count == length raws then Ok raws else Err (CountFault s.line s.count (length raws))
 
 -- whether a line may say how many follow: none did, and none stand in front of it
-abbrev pub may_count : Option Said → List Raw → Bool
+abbrev pub may_count : Option SaidCount → List Raw → Bool
 may_count said raws = is_none said && (length raws == 0)
 
 -- a line with this number, behind what was said and the instructions in front of it
-abbrev pub read_line : ℕ → Option Said → List Raw → Line → (Option Said → List Raw → Result (List Raw) TextFault) → Result (List Raw) TextFault
+abbrev pub read_line : ℕ → Option SaidCount → List Raw → TextLine → (Option SaidCount → List Raw → Result (List Raw) TextFault) → Result (List Raw) TextFault
 read_line line said raws Blank on = on said raws
 read_line line said raws (Row raw) on = on said (raws ++ raw ∷ [])
 read_line line said raws (Count n) on = if may_count said raws then on (Some (record { line = line; count = n })) raws else Err (RowFault line)
 read_line line said raws Other on = Err (RowFault line)
 
 -- lines behind so many
-abbrev pub read_lines : ℕ → Option Said → List Raw → List (List ℕ) → Result (List Raw) TextFault
+abbrev pub read_lines : ℕ → Option SaidCount → List Raw → List (List ℕ) → Result (List Raw) TextFault
 read_lines line said raws [] = ended said raws
 read_lines line said raws (part ∷ rest) = read_line (line + 1) said raws (line_of part) (λ said' raws'. read_lines (line + 1) said' raws' rest)
 

@@ -15,8 +15,8 @@ use Rattle.bpf_classic.specs.declared.refusal.Kind.{Kind}
 use Rattle.bpf_classic.specs.declared.refusal.Kind.TheVariants.{Packets, Seccomp, Extended}
 use Rattle.bpf_classic.specs.declared.refusal.Fault.{Fault}
 use Rattle.bpf_classic.specs.declared.refusal.Fault.TheVariants.{Code, Cell as CellFault, Constant as ConstantFault, Target, Seccomp as SeccompFault, Extension as ExtensionFault, NoWord}
-use Rattle.bpf_classic.specs.declared.refusal.Refusal.{Refusal}
-use Rattle.bpf_classic.specs.declared.refusal.Refusal.TheVariants.{Length as LengthRefused, Instruction as InstructionRefused, Memory}
+use Rattle.bpf_classic.specs.declared.refusal.FilterRefusal.{FilterRefusal}
+use Rattle.bpf_classic.specs.declared.refusal.FilterRefusal.TheVariants.{Length as LengthRefused, Instruction as InstructionRefused, Memory}
 
 -- where Linux's extensions begin: offsets that no packet has (SKF_AD_OFF, -0x1000), and the last of them (SKF_AD_VLAN_TPID)
 abbrev pub extensions : ℕ
@@ -130,12 +130,12 @@ pub record IsLowestFault (kind : Kind) (raws : List Raw) (at : ℕ) (fault : Fau
   pub lower : (j : ℕ) → j < at → fault_at kind raws j ≡ None
 
 -- the instructions are refused for this cause
-abbrev pub IsRefused : Kind → List Raw → Refusal → Type 0
+abbrev pub IsRefused : Kind → List Raw → FilterRefusal → Type 0
 IsRefused kind raws LengthRefused = IsBadLength raws
 IsRefused kind raws (InstructionRefused at fault) = (IsBadLength raws → ⊥) × IsLowestFault kind raws at fault
 IsRefused kind raws Memory = ⊤
 
-abbrev pub refusal_number : Refusal → ℕ
+abbrev pub refusal_number : FilterRefusal → ℕ
 refusal_number LengthRefused = 1
 refusal_number (InstructionRefused at Code) = 2
 refusal_number (InstructionRefused at CellFault) = 3

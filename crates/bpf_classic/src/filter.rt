@@ -7,7 +7,7 @@ use crate::auxiliary::instruction_in;
 use crate::faults::lowest_fault;
 use crate::instruction::Classic;
 use crate::raw::Raw;
-use crate::refusal::{Kind, Refusal};
+use crate::refusal::{FilterRefusal, Kind};
 use std::alloc::{AllocError, Global};
 use std::marker::Model;
 
@@ -48,20 +48,20 @@ impl Filter {
 
     /// The filter of these instructions, for packets or for seccomp: 1 to 4,096 of them, each without fault. The refusals
     /// come in this order: B1; of the lowest instruction with a fault the first of B2 to B7; B9 if memory runs out.
-    pub fn new(alloc: Global, kind: Kind, raws: &[Raw]) -> Result<Filter, Refusal>
+    pub fn new(alloc: Global, kind: Kind, raws: &[Raw]) -> Result<Filter, FilterRefusal>
         ensures ok { IfOk result (λ f. (f.kind ≡ kind) × (f.list ≡ filter_map (instruction_in kind) raws.now)) }
         ensures valid { IfOk result (λ f. IsFilter f.kind f.list) }
         ensures err { IfErr result (λ e. IsRefused kind raws.now e) }
     {
         if raws.is_empty() || raws.len() > MAX_FILTER {
-            return Err(Refusal::Length);
+            return Err(FilterRefusal::Length);
         }
         if let Some((at, fault)) = lowest_fault(kind, raws) {
-            return Err(Refusal::Instruction { at, fault });
+            return Err(FilterRefusal::Instruction { at, fault });
         }
         match instructions(alloc, kind, raws) {
             Ok(list) => Ok(Filter { kind, list }),
-            Err(_) => Err(Refusal::Memory),
+            Err(_) => Err(FilterRefusal::Memory),
         }
     }
 

@@ -39,5 +39,5 @@ pub use laws::{
 pub use layout::{Annotated, Form, Layout, Wanted, usual_turns};
 pub use listing::put_raw;
 pub use raw::Raw;
-pub use refusal::{Fault, Kind, Refusal};
+pub use refusal::{Fault, FilterRefusal, Kind};
 pub use text::raws_of;

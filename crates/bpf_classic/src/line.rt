@@ -9,7 +9,7 @@ use crate::raw::Raw;
 
 /// The numbers of a line so far, as those of an instruction.
 #[derive(Clone, Copy)]
-pub(crate) struct Found {
+pub(crate) struct NumbersSoFar {
     count: u32,
     code: u32,
     jt: u32,
@@ -19,7 +19,7 @@ pub(crate) struct Found {
 
 /// What a line tells: nothing, how many instructions follow, or one.
 #[derive(Clone, Copy)]
-pub(crate) enum Line {
+pub(crate) enum TextLine {
     Blank,
     Count(u32),
     Row(Raw),
@@ -27,10 +27,10 @@ pub(crate) enum Line {
 }
 
 /// No numbers.
-fn none_found() -> Found
+fn none_found() -> NumbersSoFar
     ensures { result ≡ none_found }
 {
-    Found {
+    NumbersSoFar {
         count: 0,
         code: 0,
         jt: 0,
@@ -40,26 +40,26 @@ fn none_found() -> Found
 }
 
 /// The same with one more number; None where there are four.
-fn with_number(f: Found, number: u32) -> Option<Found>
+fn with_number(f: NumbersSoFar, number: u32) -> Option<NumbersSoFar>
     ensures { result ≡ with_number f number }
 {
     match f.count {
-        0 => Some(Found {
+        0 => Some(NumbersSoFar {
             count: 1,
             code: number,
             ..f
         }),
-        1 => Some(Found {
+        1 => Some(NumbersSoFar {
             count: 2,
             jt: number,
             ..f
         }),
-        2 => Some(Found {
+        2 => Some(NumbersSoFar {
             count: 3,
             jf: number,
             ..f
         }),
-        3 => Some(Found {
+        3 => Some(NumbersSoFar {
             count: 4,
             k: number,
             ..f
@@ -69,7 +69,7 @@ fn with_number(f: Found, number: u32) -> Option<Found>
 }
 
 /// The same with one more word, if that is a number. Between two borders side by side there is none.
-fn with_word(f: Found, word: &[u8]) -> Option<Found>
+fn with_word(f: NumbersSoFar, word: &[u8]) -> Option<NumbersSoFar>
     ensures { result ≡ with_word f word.now }
 {
     if word.is_empty() {
@@ -79,7 +79,7 @@ fn with_word(f: Found, word: &[u8]) -> Option<Found>
 }
 
 /// The numbers of a line; None where something else stands there, or more than four.
-fn numbers(line: &[u8]) -> Option<Found>
+fn numbers(line: &[u8]) -> Option<NumbersSoFar>
     ensures { result ≡ numbers line.now }
 {
     let mut found = none_found();
@@ -93,31 +93,31 @@ fn numbers(line: &[u8]) -> Option<Found>
 }
 
 /// The instruction of four numbers.
-fn row_of(f: Found) -> Line
+fn row_of(f: NumbersSoFar) -> TextLine
     ensures { result ≡ row_of f }
 {
     if f.code < 0x1_0000 && f.jt < 0x100 && f.jf < 0x100 {
-        Line::Row(Raw {
+        TextLine::Row(Raw {
             code: f.code as u16,
             jt: f.jt as u8,
             jf: f.jf as u8,
             k: f.k,
         })
     } else {
-        Line::Other
+        TextLine::Other
     }
 }
 
-pub(crate) fn line_of(line: &[u8]) -> Line
+pub(crate) fn line_of(line: &[u8]) -> TextLine
     ensures { result ≡ line_of line.now }
 {
     let Some(found) = numbers(line) else {
-        return Line::Other;
+        return TextLine::Other;
     };
     match found.count {
-        0 => Line::Blank,
-        1 => Line::Count(found.code),
+        0 => TextLine::Blank,
+        1 => TextLine::Count(found.code),
         4 => row_of(found),
-        _ => Line::Other,
+        _ => TextLine::Other,
     }
 }

@@ -38,7 +38,7 @@ pub enum Fault {
 
 /// Why instructions are no filter.
 #[derive(Clone, Copy, Debug, PartialEq, Eq, Error)]
-pub enum Refusal {
+pub enum FilterRefusal {
     /// B1: there are none, or more than 4,096.
     #[error("a filter has from 1 to 4,096 instructions")]
     Length,
@@ -50,7 +50,7 @@ pub enum Refusal {
     Memory,
 }
 
-impl Refusal {
+impl FilterRefusal {
     ghost use Rattle.std.specs.Prelude.{◌≡◌};
     ghost use Rattle.bpf_classic.specs.Valid.{refusal_number};
 
@@ -59,8 +59,8 @@ impl Refusal {
         ensures { result ≡ refusal_number self.now }
     {
         match self {
-            Refusal::Length => 1,
-            Refusal::Instruction { fault, .. } => match fault {
+            FilterRefusal::Length => 1,
+            FilterRefusal::Instruction { fault, .. } => match fault {
                 Fault::Code => 2,
                 Fault::Cell => 3,
                 Fault::Constant => 4,
@@ -68,7 +68,7 @@ impl Refusal {
                 Fault::Seccomp => 6,
                 Fault::Extension | Fault::NoWord => 7,
             },
-            Refusal::Memory => 9,
+            FilterRefusal::Memory => 9,
         }
     }
 }

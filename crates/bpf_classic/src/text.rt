@@ -7,13 +7,13 @@ ghost use Rattle.bpf_classic.specs.declared.fault.TextFault.TheVariants.{Memory}
 
 use crate::border::{Border, cut};
 use crate::fault::TextFault;
-use crate::line::{Line, line_of};
+use crate::line::{TextLine, line_of};
 use crate::raw::Raw;
 use std::alloc::{AllocError, Global};
 
 /// How many instructions follow a line, as it says.
 #[derive(Clone, Copy)]
-struct Said {
+struct SaidCount {
     line: usize,
     count: u32,
 }
@@ -26,20 +26,20 @@ fn push(raws: &mut Vec<Raw>, raw: Raw) -> Result<(), AllocError>
 }
 
 /// Whether a line may say how many follow.
-fn may_count(said: Option<Said>, raws: &[Raw]) -> bool
+fn may_count(said: Option<SaidCount>, raws: &[Raw]) -> bool
     ensures { result ≡ may_count said raws.now }
 {
     said.is_none() && raws.is_empty()
 }
 
 /// The instructions, if there are as many as a line says.
-fn ended(said: Option<Said>, raws: Vec<Raw>) -> Result<Vec<Raw>, TextFault>
+fn ended(said: Option<SaidCount>, raws: Vec<Raw>) -> Result<Vec<Raw>, TextFault>
     ensures ok { IfOk result (λ v. (ended said raws.items ≡ Ok v.items)) }
     ensures err { IfErr result (λ fault. ended said raws.items ≡ Err fault) }
 {
     match said {
         None => Ok(raws),
-        Some(Said { line, count }) => {
+        Some(SaidCount { line, count }) => {
             let found = raws.len();
             if count as usize == found {
                 Ok(raws)
@@ -69,10 +69,13 @@ pub fn raws_of(alloc: Global, text: &[u8]) -> Result<Vec<Raw>, TextFault>
         rest = behind;
         line += 1;
         match line_of(part) {
-            Line::Blank => {}
-            Line::Count(count) if may_count(said, &raws) => said = Some(Said { line, count }),
-            Line::Row(raw) => push(&mut raws, raw)?,
-            Line::Count(_) | Line::Other => return Err(TextFault::Row { line }),
+            TextLine::Blank => {}
+            TextLine::Count(count) if may_count(said, &raws) => said = Some(SaidCount {
+                line,
+                count,
+            }),
+            TextLine::Row(raw) => push(&mut raws, raw)?,
+            TextLine::Count(_) | TextLine::Other => return Err(TextFault::Row { line }),
         }
     }
     ended(said, raws)

@@ -5,7 +5,7 @@ use Rattle.bpf_insn.specs.Image.{image}
 use Rattle.bpf_insn.specs.Limits.{max_context}
 use Rattle.bpf_cert.specs.View.{CertificateView}
 use Rattle.bpf_cert.specs.Spelling.{certificate_text}
-use Rattle.bpf_follows.specs.declared.notes.Place.{Place}
+use Rattle.bpf_follows.specs.declared.notes.Counterpart.{Counterpart}
 use Rattle.bpf_certify.specs.Certified.{Answers as IsAnswer, IsPaid, StandsFor}
 use Rattle.bpf_certify.specs.declared.certified.Certified.{Certified}
 use Rattle.bpf_certify.specs.declared.certified.Rewritten.{Rewritten}
@@ -51,7 +51,7 @@ certifies_of opening old c new program length d short loads answers shown = reco
 }
 
 -- the same of what is made, and told, of it
-pub certifies_as : {S : Type 0} (opening : Opening S) (old : S) (c : Certifying) (new : S) (made other : Instructions) (certificate : CertificateView) (notes : List (Option Place)) (told also : Certification)
+pub certifies_as : {S : Type 0} (opening : Opening S) (old : S) (c : Certifying) (new : S) (made other : Instructions) (certificate : CertificateView) (notes : List (Option Counterpart)) (told also : Certification)
     → made ≡ other → told ≡ also → Certifies opening old c new other certificate notes also → Certifies opening old c new made certificate notes told
 certifies_as opening old c new made other certificate notes told also same_made same_told certifies =
     subst (λ m. Certifies opening old c new m certificate notes told) (sym same_made) (subst (λ t. Certifies opening old c new other certificate notes t) (sym same_told) certifies)
@@ -112,20 +112,20 @@ of_writing : {S : Type 0} (w : Putting S) (old : S) (c : Certifying) (made : Ins
 of_writing w old c made certificate new f (inl fails) = no_pair w.pairs old c made certificate new f fails
 of_writing w old c made certificate new f (inr fails) = no_texts w.makes fails.0 (hardening_of c) new f fails.2
 
-fails_of : {S : Type 0} (o : Opening S) (w : Putting S) (old : S) (c : Certifying) (between new : S) (made : Instructions) (certificate : CertificateView) (notes : List (Option Place)) (told : Certification) (f : Failure)
+fails_of : {S : Type 0} (o : Opening S) (w : Putting S) (old : S) (c : Certifying) (between new : S) (made : Instructions) (certificate : CertificateView) (notes : List (Option Counterpart)) (told : Certification) (f : Failure)
     → Certifies o old c between made certificate notes told → IsOfWriting f → NotAllPut w between c made certificate new f → CertifyFails o w old c new f
 fails_of o w old c between new made certificate notes told (CannotWrite name) certifies writing fails = (between, made, certificate, notes, told, certifies, fails)
 fails_of o w old c between new made certificate notes told NoMemory certifies writing fails = tt
 fails_of o w old c between new made certificate notes told (CannotRead name) certifies writing fails = absurd writing
 fails_of o w old c between new made certificate notes told failure certifies writing fails = absurd writing
 
-pub puts_fail : {S A : Type 0} (result : Result A Failure) (o : Opening S) (w : Putting S) (old : S) (c : Certifying) (between new : S) (made : Instructions) (certificate : CertificateView) (notes : List (Option Place)) (told : Certification)
+pub puts_fail : {S A : Type 0} (result : Result A Failure) (o : Opening S) (w : Putting S) (old : S) (c : Certifying) (between new : S) (made : Instructions) (certificate : CertificateView) (notes : List (Option Counterpart)) (told : Certification)
     → Certifies o old c between made certificate notes told → IfErr result (NotAllPut w between c made certificate new) → IfErr result (CertifyFails o w old c new)
 puts_fail (Ok s) o w old c between new made certificate notes told certifies fails = tt
 puts_fail (Err f) o w old c between new made certificate notes told certifies fails =
     fails_of o w old c between new made certificate notes told f certifies (of_writing w between c made certificate new f fails) fails
 
-pub puts_left : {S A : Type 0} (result : Result A Failure) (o : Opening S) (w : Putting S) (old : S) (c : Certifying) (between new : S) (made : Instructions) (certificate : CertificateView) (notes : List (Option Place)) (told : Certification)
+pub puts_left : {S A : Type 0} (result : Result A Failure) (o : Opening S) (w : Putting S) (old : S) (c : Certifying) (between new : S) (made : Instructions) (certificate : CertificateView) (notes : List (Option Counterpart)) (told : Certification)
     → Certifies o old c between made certificate notes told → IfErr result (λ _. NotAllStand w between c made certificate new) → IfErr result (λ _. NotCertified o w old c new)
 puts_left (Ok s) o w old c between new made certificate notes told certifies left = tt
 puts_left (Err f) o w old c between new made certificate notes told certifies left = inr (between, made, certificate, notes, told, certifies, left)

@@ -11,8 +11,8 @@ use Rattle.bpf_check.specs.declared.refusal.Refusal.{Refusal}
 use Rattle.bpf_follows.specs.Meaning.{KeepsMeaning}
 use Rattle.bpf_follows.specs.Mismatches.{IsMismatch}
 use Rattle.bpf_explain_harden.specs.Hardened.{IsMade, IsUnhardened}
-use Rattle.bpf_explain_harden.specs.declared.hardened.Hardening.{Hardening}
-use Rattle.bpf_explain_harden.specs.declared.hardened.Made.{Made}
+use Rattle.bpf_explain_harden.specs.declared.hardened.HardeningAsked.{HardeningAsked}
+use Rattle.bpf_explain_harden.specs.declared.hardened.HardenedProgram.{HardenedProgram}
 use Rattle.bpf_explain_harden.specs.declared.refusal.Unhardened.{Unhardened}
 use Rattle.bpf_explain_harden.specs.declared.refusal.Unhardened.TheVariants.{Refused, Unshown}
 use Rattle.bpf_answers.specs.Opened.{Opening, Unreadable}
@@ -26,8 +26,8 @@ use Rattle.std.specs.Borrow.{Bor}
 use Rattle.bpf_answers.specs.declared.failure.Failure.{Failure}
 use Rattle.bpf_answers.specs.declared.failure.Failure.TheVariants.{CannotRead}
 use Rattle.bpf_command.specs.Explained.{Answers, HardenedSays, IsHardened, JudgesOf, LinesAt, LinesFail, SoughtSays, TaskSays}
-use Rattle.bpf_command.specs.declared.commands.explain.Task.{Task}
-use Rattle.bpf_command.specs.declared.commands.explain.Task.TheVariants.{Search, Harden}
+use Rattle.bpf_command.specs.declared.commands.explain.ExplainTask.{ExplainTask}
+use Rattle.bpf_command.specs.declared.commands.explain.ExplainTask.TheVariants.{Search, Harden}
 use Rattle.bpf_command_core.proofs.JudgedLemmas.{loaded_says}
 
 -- an answer that was printed has its status
@@ -73,7 +73,7 @@ hardened_so length padded turns p made c status is (inl h) = (Written, h.0, (mad
 hardened_so length padded turns p made c status is (inr h) = (NotCertified (h.1).0, h.0, (made, c, is, (h.1).1))
 
 -- what is hardened for contexts of at most the greatest length, is so for those that were asked for
-pub is_hardened : (within : Hardening) (length : ℕ) (p : Instructions) (m : Made) → within.length ≡ min length max_context → IsMade p within m → IsHardened length within.padded within.turns p m.program m.certificate
+pub is_hardened : (within : HardeningAsked) (length : ℕ) (p : Instructions) (m : HardenedProgram) → within.length ≡ min length max_context → IsMade p within m → IsHardened length within.padded within.turns p m.program m.certificate
 is_hardened within length p m same made =
     record {
       untouched = m.untouched;
@@ -83,18 +83,18 @@ is_hardened within length p m same made =
     }
 
 -- what isn't hardened is told with its refusal
-pub unhardened_so : (within : Hardening) (length : ℕ) (p : Instructions) (why : Unhardened) → within.length ≡ min length max_context → IsUnhardened p within why → Answers (HardenedSays length within.padded within.turns p) 1
+pub unhardened_so : (within : HardeningAsked) (length : ℕ) (p : Instructions) (why : Unhardened) → within.length ≡ min length max_context → IsUnhardened p within why → Answers (HardenedSays length within.padded within.turns p) 1
 unhardened_so within length p (Refused e) same inside = (NotHardened e, refl, inside)
 unhardened_so within length p (Unshown m) same fails =
     (NotShown m, refl, (fails.0, fails.1, subst (λ n. IsMismatch p fails.0 fails.1 (record { length = n; padded = within.padded; turns = within.turns; untouched = 0 }) m) same fails.2))
 
-made_says : {S : Type 0} (opening : Opening S) (order : Order) (old : S) (input : List ℕ) (new : S) (task : Task) (p : Instructions) → LoadsImage opening order old input new p → (x : Answer) → TaskSays task p x
+made_says : {S : Type 0} (opening : Opening S) (order : Order) (old : S) (input : List ℕ) (new : S) (task : ExplainTask) (p : Instructions) → LoadsImage opening order old input new p → (x : Answer) → TaskSays task p x
     → ImageSays opening order old input new (TaskSays task) x
 made_says opening order old input new (Search asked) p image (NoImage e) h = absurd h
 made_says opening order old input new (Harden asked) p image (NoImage e) h = absurd h
 made_says opening order old input new task p image x h = (p, image, h)
 
-pub made_so : {S E : Type 0} (result : Result ℕ E) (opening : Opening S) (order : Order) (old : S) (input : List ℕ) (new : S) (task : Task) (p : Instructions) → LoadsImage opening order old input new p
+pub made_so : {S E : Type 0} (result : Result ℕ E) (opening : Opening S) (order : Order) (old : S) (input : List ℕ) (new : S) (task : ExplainTask) (p : Instructions) → LoadsImage opening order old input new p
     → IfOk result (Answers (TaskSays task p)) → IfOk result (Answers (ImageSays opening order old input new (TaskSays task)))
 made_so (Ok s) opening order old input new task p image h = (h.0, h.1, made_says opening order old input new task p image h.0 h.2)
 made_so (Err e) opening order old input new task p image h = tt

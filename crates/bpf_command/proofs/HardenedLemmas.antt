@@ -5,7 +5,7 @@ use Rattle.bpf_insn.specs.Instruction.{Instructions}
 use Rattle.bpf_insn.specs.Image.{IsProgram, image}
 use Rattle.bpf_follows.specs.declared.mismatch.Mismatch.{Mismatch}
 use Rattle.bpf_follows.specs.declared.notes.Bounds.{Bounds}
-use Rattle.bpf_follows.specs.declared.notes.Place.{Place}
+use Rattle.bpf_follows.specs.declared.notes.Counterpart.{Counterpart}
 use Rattle.bpf_follows.specs.Laws.{MatchingKeepsMeaning}
 use Rattle.bpf_follows.specs.Meaning.{KeepsMeaning}
 use Rattle.bpf_follows.specs.NotesText.{notes_text}
@@ -15,7 +15,7 @@ use Rattle.bpf_answers.specs.Made.{Making}
 use Rattle.bpf_answers.specs.Loaded.{ImageFails, LoadsImage}
 use Rattle.bpf_answers.specs.Told.{IsQuiet}
 use Rattle.bpf_command.specs.Hardened.{AllStand, AreLeft, BothStand, HardenFails, Hardens, IsKept, IsLeft, IsLeftSaid, NotBothPut, NotBothStand, Show, Stands, Unput, bounds_of}
-use Rattle.bpf_command.specs.declared.commands.harden.Kept.{Kept}
+use Rattle.bpf_command.specs.declared.commands.harden.KeptMeaning.{KeptMeaning}
 use Rattle.bpf_answers.specs.declared.failure.Failure.{Failure}
 use Rattle.bpf_answers.specs.declared.failure.Failure.TheVariants.{CannotRead, CannotWrite, NoMemory}
 
@@ -64,7 +64,7 @@ other_fault making old h new name (inr never) = never.3
 -- ---- what is shown
 
 -- what is told of the notes is so, since it is what was found
-pub kept_of : (program made : Instructions) (h : Hardening) (notes : List (Option Place)) (kept : Kept) (untouched : ℕ) (mismatch : Option Mismatch) → kept.bounds ≡ bounds_of h untouched → kept.mismatch ≡ mismatch
+pub kept_of : (program made : Instructions) (h : Hardening) (notes : List (Option Counterpart)) (kept : KeptMeaning) (untouched : ℕ) (mismatch : Option Mismatch) → kept.bounds ≡ bounds_of h untouched → kept.mismatch ≡ mismatch
     → AreLeft h untouched → IsLeftSaid h untouched kept.said → Show program made notes (bounds_of h untouched) mismatch → (h.unproved ≡ false → mismatch ≡ None) → IsKept program made h notes kept
 kept_of program made h notes kept untouched mismatch runs found left said shown proved = record {
   untouched = untouched;
@@ -75,7 +75,7 @@ kept_of program made h notes kept untouched mismatch runs found left said shown 
   proved = λ asked. subst (λ m. m ≡ None) (sym found) (proved asked);
 }
 
-kept_means : MatchingKeepsMeaning → (program made : Instructions) (notes : List (Option Place)) (bounds : Bounds) (mismatch : Option Mismatch) → IsProgram program.list → Show program made notes bounds mismatch
+kept_means : MatchingKeepsMeaning → (program made : Instructions) (notes : List (Option Counterpart)) (bounds : Bounds) (mismatch : Option Mismatch) → IsProgram program.list → Show program made notes bounds mismatch
     → IfNone mismatch (KeepsMeaning program made bounds)
 kept_means law program made notes bounds None is_program shown = law program made notes bounds is_program shown
 kept_means law program made notes bounds (Some m) is_program shown = tt
@@ -83,7 +83,7 @@ kept_means law program made notes bounds (Some m) is_program shown = tt
 -- ---- behind OUT
 
 -- what was made of the program at the name
-pub made_of : {S : Type 0} (opening : Opening S) (old : S) (h : Hardening) (new : S) (program made : Instructions) (notes : List (Option Place)) (kept : Kept) → MatchingKeepsMeaning
+pub made_of : {S : Type 0} (opening : Opening S) (old : S) (h : Hardening) (new : S) (program made : Instructions) (notes : List (Option Counterpart)) (kept : KeptMeaning) → MatchingKeepsMeaning
     → LoadsImage opening h.order old h.input.now new program → IsProgram made.list → IsKept program made h notes kept → Hardens opening old h new made notes kept
 made_of opening old h new program made notes kept law loads is_program is_kept = record {
   program = program;
@@ -93,7 +93,7 @@ made_of opening old h new program made notes kept law loads is_program is_kept =
   keeps = kept_means law program made notes kept.bounds kept.mismatch loads.is_image.program is_kept.shown;
 }
 
-pub all_stand : {S : Type 0} (opening : Opening S) (making : Making S) (old : S) (h : Hardening) (between put new : S) (made : Instructions) (notes : List (Option Place)) (kept : Kept) (text : List ℕ)
+pub all_stand : {S : Type 0} (opening : Opening S) (making : Making S) (old : S) (h : Hardening) (between put new : S) (made : Instructions) (notes : List (Option Counterpart)) (kept : KeptMeaning) (text : List ℕ)
     → Hardens opening old h between made notes kept → making between h.output.now (image made.order made.list) true put → IfSome h.notes (λ _. text ≡ notes_text notes)
     → BothStand making put h text new → AllStand opening making old h new kept
 all_stand opening making old h between put new made notes kept text hardens whole same both =
@@ -106,7 +106,7 @@ unread opening making old h new (CannotWrite name) fails quiet = absurd quiet
 unread opening making old h new NoMemory fails quiet = tt
 unread opening making old h new f fails quiet = absurd fails
 
-pub texts_fail : {S A : Type 0} (result : Result A Failure) (opening : Opening S) (making : Making S) (old : S) (h : Hardening) (between put new : S) (made : Instructions) (notes : List (Option Place)) (kept : Kept)
+pub texts_fail : {S A : Type 0} (result : Result A Failure) (opening : Opening S) (making : Making S) (old : S) (h : Hardening) (between put new : S) (made : Instructions) (notes : List (Option Counterpart)) (kept : KeptMeaning)
     → Hardens opening old h between made notes kept → making between h.output.now (image made.order made.list) true put
     → IfErr result (NotBothPut making put h new) → IfErr result (HardenFails opening making old h new)
 texts_fail (Ok s) opening making old h between put new made notes kept hardens whole fails = tt
@@ -116,7 +116,7 @@ texts_fail (Err (CannotRead name)) opening making old h between put new made not
 texts_fail (Err failure) opening making old h between put new made notes kept hardens whole (inl never) = absurd never
 texts_fail (Err failure) opening making old h between put new made notes kept hardens whole (inr never) = absurd never.3
 
-pub out_fails : {S A : Type 0} (result : Result A Failure) (opening : Opening S) (making : Making S) (old : S) (h : Hardening) (between new : S) (made : Instructions) (notes : List (Option Place)) (kept : Kept)
+pub out_fails : {S A : Type 0} (result : Result A Failure) (opening : Opening S) (making : Making S) (old : S) (h : Hardening) (between new : S) (made : Instructions) (notes : List (Option Counterpart)) (kept : KeptMeaning)
     → Hardens opening old h between made notes kept
     → IfErr result (λ f. ((f ≡ CannotWrite h.output) ⊎ (f ≡ NoMemory)) × making between h.output.now (image made.order made.list) false new) → IfErr result (HardenFails opening making old h new)
 out_fails (Ok s) opening making old h between new made notes kept hardens fails = tt

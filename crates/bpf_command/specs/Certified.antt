@@ -7,7 +7,7 @@ use Rattle.bpf_insn.specs.Limits.{max_context}
 use Rattle.bpf_cert.specs.View.{CertificateView}
 use Rattle.bpf_cert.specs.Spelling.{certificate_text}
 use Rattle.bpf_follows.specs.declared.notes.Bounds.{Bounds}
-use Rattle.bpf_follows.specs.declared.notes.Place.{Place}
+use Rattle.bpf_follows.specs.declared.notes.Counterpart.{Counterpart}
 use Rattle.bpf_follows.specs.Matching.{Matches}
 use Rattle.bpf_follows.specs.Meaning.{KeepsMeaning}
 use Rattle.bpf_follows.specs.NotesText.{notes_text}
@@ -58,7 +58,7 @@ runs_told length r = record { length = length; padded = r.padded; turns = r.turn
 -- What is told of a hardened program, which has the byte order of the one at IN, for the turns that are asked for: without `--unproved` it is
 -- shown; and what is shown keeps the meaning of the program at IN, since the notes match, for the very contexts, turns and bytes left to r10
 -- that are told.
-pub record IsRewriting (program made : Instructions) (c : Certifying) (length : ℕ) (notes : List (Option Place)) (r : Rewriting) : Type 0 where
+pub record IsRewriting (program made : Instructions) (c : Certifying) (length : ℕ) (notes : List (Option Counterpart)) (r : Rewriting) : Type 0 where
   pub padded_is : r.padded ≡ c.padded
   pub turns_are : IfSome c.turns (λ asked. r.turns ≡ asked)
   pub order_is : made.order ≡ program.order
@@ -67,13 +67,13 @@ pub record IsRewriting (program made : Instructions) (c : Certifying) (length : 
   pub keeps : IsTrue r.is_shown → KeepsMeaning program made (runs_told length r)
 
 -- the program is the one at IN, and contexts aren't blocks; or it was hardened
-abbrev pub IsMadeOf : Instructions → Instructions → Certifying → ℕ → List (Option Place) → Option Rewriting → Type 0
+abbrev pub IsMadeOf : Instructions → Instructions → Certifying → ℕ → List (Option Counterpart) → Option Rewriting → Type 0
 IsMadeOf program made c length notes None = (made ≡ program) × (c.padded ≡ false) × (notes ≡ [])
 IsMadeOf program made c length notes (Some r) = IsRewriting program made c length notes r
 
 -- The image is a program's. The certificate certifies the program that was made of it, for contexts of the length that is told, which is the one
 -- that was asked for, with the bound that is told, which is at most the one that was asked for.
-pub record Certifies {S : Type 0} (opening : Opening S) (old : S) (c : Certifying) (new : S) (made : Instructions) (certificate : CertificateView) (notes : List (Option Place)) (told : Certification) : Type 0 where
+pub record Certifies {S : Type 0} (opening : Opening S) (old : S) (c : Certifying) (new : S) (made : Instructions) (certificate : CertificateView) (notes : List (Option Counterpart)) (told : Certification) : Type 0 where
   pub program : Instructions
   pub loads : LoadsImage opening c.order old c.input.now new program
   pub length_is : c.length ≤ max_context → told.length ≡ c.length
@@ -89,7 +89,7 @@ abbrev pub made_of : Instructions → Certified → Instructions
 made_of program d = program_of program d.rewritten
 
 -- the notes by which it is shown; none of a program that stands as it is
-abbrev pub notes_of : Option Rewritten → List (Option Place)
+abbrev pub notes_of : Option Rewritten → List (Option Counterpart)
 notes_of None = []
 notes_of (Some r) = r.notes.items
 
@@ -157,7 +157,7 @@ IsRefusedBy opening old c new error =
 -- what was certified is put at its names
 abbrev pub Stands : {S : Type 0} → Opening S → Putting S → S → Certifying → S → Certification → Type 0
 Stands {S} o w old c new told =
-    (between : S) × (made : Instructions) × (certificate : CertificateView) × (notes : List (Option Place)) × (text : List ℕ)
+    (between : S) × (made : Instructions) × (certificate : CertificateView) × (notes : List (Option Counterpart)) × (text : List ℕ)
     × Certifies o old c between made certificate notes told × IfSome c.notes (λ _. text ≡ notes_text notes) × AllPut w between c made certificate text new
 
 -- OUT, CERT and the texts stand at their names; or none of them is opened
@@ -169,7 +169,7 @@ CertifySays o w old c new (Passed told) = Stands o w old c new told
 -- something was certified, of which this holds
 abbrev pub Behind : {S : Type 0} → Opening S → S → Certifying → (S → Instructions → CertificateView → Type 0) → Type 0
 Behind {S} o old c holds =
-    (between : S) × (made : Instructions) × (certificate : CertificateView) × (notes : List (Option Place)) × (told : Certification)
+    (between : S) × (made : Instructions) × (certificate : CertificateView) × (notes : List (Option Counterpart)) × (told : Certification)
     × Certifies o old c between made certificate notes told × holds between made certificate
 
 abbrev pub CertifyFails : {S : Type 0} → Opening S → Putting S → S → Certifying → S → Failure → Type 0

@@ -14,7 +14,7 @@ use Rattle.bpf_check.specs.RefusalNumbers.{refusal_slot, refusal_number}
 use Rattle.bpf_insn.specs.Limits.{max_context}
 use Rattle.bpf_infer_base.specs.RefusalNumbers.{infer_slot}
 use Rattle.bpf_follows.specs.declared.notes.Bounds.{Bounds}
-use Rattle.bpf_follows.specs.declared.notes.Place.{Place}
+use Rattle.bpf_follows.specs.declared.notes.Counterpart.{Counterpart}
 use Rattle.bpf_follows.specs.Meaning.{KeepsMeaning}
 use Rattle.bpf_follows.specs.Mismatches.{IsMismatch}
 use Rattle.bpf_changes.specs.RefusalNumbers.{harden_slot}
@@ -32,8 +32,8 @@ use Rattle.bpf_request.specs.declared.asking.Explaining.{Explaining}
 use Rattle.bpf_request.specs.declared.subject.Subject.{Subject}
 use Rattle.bpf_request.specs.declared.subject.Subject.TheVariants.{Image, Text, Certified, Slot, Inferred, Hardened, Graph, GraphAlone, Misfit}
 use Rattle.bpf_request.specs.CommandLine.{usual_turns}
-use Rattle.bpf_command.specs.declared.commands.explain.Task.{Task}
-use Rattle.bpf_command.specs.declared.commands.explain.Task.TheVariants.{Search, Harden}
+use Rattle.bpf_command.specs.declared.commands.explain.ExplainTask.{ExplainTask}
+use Rattle.bpf_command.specs.declared.commands.explain.ExplainTask.TheVariants.{Search, Harden}
 
 -- the status of an answer of which this holds
 abbrev pub Answers : (Answer → Type 0) → ℕ → Type 0
@@ -75,11 +75,11 @@ HardenedSays length padded turns p Written = (made : Instructions) × (c : Certi
 HardenedSays length padded turns p (NotCertified r) =
     (made : Instructions) × (c : CertificateView) × IsHardened length padded turns p made c × IsLeastFlaw made c (refusal_slot r) (refusal_number r)
 HardenedSays length padded turns p (NotHardened e) = harden_slot e < slots p.list
-HardenedSays length padded turns p (NotShown m) = (made : Instructions) × (notes : List (Option Place)) × IsMismatch p made notes (runs_for length padded turns 0) m
+HardenedSays length padded turns p (NotShown m) = (made : Instructions) × (notes : List (Option Counterpart)) × IsMismatch p made notes (runs_for length padded turns 0) m
 HardenedSays length padded turns p answer = ⊥
 
 -- what is said of a program for which something was made
-abbrev pub TaskSays : Task → Instructions → Answer → Type 0
+abbrev pub TaskSays : ExplainTask → Instructions → Answer → Type 0
 TaskSays (Search asked) = SoughtSays asked.wanted.least asked.wanted.most
 TaskSays (Harden asked) = HardenedSays asked.length asked.padded asked.turns
 

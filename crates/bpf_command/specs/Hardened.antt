@@ -4,7 +4,7 @@ use Rattle.std.specs.Borrow.{Bor}
 use Rattle.bpf_insn.specs.Instruction.{Instructions, slots}
 use Rattle.bpf_insn.specs.Image.{IsProgram, image}
 use Rattle.bpf_follows.specs.declared.notes.Bounds.{Bounds}
-use Rattle.bpf_follows.specs.declared.notes.Place.{Place}
+use Rattle.bpf_follows.specs.declared.notes.Counterpart.{Counterpart}
 use Rattle.bpf_follows.specs.Matching.{Matches}
 use Rattle.bpf_follows.specs.Mismatches.{IsMismatch}
 use Rattle.bpf_follows.specs.declared.mismatch.Mismatch.{Mismatch}
@@ -19,9 +19,9 @@ use Rattle.bpf_answers.specs.declared.answer.Answer.{Answer}
 use Rattle.bpf_answers.specs.declared.answer.Answer.TheVariants.{NoImage as ImageAnswer, NotHardened as HardenAnswer, NotShown as ShowAnswer, Written, WrittenFor}
 use Rattle.bpf_command.specs.declared.commands.harden.Attempt.{Attempt}
 use Rattle.bpf_command.specs.declared.commands.harden.Attempt.TheVariants.{NoImage, NotHardened, NotShown, Hardened}
-use Rattle.bpf_command.specs.declared.commands.harden.Kept.{Kept}
-use Rattle.bpf_command.specs.declared.commands.harden.Unshown.{Unshown}
-use Rattle.bpf_command.specs.declared.commands.harden.Unshown.TheVariants.{Memory as NoSpace, Differs}
+use Rattle.bpf_command.specs.declared.commands.harden.KeptMeaning.{KeptMeaning}
+use Rattle.bpf_command.specs.declared.commands.harden.UnshownMeaning.{UnshownMeaning}
+use Rattle.bpf_command.specs.declared.commands.harden.UnshownMeaning.TheVariants.{Memory as NoSpace, Differs}
 use Rattle.bpf_answers.specs.declared.failure.Failure.{Failure}
 use Rattle.bpf_answers.specs.declared.failure.Failure.TheVariants.{CannotRead, CannotWrite, NoMemory}
 
@@ -88,17 +88,17 @@ attempt_answer (NotShown m) = ShowAnswer m
 attempt_answer (Hardened kept) = said_answer kept.said
 
 -- What was made isn't shown to keep the meaning: for want of memory, or, without `--unproved`, since notes don't match.
-abbrev pub IsUnshown : Instructions → Instructions → Hardening → Unshown → Type 0
+abbrev pub IsUnshown : Instructions → Instructions → Hardening → UnshownMeaning → Type 0
 IsUnshown program made h NoSpace = ⊤
-IsUnshown program made h (Differs m) = (h.unproved ≡ false) × ((notes : List (Option Place)) × IsMismatch program made notes (bounds_of h (asked_bytes h)) m)
+IsUnshown program made h (Differs m) = (h.unproved ≡ false) × ((notes : List (Option Counterpart)) × IsMismatch program made notes (bounds_of h (asked_bytes h)) m)
 
 -- Notes show that what was made keeps the meaning, for these contexts and runs; or this fails of them.
-abbrev pub Show : Instructions → Instructions → List (Option Place) → Bounds → Option Mismatch → Type 0
+abbrev pub Show : Instructions → Instructions → List (Option Counterpart) → Bounds → Option Mismatch → Type 0
 Show program made notes bounds mismatch = MatchOption mismatch (Matches program made notes bounds) (IsMismatch program made notes bounds)
 
 -- What is told of a hardened program is so: on the contexts and for the turns that were asked for, where runs leave so many bytes to r10, its notes
 -- match, or this fails of them. Without `--unproved` they match.
-pub record IsKept (program made : Instructions) (h : Hardening) (notes : List (Option Place)) (kept : Kept) : Type 0 where
+pub record IsKept (program made : Instructions) (h : Hardening) (notes : List (Option Counterpart)) (kept : KeptMeaning) : Type 0 where
   pub untouched : ℕ
   pub left : AreLeft h untouched
   pub said : IsLeftSaid h untouched kept.said
@@ -107,11 +107,11 @@ pub record IsKept (program made : Instructions) (h : Hardening) (notes : List (O
   pub proved : h.unproved ≡ false → kept.mismatch ≡ None
 
 -- There are notes of which that is so, and a text is theirs, where a name for it is given.
-abbrev pub IsNoted : Instructions → Instructions → Hardening → Kept → List ℕ → Type 0
-IsNoted program made h kept text = (notes : List (Option Place)) × IsKept program made h notes kept × IfSome h.notes (λ _. text ≡ notes_text notes)
+abbrev pub IsNoted : Instructions → Instructions → Hardening → KeptMeaning → List ℕ → Type 0
+IsNoted program made h kept text = (notes : List (Option Counterpart)) × IsKept program made h notes kept × IfSome h.notes (λ _. text ≡ notes_text notes)
 
 -- The image is a program's, and what was made of it is a program, of which what is told is so. Where its notes match it keeps the meaning.
-pub record Hardens {S : Type 0} (opening : Opening S) (old : S) (h : Hardening) (new : S) (made : Instructions) (notes : List (Option Place)) (kept : Kept) : Type 0 where
+pub record Hardens {S : Type 0} (opening : Opening S) (old : S) (h : Hardening) (new : S) (made : Instructions) (notes : List (Option Counterpart)) (kept : KeptMeaning) : Type 0 where
   pub program : Instructions
   pub loads : LoadsImage opening h.order old h.input.now new program
   pub is_program : IsProgram made.list
@@ -119,9 +119,9 @@ pub record Hardens {S : Type 0} (opening : Opening S) (old : S) (h : Hardening) 
   pub keeps : IfNone kept.mismatch (KeepsMeaning program made kept.bounds)
 
 -- OUT holds the image of the program that was made, and the texts stand at their names
-abbrev pub AllStand : {S : Type 0} → Opening S → Making S → S → Hardening → S → Kept → Type 0
+abbrev pub AllStand : {S : Type 0} → Opening S → Making S → S → Hardening → S → KeptMeaning → Type 0
 AllStand {S} opening making old h new kept =
-    (between put : S) × (made : Instructions) × (notes : List (Option Place)) × Hardens opening old h between made notes kept
+    (between put : S) × (made : Instructions) × (notes : List (Option Counterpart)) × Hardens opening old h between made notes kept
     × making between h.output.now (image made.order made.list) true put × BothStand making put h (notes_text notes) new
 
 -- all stand, or none of them is opened
@@ -135,13 +135,13 @@ HardenSays opening making old h new (Hardened kept) = AllStand opening making ol
 -- the image can't be put at OUT
 abbrev pub NoOut : {S : Type 0} → Opening S → Making S → S → Hardening → S → Type 0
 NoOut {S} opening making old h new =
-    (between : S) × (made : Instructions) × (notes : List (Option Place)) × (kept : Kept) × Hardens opening old h between made notes kept
+    (between : S) × (made : Instructions) × (notes : List (Option Counterpart)) × (kept : KeptMeaning) × Hardens opening old h between made notes kept
     × making between h.output.now (image made.order made.list) false new
 
 -- it stands at OUT, and of the texts this holds
 abbrev pub BehindOut : {S : Type 0} → Opening S → Making S → S → Hardening → (S → Type 0) → Type 0
 BehindOut {S} opening making old h holds =
-    (between put : S) × (made : Instructions) × (notes : List (Option Place)) × (kept : Kept) × Hardens opening old h between made notes kept
+    (between put : S) × (made : Instructions) × (notes : List (Option Counterpart)) × (kept : KeptMeaning) × Hardens opening old h between made notes kept
     × making between h.output.now (image made.order made.list) true put × holds put
 
 -- the texts are written when OUT stands

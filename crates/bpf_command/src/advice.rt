@@ -7,12 +7,12 @@ ghost use Rattle.bpf_command.specs.declared.remark.Remark.TheVariants.{Shown};
 
 use crate::aside::Terminal;
 use crate::remark::Remark;
-use crate::shown::Line;
+use crate::shown::OneLine;
 use bpf_answers::{ContextError, Failure};
 use bpf_explain_harden::Unshown;
 use bpf_follows::{Bounds, Mismatch};
 use bpf_harden::HardenError;
-use bpf_infer::{Condition, InferError};
+use bpf_infer::{ForeseenCondition, InferError};
 use bpf_insn::Order;
 use bpf_request::{Clash, Contexts, Hardening, Inferring, Request, Subject};
 use std::alloc::{AllocError, Global};
@@ -22,7 +22,7 @@ use std::io::Write;
 /// Tells a line on a terminal. Whether it can be written makes no difference.
 fn tell_line<H: Terminal, D: Display + Drop>(aside: &H, line: D) {
     if let Some(mut terminal) = aside.terminal() {
-        let _ = write!(Line::new(&mut terminal), "{line}");
+        let _ = write!(OneLine::new(&mut terminal), "{line}");
         let _ = write!(terminal, "\n");
     }
 }
@@ -74,9 +74,9 @@ pub(crate) fn after_image<H: Terminal>(aside: &H, input: &str, order: Order) {
 
 /// The command that explains the search.
 #[derive(Clone, Copy)]
-struct Explaining<'a>(Inferring<'a>);
+struct ExplainAdvice<'a>(Inferring<'a>);
 
-impl<'a> Display for Explaining<'a> {
+impl<'a> Display for ExplainAdvice<'a> {
     fn fmt<W: fmt::Write>(&self, f: &mut fmt::Formatter<W>) -> fmt::Result {
         let Inferring {
             input,
@@ -102,11 +102,11 @@ fn may_be_hardened(error: InferError) -> bool {
     match error {
         InferError::Unstable { .. } | InferError::NoBudget { .. } => true,
         InferError::Fault {
-            condition: Condition::State(_) | Condition::FallsOff,
+            condition: ForeseenCondition::State(_) | ForeseenCondition::FallsOff,
             ..
         } => true,
         InferError::Fault {
-            condition: Condition::LeavesFunction,
+            condition: ForeseenCondition::LeavesFunction,
             ..
         } => false,
         InferError::Recursion { .. } | InferError::Memory => false,
@@ -130,7 +130,7 @@ pub(crate) fn after_search<H: Terminal>(
         most,
         ..
     } = asked;
-    let explaining = Explaining(asked);
+    let explaining = ExplainAdvice(asked);
     let order = order_word(asked.order);
     let may_harden = least == most && may_be_hardened(error);
     match (may_deepen, may_harden) {

@@ -8,7 +8,7 @@ use bpf_answers::{Answer, Failure, Reply};
 use bpf_command_core::Conversion;
 
 /// What a command gives back.
-pub trait Found {
+pub trait CommandAnswer {
     ghost use Rattle.std.specs.Prelude.{◌≡◌};
     ghost use Rattle.bpf_command.specs.declared.finding.Finding.{Finding};
 
@@ -19,7 +19,7 @@ pub trait Found {
         ensures { result ≡ finding self };
 }
 
-impl Found for Answer {
+impl CommandAnswer for Answer {
     ghost use Rattle.bpf_answers.specs.declared.reply.Reply.TheVariants.{One};
     ghost use Rattle.bpf_command.specs.declared.finding.Finding.TheVariants.{Given};
 
@@ -30,7 +30,7 @@ impl Found for Answer {
     }
 }
 
-impl Found for Reply {
+impl CommandAnswer for Reply {
     ghost use Rattle.bpf_command.specs.declared.finding.Finding.TheVariants.{Given};
 
     ghost finding = { λ reply. Given reply };
@@ -41,7 +41,7 @@ impl Found for Reply {
 }
 
 /// The status of words that were printed.
-impl Found for u8 {
+impl CommandAnswer for u8 {
     ghost use Rattle.bpf_answers.specs.declared.reply.Reply.TheVariants.{Each};
     ghost use Rattle.bpf_command.specs.declared.finding.Finding.TheVariants.{Given};
 
@@ -52,7 +52,7 @@ impl Found for u8 {
     }
 }
 
-impl Found for Inference {
+impl CommandAnswer for Inference {
     ghost use Rattle.bpf_command.specs.declared.finding.Finding.TheVariants.{Inferred};
 
     ghost finding = { λ found. Inferred found };
@@ -62,7 +62,7 @@ impl Found for Inference {
     }
 }
 
-impl Found for Attempt {
+impl CommandAnswer for Attempt {
     ghost use Rattle.bpf_command.specs.declared.finding.Finding.TheVariants.{Hardened};
 
     ghost finding = { λ found. Hardened found };
@@ -72,7 +72,7 @@ impl Found for Attempt {
     }
 }
 
-impl Found for Assessed {
+impl CommandAnswer for Assessed {
     ghost use Rattle.bpf_command.specs.declared.finding.Finding.TheVariants.{Certified};
 
     ghost finding = { λ found. Certified found };
@@ -82,7 +82,7 @@ impl Found for Assessed {
     }
 }
 
-impl Found for Conversion {
+impl CommandAnswer for Conversion {
     ghost use Rattle.bpf_command.specs.declared.finding.Finding.TheVariants.{Converted};
 
     ghost finding = { λ found. Converted found };
@@ -93,7 +93,9 @@ impl Found for Conversion {
 }
 
 /// What a command found, if it came to its end.
-pub fn finding_of<'a, T: Found>(given: Result<T, Failure<'a>>) -> Result<Finding, Failure<'a>>
+pub fn finding_of<'a, T: CommandAnswer>(
+    given: Result<T, Failure<'a>>,
+) -> Result<Finding, Failure<'a>>
     ensures ok { IfOk given.entry (λ x. result ≡ Ok (T.finding x)) }
     ensures err { IfErr given.entry (λ e. result ≡ Err e) }
 {

@@ -10,7 +10,7 @@ use crate::advice::{
 use crate::aside::Aside;
 use crate::finding::Finding;
 use crate::remark::Remark;
-use crate::shown::Line;
+use crate::shown::OneLine;
 use bpf_certify::{CertifyError, MOST_BOUND};
 use bpf_check::Refusal;
 use bpf_explain_harden::Unshown;
@@ -22,7 +22,7 @@ use std::io::Write;
 
 /// What was asked for, and the table of the lines of the program's source, which may be empty.
 #[derive(Clone, Copy)]
-struct Source<'a, 'b> {
+struct AskedSource<'a, 'b> {
     asked: Certifying<'a>,
     lines: &'b [u8],
 }
@@ -31,9 +31,9 @@ struct Source<'a, 'b> {
 /// difference.
 fn tell_sentence<H: Aside, D: Display + Drop>(aside: &H, sentence: D, source: &str) {
     let mut stream = aside.stream();
-    let _ = write!(Line::new(&mut stream), "{sentence}");
+    let _ = write!(OneLine::new(&mut stream), "{sentence}");
     if !source.is_empty() {
-        let _ = write!(Line::new(&mut stream), "; from {source}");
+        let _ = write!(OneLine::new(&mut stream), "; from {source}");
     }
     let _ = write!(stream, "\n");
 }
@@ -77,8 +77,8 @@ impl Display for Unsound {
 }
 
 /// Tells why a program isn't certified, with its slot and the line of its source, if that is known.
-fn tell_refusal<H: Aside>(aside: &H, source: Source<'_, '_>, error: CertifyError) {
-    let Source { asked, lines } = source;
+fn tell_refusal<H: Aside>(aside: &H, source: AskedSource<'_, '_>, error: CertifyError) {
+    let AskedSource { asked, lines } = source;
     match error {
         CertifyError::Unhardened(error) => {
             tell_sentence(aside, error, source_at(lines, error.slot()));
@@ -127,7 +127,11 @@ pub fn tell_remark<H: Aside>(
         Remark::Shown(bounds) => after_proof(alloc, aside, remark, bounds),
         Remark::Unproved(mismatch) => after_mismatch(aside, mismatch),
         Remark::NoImage(error) => tell_sentence(aside, error, ""),
-        Remark::Uncertified { asked, error } => tell_refusal(aside, Source { asked, lines }, error),
+        Remark::Uncertified { asked, error } => tell_refusal(
+            aside,
+            AskedSource { asked, lines },
+            error,
+        ),
         Remark::Capture(refusal) => tell_sentence(aside, refusal, ""),
         Remark::Filter(why) => tell_sentence(aside, why, ""),
     }

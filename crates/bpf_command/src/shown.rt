@@ -8,18 +8,18 @@ use std::io::{self, Write};
 
 /// A writer in front of another one, which writes what is to be one line.
 #[derive(Drop)]
-pub struct Line<'a, W: Write> {
+pub struct OneLine<'a, W: Write> {
     out: &'a mut W,
 }
 
-impl<'a, W: Write> Line<'a, W> {
+impl<'a, W: Write> OneLine<'a, W> {
     /// In front of a writer.
     pub fn new(out: &'a mut W) -> Self {
-        Line { out }
+        OneLine { out }
     }
 }
 
-impl<'a, W: Write> Write for Line<'a, W> {
+impl<'a, W: Write> Write for OneLine<'a, W> {
     fn write(&mut self, buf: &[u8]) -> io::Result<usize> {
         write_escaped(self.out, buf, false)?;
         Ok(buf.len())

@@ -13,8 +13,8 @@ use Rattle.bpf_answers.specs.Opened.{Opening}
 use Rattle.bpf_answers.specs.Loaded.{CertificateAt, LoadsImage}
 use Rattle.bpf_answers.specs.declared.answer.Answer.{Answer}
 use Rattle.bpf_answers.specs.declared.answer.Answer.TheVariants.{Yes, NoImage, NoCertificate, NotCertified}
-use Rattle.bpf_command_core.specs.declared.judged.Wish.{Wish}
-use Rattle.bpf_command_core.specs.declared.judged.Wish.TheVariants.{Promise, Run}
+use Rattle.bpf_command_core.specs.declared.judged.WantedOfChecked.{WantedOfChecked}
+use Rattle.bpf_command_core.specs.declared.judged.WantedOfChecked.TheVariants.{Promise, Run}
 use Rattle.bpf_command_core.specs.Printed.{JudgedSays, LoadedSays, WishSays, YesSays, IsPromised}
 
 -- ---- what a yes promises
@@ -58,7 +58,7 @@ says_so (Err e) P Q f h = tt
 
 -- what is wanted of a checked program is said of the certificate
 pub granted : {S : Type 0} (opening : Opening S) (old : S) (certificate : List ℕ) (new : S) (p : Instructions) (c : CertificateView) (k : CheckedProgram)
-    → k ≡ checked p c → CertificateAt opening old certificate new c → IsCertifiedBy p c → (wish : Wish) (x : Answer) → WishSays wish k x → JudgedSays opening old certificate new p (WishSays wish) x
+    → k ≡ checked p c → CertificateAt opening old certificate new c → IsCertifiedBy p c → (wish : WantedOfChecked) (x : Answer) → WishSays wish k x → JudgedSays opening old certificate new p (WishSays wish) x
 granted opening old certificate new p c k same read by (Promise counted) (NoCertificate e) h = absurd h
 granted opening old certificate new p c k same read by (Run context) (NoCertificate e) h = absurd h
 granted opening old certificate new p c k same read by (Promise counted) (NotCertified r) h = absurd h

@@ -7,8 +7,8 @@ use Rattle.bpf_check.specs.CheckedProgram.{CheckedProgram, IsCertifiedBy, checke
 use Rattle.bpf_answers.specs.Opened.{Opening}
 use Rattle.bpf_answers.specs.Loaded.{CertificateAt}
 use Rattle.bpf_captures.specs.Stops.{Replays}
-use Rattle.bpf_captures.specs.declared.turn.Stop.{Stop}
-use Rattle.bpf_captures.specs.declared.turn.Stop.TheVariants.{Failed}
+use Rattle.bpf_captures.specs.declared.turn.CaptureEnd.{CaptureEnd}
+use Rattle.bpf_captures.specs.declared.turn.CaptureEnd.TheVariants.{Failed}
 use Rattle.bpf_answers.proofs.MadeLemmas.{whole}
 use Rattle.bpf_answers.specs.declared.reply.Reply.{Reply}
 use Rattle.bpf_answers.specs.declared.failure.Failure.{Failure}
@@ -17,21 +17,21 @@ use Rattle.bpf_command_core.specs.Replayed.{EndsBy, Gives, JudgedPacketsFail, Pa
 use Rattle.bpf_command_core.specs.declared.packets.Packets.{Packets}
 
 -- what `replay` gives where it stops
-abbrev pub Stopped : Packets → CheckedProgram → Option (List ℕ) → Option (List ℕ) → Option (List ℕ) → Stop → Type 0
+abbrev pub Stopped : Packets → CheckedProgram → Option (List ℕ) → Option (List ℕ) → Option (List ℕ) → CaptureEnd → Type 0
 Stopped packets k known before after stop = Replays (Gives k) (blocks_of packets.order k) known packets.counts (Appends before after) stop
 
-pub replay_says : {E : Type 0} (packets : Packets) (k : CheckedProgram) (known before after : Option (List ℕ)) (stop : Stop) (result : Result Reply E) → Stopped packets k known before after stop
+pub replay_says : {E : Type 0} (packets : Packets) (k : CheckedProgram) (known before after : Option (List ℕ)) (stop : CaptureEnd) (result : Result Reply E) → Stopped packets k known before after stop
     → IfOk result (EndsBy stop) → IfOk result (ReplaySays packets k known before after)
 replay_says packets k known before after stop (Ok reply) h e = record { stop = stop; values = h.0; text = h.1; replayed = h.2; told = h.3; ends = e; printed = h.4 }
 replay_says packets k known before after stop (Err f) h e = tt
 
-pub replay_fails : (packets : Packets) (k : CheckedProgram) (known before after : Option (List ℕ)) (stop : Stop) (result : Result Reply Failure) → Stopped packets k known before after stop
+pub replay_fails : (packets : Packets) (k : CheckedProgram) (known before after : Option (List ℕ)) (stop : CaptureEnd) (result : Result Reply Failure) → Stopped packets k known before after stop
     → IfErr result (λ failure. (stop ≡ Failed) × (failure ≡ CannotRead packets.name)) → IfErr result (ReplayFails packets k known before after)
 replay_fails packets k known before after stop (Ok reply) h e = tt
 replay_fails packets k known before after stop (Err failure) h e =
     subst (ReplayFails packets k known before after) (sym e.1) (refl, subst (Stopped packets k known before after) e.0 h)
 
-pub replay_leaves : (packets : Packets) (k : CheckedProgram) (known before after : Option (List ℕ)) (stop : Stop) (result : Result Reply Failure) → Stopped packets k known before after stop
+pub replay_leaves : (packets : Packets) (k : CheckedProgram) (known before after : Option (List ℕ)) (stop : CaptureEnd) (result : Result Reply Failure) → Stopped packets k known before after stop
     → IfErr result (λ failure. (stop ≡ Failed) × (failure ≡ CannotRead packets.name)) → IfErr result (λ _. ReplayLeft packets k known before after)
 replay_leaves packets k known before after stop (Ok reply) h e = tt
 replay_leaves packets k known before after stop (Err failure) h e =

@@ -2,7 +2,7 @@
 use Rattle.std.specs.Prelude.{◌≡◌, ◌⊎◌, List, Option}
 use Rattle.bpf_insn.specs.Instruction.{Instructions}
 use Rattle.bpf_follows.specs.declared.notes.Bounds.{Bounds}
-use Rattle.bpf_follows.specs.declared.notes.Place.{Place}
+use Rattle.bpf_follows.specs.declared.notes.Counterpart.{Counterpart}
 use Rattle.bpf_follows.specs.Matching.{Matches}
 use Rattle.bpf_follows.specs.Mismatches.{IsMismatch}
 use Rattle.bpf_follows.specs.Meaning.{KeepsMeaning}
@@ -24,10 +24,10 @@ bounds_of f = record { length = f.length; padded = f.padded; turns = f.turns; un
 abbrev pub NotedSays : {S : Type 0} → Opening S → S → Following → S → (p q : Instructions) → Answer → Type 0
 NotedSays opening old f new p q (NoNotes e) = NotesRefused opening old f.notes.now new e
 NotedSays opening old f new p q (NotFollowed m) =
-    (notes : List (Option Place)) × LoadsNotes opening old f.notes.now new notes × IsMismatch p q notes (bounds_of f) m
+    (notes : List (Option Counterpart)) × LoadsNotes opening old f.notes.now new notes × IsMismatch p q notes (bounds_of f) m
 NotedSays opening old f new p q (Follows bounds) =
     (bounds ≡ bounds_of f) × KeepsMeaning p q (bounds_of f)
-    × ((notes : List (Option Place)) × LoadsNotes opening old f.notes.now new notes × Matches p q notes (bounds_of f))
+    × ((notes : List (Option Counterpart)) × LoadsNotes opening old f.notes.now new notes × Matches p q notes (bounds_of f))
 NotedSays opening old f new p q answer = ⊥
 
 -- the new image is judged before the notes' name is opened

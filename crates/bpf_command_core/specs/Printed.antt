@@ -29,8 +29,8 @@ use Rattle.bpf_answers.specs.declared.answer.Answer.TheVariants.{Yes, NoImage, N
 use Rattle.bpf_answers.specs.Told.{OutputFails}
 use Rattle.bpf_answers.specs.declared.failure.Failure.{Failure}
 use Rattle.bpf_answers.specs.declared.failure.Failure.TheVariants.{CannotRead, CannotWrite, NoMemory, BadContext}
-use Rattle.bpf_command_core.specs.declared.judged.Wish.{Wish}
-use Rattle.bpf_command_core.specs.declared.judged.Wish.TheVariants.{Promise, Run}
+use Rattle.bpf_command_core.specs.declared.judged.WantedOfChecked.{WantedOfChecked}
+use Rattle.bpf_command_core.specs.declared.judged.WantedOfChecked.TheVariants.{Promise, Run}
 
 -- ---- contexts
 
@@ -112,7 +112,7 @@ ResultSays context k (NoContext count least most) =
     (count ≡ length context) × (least ≡ k.certificate.least) × (most ≡ k.certificate.most) × (LengthWithin least most context → ⊥)
 ResultSays context k answer = ⊥
 
-abbrev pub WishSays : Wish → CheckedProgram → Answer → Type 0
+abbrev pub WishSays : WantedOfChecked → CheckedProgram → Answer → Type 0
 WishSays (Promise counted) k answer = YesSays counted k answer
 WishSays (Run context) k answer = ResultSays context.now k answer
 

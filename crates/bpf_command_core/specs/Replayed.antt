@@ -10,9 +10,9 @@ use Rattle.bpf_flat.specs.Runs.{RunsTo}
 use Rattle.bpf_semantics.specs.Blocks.{head_bytes}
 use Rattle.bpf_captures.specs.Lines.{IsTold}
 use Rattle.bpf_captures.specs.Stops.{Replayed, Replays}
-use Rattle.bpf_captures.specs.declared.answerer.Blocks.{Blocks}
-use Rattle.bpf_captures.specs.declared.turn.Stop.{Stop}
-use Rattle.bpf_captures.specs.declared.turn.Stop.TheVariants.{End, Refused, Failed}
+use Rattle.bpf_captures.specs.declared.answerer.BlockLayout.{BlockLayout}
+use Rattle.bpf_captures.specs.declared.turn.CaptureEnd.{CaptureEnd}
+use Rattle.bpf_captures.specs.declared.turn.CaptureEnd.TheVariants.{End, Refused, Failed}
 use Rattle.std.specs.Borrow.{Bor}
 use Rattle.bpf_answers.specs.Opened.{Opening}
 use Rattle.bpf_request.specs.declared.contexts.Contexts.{Contexts}
@@ -32,8 +32,8 @@ use Rattle.bpf_command_core.specs.declared.packets.Packets.{Packets}
 
 -- ---- the answers to packets
 
--- Blocks are as long as the certificate lets contexts be, and tell a packet's length in the image's byte order.
-abbrev pub blocks_of : Order → CheckedProgram → Blocks
+-- BlockLayout are as long as the certificate lets contexts be, and tell a packet's length in the image's byte order.
+abbrev pub blocks_of : Order → CheckedProgram → BlockLayout
 blocks_of order k = record { order = order; size = k.certificate.most }
 
 -- the number with which the program ends on a block
@@ -41,14 +41,14 @@ abbrev pub Gives : CheckedProgram → List ℕ → ℕ → Type 0
 Gives k block value = RunsTo k.program k.certificate.steps block value
 
 -- what is answered behind the packets: nothing more, or why the capture is refused
-abbrev pub EndsBy : Stop → Reply → Type 0
+abbrev pub EndsBy : CaptureEnd → Reply → Type 0
 EndsBy End reply = reply ≡ Each 0
 EndsBy (Refused refusal) reply = reply ≡ One (NoCapture refusal)
 EndsBy Failed reply = ⊥
 
 -- The packets before the file's end, or before its refusal, were answered, and the refusal is answered behind them.
 pub record ReplaySays (packets : Packets) (k : CheckedProgram) (known before after : Option (List ℕ)) (reply : Reply) : Type 0 where
-  pub stop : Stop
+  pub stop : CaptureEnd
   pub values : List ℕ
   pub text : List ℕ
   pub replayed : Replayed (Gives k) (blocks_of packets.order k) known stop values

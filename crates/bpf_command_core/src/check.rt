@@ -5,7 +5,7 @@ ghost use Rattle.bpf_answers.specs.Loaded.{OpensFirst};
 ghost use Rattle.bpf_answers.specs.Told.{IsQuiet};
 ghost use Rattle.bpf_command_core.specs.Printed.{CheckSays, LoadedFails};
 
-use crate::judged::{Wish, judged};
+use crate::judged::{WantedOfChecked, judged};
 use bpf_answers::{Answer, Failure, Places, image_at};
 use bpf_insn::{ProgramView, image_is_injective};
 use bpf_request::Checking;
@@ -33,7 +33,7 @@ pub fn checked<'a, P: Places>(
     };
     match ProgramView::of(&bytes, asked.order) {
         Ok(program) => {
-            let wish = Wish::Promise {
+            let wish = WantedOfChecked::Promise {
                 counted: asked.work,
             };
             judged(alloc, places, &program, asked.certificate, wish)

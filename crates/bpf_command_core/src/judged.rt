@@ -15,7 +15,7 @@ use std::io::Write;
 
 /// What is wanted of a program that its certificate certifies.
 #[derive(Clone, Copy)]
-pub enum Wish<'a> {
+pub enum WantedOfChecked<'a> {
     /// The promise, and where it is asked for the work of the check.
     Promise { counted: bool },
     /// The number with which it ends on a context.
@@ -53,22 +53,22 @@ fn run_on<C: Code>(checked: &Checked<'_, C>, context: &[u8]) -> Answer
 }
 
 /// What is wanted of a checked program.
-fn grant<C: Code>(checked: &Checked<'_, C>, wish: Wish<'_>) -> Answer
+fn grant<C: Code>(checked: &Checked<'_, C>, wish: WantedOfChecked<'_>) -> Answer
     ensures { WishSays wish.entry checked.now result }
 {
     match wish {
-        Wish::Promise { counted } => promise(checked, counted),
-        Wish::Run { context } => run_on(checked, context),
+        WantedOfChecked::Promise { counted } => promise(checked, counted),
+        WantedOfChecked::Run { context } => run_on(checked, context),
     }
 }
 
 /// A checked program, as what answers contexts.
 #[derive(Drop)]
-struct Certified<'a, 'p, C: Code> {
+struct ContextAnswerer<'a, 'p, C: Code> {
     checked: &'a Checked<'p, C>,
 }
 
-impl<'a, 'p, C: Code> Runner for Certified<'a, 'p, C> {
+impl<'a, 'p, C: Code> Runner for ContextAnswerer<'a, 'p, C> {
     ghost use Rattle.bpf_command_core.specs.Printed.{ResultSays};
 
     ghost says = { λ r context answer. ResultSays context r.checked.now answer };
@@ -104,7 +104,7 @@ pub fn judged_each<'a, P: Places, C: Code, W: Write>(
         Ok(checked) => checked,
         Err(refusal) => return Ok(Reply::One(Answer::NotCertified(refusal))),
     };
-    let runner = Certified { checked: &checked };
+    let runner = ContextAnswerer { checked: &checked };
     match answered(places, out, &runner, contexts) {
         Ok(status) => Ok(Reply::Each(status)),
         Err(failure) => Err(failure),
@@ -117,7 +117,7 @@ pub fn judged<'a, P: Places, C: Code>(
     places: &mut P,
     program: &C,
     certificate: &'a str,
-    wish: Wish<'_>,
+    wish: WantedOfChecked<'_>,
 ) -> Result<Answer, Failure<'a>>
     ensures ok { IfOk result (JudgedSays P.opens places.old certificate.entry.now places.new (C.program program.now) (WishSays wish.entry)) }
     ensures err { IfErr result (CertificateFails P.opens places.old certificate.entry.now places.new) }

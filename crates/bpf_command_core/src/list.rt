@@ -5,7 +5,7 @@ ghost use Rattle.bpf_answers.specs.Loaded.{ImageFails, OpensFirst};
 ghost use Rattle.bpf_answers.specs.Told.{IsQuiet};
 ghost use Rattle.bpf_command_core.specs.Printed.{ImageSays, ListSays, notes_of};
 
-use bpf_answers::{Annotated, Answer, Failure, Places, image_at, program_at};
+use bpf_answers::{Answer, CommentedListing, Failure, Places, image_at, program_at};
 use bpf_insn::{Order, decode};
 use bpf_request::Listing;
 use bpf_text::Notes;
@@ -47,7 +47,7 @@ fn listed_with<'a, P: Places>(
         Err(error) => return Ok(Answer::NoImage(error)),
     };
     match decode(alloc, &bytes, order) {
-        Ok(program) => Ok(Answer::Annotates(Annotated::new(program, bytes, notes))),
+        Ok(program) => Ok(Answer::Annotates(CommentedListing::new(program, bytes, notes))),
         Err(error) => Ok(Answer::NoImage(error)),
     }
 }

@@ -4,11 +4,11 @@ ghost use Rattle.std.specs.Prelude.{◌≡◌, ◌≤◌, [], ◌∷◌, IfOk, I
 ghost use Rattle.bpf_semantics.specs.Blocks.{head_bytes};
 ghost use Rattle.bpf_answers.specs.Loaded.{OpensFirst, Tried};
 ghost use Rattle.bpf_answers.specs.declared.failure.Failure.TheVariants.{CannotRead};
-ghost use Rattle.bpf_captures.specs.declared.turn.Stop.TheVariants.{Failed};
+ghost use Rattle.bpf_captures.specs.declared.turn.CaptureEnd.TheVariants.{Failed};
 ghost use Rattle.bpf_command_core.specs.Replayed.{EndsBy, JudgedPacketsFail, JudgedPacketsLeave, JudgedPacketsSay, PacketsCheckedFail, PacketsCheckedLeave, PacketsCheckedSay, PacketsFail, PacketsLeave, PacketsSay, ReplayFails, ReplayLeft, ReplaySays, ReplayedFails, ReplayedLeaves, ReplayedSays, names_replayed};
 
 use bpf_answers::{Answer, DONE, Failure, PlaceError, Places, Reply, certificate_at, program_at};
-use bpf_captures::{Answerer, Blocks, ReplayFault, Stop, replay};
+use bpf_captures::{Answerer, BlockLayout, CaptureEnd, ReplayFault, replay};
 use bpf_check::{Checked, check};
 use bpf_insn::{Code, Order};
 use bpf_request::{Contexts, Replaying};
@@ -36,11 +36,11 @@ pub struct Packets<'a> {
 
 /// A checked program, as what answers blocks.
 #[derive(Drop)]
-struct Certified<'a, 'p, C: Code> {
+struct BlockAnswerer<'a, 'p, C: Code> {
     checked: &'a Checked<'p, C>,
 }
 
-impl<'a, 'p, C: Code> Answerer for Certified<'a, 'p, C> {
+impl<'a, 'p, C: Code> Answerer for BlockAnswerer<'a, 'p, C> {
     ghost use Rattle.std.specs.Prelude.{◌≤◌};
     ghost use Rattle.bpf_command_core.specs.Replayed.{Gives};
 
@@ -54,14 +54,14 @@ impl<'a, 'p, C: Code> Answerer for Certified<'a, 'p, C> {
 }
 
 /// What is answered behind the packets in front of where a replay stops.
-fn ended<'a>(stop: Stop, name: &'a str) -> Result<Reply, Failure<'a>>
+fn ended<'a>(stop: CaptureEnd, name: &'a str) -> Result<Reply, Failure<'a>>
     ensures ok { IfOk result (EndsBy stop) }
     ensures err { IfErr result (λ failure. (stop ≡ Failed) × (failure ≡ CannotRead name.entry)) }
 {
     match stop {
-        Stop::End => Ok(Reply::Each(DONE)),
-        Stop::Refused(refusal) => Ok(Reply::One(Answer::NoCapture(refusal))),
-        Stop::Failed => Err(Failure::CannotRead(name)),
+        CaptureEnd::End => Ok(Reply::Each(DONE)),
+        CaptureEnd::Refused(refusal) => Ok(Reply::One(Answer::NoCapture(refusal))),
+        CaptureEnd::Failed => Err(Failure::CannotRead(name)),
     }
 }
 
@@ -79,11 +79,11 @@ fn replay_from<'a, R: Read, C: Code, W: Write>(
     ensures begun { IfErr result (λ _. ReplayLeft packets.entry checked.now (R.remaining reader.old) (W.contents out.old) (W.contents out.new)) }
 {
     checked.valid();
-    let blocks = Blocks {
+    let blocks = BlockLayout {
         order: packets.order,
         size: checked.most() as usize,
     };
-    let answerer = Certified { checked };
+    let answerer = BlockAnswerer { checked };
     match replay(alloc, reader, out, &answerer, blocks, packets.counts) {
         Ok(stop) => ended(stop, packets.name),
         Err(ReplayFault::Output) => Err(Failure::CannotWrite("standard output")),

@@ -6,7 +6,7 @@ ghost use Rattle.bpf_command_core.specs.Names.{names_checked};
 ghost use Rattle.bpf_command_core.specs.Given.{CheckedEachFails, CheckedEachLeaves, CheckedEachSays, CheckedFails, CheckedLeaves, CheckedSays, FailsBehind, OnNamed, OnWord, OneCheckedFails, OneCheckedSays};
 ghost use Rattle.bpf_command_core.specs.Printed.{FailsWith};
 
-use crate::judged::{Wish, judged, judged_each};
+use crate::judged::{WantedOfChecked, judged, judged_each};
 use bpf_answers::{Answer, Failure, Places, Reply, context_at, context_of, program_at};
 use bpf_request::{CheckedRunning, Contexts};
 use std::alloc::Global;
@@ -25,7 +25,7 @@ fn run_certified<'a, P: Places>(
 {
     match program_at(alloc, places, asked.input, asked.order)? {
         Ok(program) => {
-            let wish = Wish::Run { context };
+            let wish = WantedOfChecked::Run { context };
             judged(alloc, places, &program, asked.certificate, wish)
         }
         Err(error) => Ok(Answer::NoImage(error)),

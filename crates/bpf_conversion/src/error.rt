@@ -1,6 +1,6 @@
 //! Why there is no program of a filter.
 
-use bpf_classic::Refusal;
+use bpf_classic::FilterRefusal;
 use bpf_refusals::{At, FILTER_MEMORY, Letter, Tells, Told};
 use thiserror::Error;
 
@@ -12,7 +12,7 @@ const UNCERTIFIED: u8 = 10;
 pub enum ConvertError {
     /// B1 to B7, B9: the instructions are no filter.
     #[error("{0}")]
-    Filter(Refusal),
+    Filter(FilterRefusal),
     /// B9: memory ran out.
     #[error("out of memory")]
     Memory,

@@ -9,7 +9,7 @@ use std::io::{self, Write};
 
 /// What a line of a certificate begins with.
 #[derive(Clone, Copy)]
-enum Kind {
+enum LineKind {
     Header,
     Function,
     Label,
@@ -20,27 +20,27 @@ enum Kind {
 }
 
 /// The words that lines begin with.
-const WORDS: [(&[u8], Kind); 4] = [
-    (b"bpfcert", Kind::Header),
-    (b"fn", Kind::Function),
-    (b"at", Kind::Label),
-    (b"end", Kind::End),
+const WORDS: [(&[u8], LineKind); 4] = [
+    (b"bpfcert", LineKind::Header),
+    (b"fn", LineKind::Function),
+    (b"at", LineKind::Label),
+    (b"end", LineKind::End),
 ];
 
 /// What a line begins with that begins with none of those words.
-fn kind_of_place(word: &[u8]) -> Kind {
+fn kind_of_place(word: &[u8]) -> LineKind {
     let [letter, digit, ..] = word else {
-        return Kind::Other;
+        return LineKind::Other;
     };
     match (*letter, digit.is_ascii_digit()) {
-        (b'r', true) => Kind::Register,
-        (b's', true) => Kind::Slot,
-        _ => Kind::Other,
+        (b'r', true) => LineKind::Register,
+        (b's', true) => LineKind::Slot,
+        _ => LineKind::Other,
     }
 }
 
 /// What a line begins with.
-fn kind_of(line: &[u8]) -> Kind {
+fn kind_of(line: &[u8]) -> LineKind {
     let word = parted(line, b' ').0;
     for (name, kind) in &WORDS {
         if word == *name {
@@ -51,40 +51,43 @@ fn kind_of(line: &[u8]) -> Kind {
 }
 
 /// The form of a line, and what its fields mean.
-fn form_of(kind: Kind) -> &'static str {
+fn form_of(kind: LineKind) -> &'static str {
     match kind {
-        Kind::Header => "`bpfcert 1 <len> <steps>` or `bpfcert 2 <least> <most> <steps>`",
-        Kind::Function => "`fn <first> <depth> <num>`, as `fn 0 1 *`",
-        Kind::Label => "`at <slot> <base> <term>...`, as `at 1 2 +2*r6` or `at 1 2 +2*(10-r6)`",
-        Kind::Register => "`r<i> <what>`, as `r6 u1..10`, `r1 ctx0..0` or `r3 *`",
-        Kind::Slot => "`s<k> <what>`, as `s1 *`, `s1 b15` or `s2 ctx0..0`",
-        Kind::End => "`end`",
-        Kind::Other => "`bpfcert`, `fn`, `at`, `r<i>`, `s<k>` or `end`",
+        LineKind::Header => "`bpfcert 1 <len> <steps>` or `bpfcert 2 <least> <most> <steps>`",
+        LineKind::Function => "`fn <first> <depth> <num>`, as `fn 0 1 *`",
+        LineKind::Label => "`at <slot> <base> <term>...`, as `at 1 2 +2*r6` or `at 1 2 +2*(10-r6)`",
+        LineKind::Register => "`r<i> <what>`, as `r6 u1..10`, `r1 ctx0..0` or `r3 *`",
+        LineKind::Slot => "`s<k> <what>`, as `s1 *`, `s1 b15` or `s2 ctx0..0`",
+        LineKind::End => "`end`",
+        LineKind::Other => "`bpfcert`, `fn`, `at`, `r<i>`, `s<k>` or `end`",
     }
 }
 
 /// The lines that may follow a line.
-fn followers(kind: Kind) -> &'static str {
+fn followers(kind: LineKind) -> &'static str {
     match kind {
-        Kind::Header => "a line `fn <first> <depth> <num>` must follow the first",
-        Kind::Function => "a line `at <slot> <base> <term>...` must follow a function's",
-        Kind::Label | Kind::Register | Kind::Slot => {
+        LineKind::Header => "a line `fn <first> <depth> <num>` must follow the first",
+        LineKind::Function => "a line `at <slot> <base> <term>...` must follow a function's",
+        LineKind::Label | LineKind::Register | LineKind::Slot => {
             "`r<i> <what>`, `s<k> <what>`, another `at` or `fn`, or `end` may stand here"
         }
-        Kind::End => "nothing may follow `end`",
-        Kind::Other =>
+        LineKind::End => "nothing may follow `end`",
+        LineKind::Other =>
             "the first line must be `bpfcert 1 <len> <steps>` or `bpfcert 2 <least> <most> <steps>`",
     }
 }
 
 /// Whether a line of a kind may follow a line of another one. Registers behind slots are out of order, which is K2.
-fn may_follow(before: Kind, kind: Kind) -> bool {
+fn may_follow(before: LineKind, kind: LineKind) -> bool {
     match before {
-        Kind::Header => matches!(kind, Kind::Function),
-        Kind::Function => matches!(kind, Kind::Label),
-        Kind::Label | Kind::Register | Kind::Slot => !matches!(kind, Kind::Header | Kind::Other),
-        Kind::End => false,
-        Kind::Other => matches!(kind, Kind::Header),
+        LineKind::Header => matches!(kind, LineKind::Function),
+        LineKind::Function => matches!(kind, LineKind::Label),
+        LineKind::Label | LineKind::Register | LineKind::Slot => !matches!(
+            kind,
+            LineKind::Header | LineKind::Other
+        ),
+        LineKind::End => false,
+        LineKind::Other => matches!(kind, LineKind::Header),
     }
 }
 
@@ -157,8 +160,8 @@ impl<'a> LineFinding<'a> {
 // ---- K1
 
 /// Whether a line behind one of a kind is the byte that ends a string of C.
-fn is_string_end(before: Kind, line: &[u8]) -> bool {
-    matches!(before, Kind::End) && matches!(line, [0])
+fn is_string_end(before: LineKind, line: &[u8]) -> bool {
+    matches!(before, LineKind::End) && matches!(line, [0])
 }
 
 /// What is wrong with a line that stands where a line may stand; None where it is the line's kind or its form.
@@ -173,8 +176,8 @@ fn fault_of_line(line: &[u8], is_ended: bool) -> Option<&'static str> {
 }
 
 /// What was expected of a line behind one of a kind.
-fn syntax_rule(found: LineAt<'_>, before: Kind) -> (&'static str, &'static str) {
-    if !found.is_there || matches!(before, Kind::End) {
+fn syntax_rule(found: LineAt<'_>, before: LineKind) -> (&'static str, &'static str) {
+    if !found.is_there || matches!(before, LineKind::End) {
         return (followers(before), "");
     }
     if let Some(fault) = fault_of_line(found.line, found.is_ended) {
@@ -225,18 +228,21 @@ fn has_padded_number(line: &[u8]) -> bool {
 }
 
 /// What makes a line of a kind the one spelling of what it says.
-fn order_of(kind: Kind) -> (&'static str, &'static str) {
+fn order_of(kind: LineKind) -> (&'static str, &'static str) {
     match kind {
-        Kind::Function => ("functions rise by their first slots", SPELLING),
-        Kind::Label => (
+        LineKind::Function => ("functions rise by their first slots", SPELLING),
+        LineKind::Label => (
             "a function's labels rise by their slots, and terms by their places, registers first",
             "",
         ),
-        Kind::Register | Kind::Slot => (
+        LineKind::Register | LineKind::Slot => (
             "registers rise and then slots, each once, and one that may hold anything has no line",
             SPELLING,
         ),
-        Kind::Header | Kind::End | Kind::Other => ("each certificate has one spelling", ""),
+        LineKind::Header | LineKind::End | LineKind::Other => (
+            "each certificate has one spelling",
+            "",
+        ),
     }
 }
 
@@ -258,33 +264,33 @@ const BOUNDS: &str =
     "; u is 0 to 18446744073709551615, s -9223372036854775808 to 9223372036854775807, lo is at most hi, value and mask share no bit";
 
 /// The limits of the fields of a line of a kind.
-fn limits_of(kind: Kind) -> (&'static str, &'static str) {
+fn limits_of(kind: LineKind) -> (&'static str, &'static str) {
     match kind {
-        Kind::Header => (
+        LineKind::Header => (
             "lengths are 0 to 4096, the least first, and steps 1 to 4294967295; a function must follow",
             "",
         ),
-        Kind::Function => (
+        LineKind::Function => (
             "first is 0 to 65535, depth 1 to 8; there are at most 256 functions, each with a label",
             BOUNDS,
         ),
-        Kind::Label => (
+        LineKind::Label => (
             "slot is 0 to 65535, base at most 1099511627776, a weight 1 to 1048576, a limit at most 18446744073709551615, a place r0 to r9 or s1 to s64; there are at most 4 terms and 65536 labels",
             "",
         ),
-        Kind::Register => (
+        LineKind::Register => (
             "registers are r0 to r9, offsets -2147483648 to 2147483648",
             BOUNDS,
         ),
-        Kind::Slot => (
+        LineKind::Slot => (
             "slots are s1 to s64, masks b1 to b254, offsets -2147483648 to 2147483648",
             BOUNDS,
         ),
-        Kind::End => (
+        LineKind::End => (
             "there must be a function, and each function must have a label",
             "",
         ),
-        Kind::Other => (LONG_LINE, ""),
+        LineKind::Other => (LONG_LINE, ""),
     }
 }
 

@@ -2,7 +2,10 @@
 
 ghost use Rattle.std.specs.Prelude.{◌≤◌, IfSome, length};
 
-use bpf_insn::{Choice, DecodeError, FieldSet, Fields, Insn, LeftOut, MAX_IMAGE, MAX_SLOTS, Order, ProgramView, SlotFault, Use, fields_from, insn_from, uses_of};
+use bpf_insn::{
+    Choice, DecodeError, FieldSet, Fields, Insn, LeftOut, MAX_IMAGE, MAX_SLOTS, Order, ProgramView,
+    SlotFault, Use, fields_from, insn_from, uses_of,
+};
 use bpf_streams::{Page, Tell};
 use std::io::{self, Write};
 use std::str::from_utf8;

@@ -13,12 +13,18 @@ ghost use Rattle.bpf_infer_base.specs.declared.error.InferError.TheVariants.{Mem
 use crate::obstacles::{write_no_budget, write_obstacle};
 use bpf_cert::Certificate;
 use bpf_check::{Refusal, jump_target};
-use bpf_explain_program::{Shown, Spelled, refusal_of, source_at, tell_reason, tell_shown, tell_sketch, tell_sketched_dot, tell_unreached};
-use bpf_infer::{Condition, InferError, Obstacle, Quest, Sketch, Stop, Wanted, Watch, infer, search_or_stop, sketch_of};
+use bpf_explain_program::{
+    Shown, SpelledInsn, refusal_of, source_at, tell_reason, tell_shown, tell_sketch,
+    tell_sketched_dot, tell_unreached,
+};
+use bpf_infer::{
+    ForeseenCondition, InferError, Obstacle, Quest, SearchStop, Sketch, WantedCertificate, Watch,
+    infer, search_or_stop, sketch_of,
+};
 use bpf_insn::{Code, Insn, MAX_SLOTS, Program};
 use bpf_streams::{Page, Tell};
-use std::fmt;
 use std::alloc::Global;
+use std::fmt;
 use std::io::{self, Write};
 
 /// Which search is explained.
@@ -67,7 +73,7 @@ fn write_recursion<W: Tell>(out: &mut W, program: &Program, slot: u32) {
             "`call -1` calls itself: mostly a call of another object's function that was never linked\n",
         ),
         Some(insn) => {
-            let text = Spelled(insn);
+            let text = SpelledInsn(insn);
             write!(
                 out,
                 "`{text}` leads back to the function it stands in: recursion can't be certified\n"
@@ -100,7 +106,7 @@ fn write_unbudgeted<W: Tell>(out: &mut W, slot: u32, has_states: bool) {
 }
 
 /// Tells the reason of a refusal of which no obstacle is known.
-fn write_bare<W: Tell>(out: &mut W, program: &Program, stop: &Stop, effort: Effort) {
+fn write_bare<W: Tell>(out: &mut W, program: &Program, stop: &SearchStop, effort: Effort) {
     match stop.error {
         InferError::Unstable { slot } => write_unsettled(out, slot, effort),
         InferError::NoBudget { slot } => {
@@ -108,9 +114,9 @@ fn write_bare<W: Tell>(out: &mut W, program: &Program, stop: &Stop, effort: Effo
         }
         InferError::Recursion { slot } => write_recursion(out, program, slot),
         InferError::Fault { slot, condition } => match condition {
-            Condition::State(_) => {}
-            Condition::FallsOff => tell_unreached(program, out),
-            Condition::LeavesFunction => write!(
+            ForeseenCondition::State(_) => {}
+            ForeseenCondition::FallsOff => tell_unreached(program, out),
+            ForeseenCondition::LeavesFunction => write!(
                 out,
                 "slot {slot} jumps out of its function, or goes on into the next one\n"
             ),
@@ -130,7 +136,7 @@ fn is_hollow(error: InferError, obstacle: &Obstacle, effort: Effort) -> bool {
 }
 
 /// Tells the reason of a refusal.
-fn write_reason<W: Tell>(out: &mut W, program: &Program, stop: &Stop, effort: Effort) {
+fn write_reason<W: Tell>(out: &mut W, program: &Program, stop: &SearchStop, effort: Effort) {
     match &stop.sketch.obstacle {
         Some(obstacle) if is_hollow(stop.error, obstacle, effort) => {
             write_no_budget(out, stop.error.slot());
@@ -163,12 +169,12 @@ fn is_in_loop(program: &Program, slot: u32) -> bool {
 
 /// Tells of which round the states are. The plain inferrer ends where an instruction is refused, in whichever round of a loop that is; the deep
 /// search goes on until its states settle.
-fn write_round<W: Tell>(out: &mut W, program: &Program, stop: &Stop, effort: Effort) {
+fn write_round<W: Tell>(out: &mut W, program: &Program, stop: &SearchStop, effort: Effort) {
     if let (
         Effort::Plain,
         InferError::Fault {
             slot,
-            condition: Condition::State(_),
+            condition: ForeseenCondition::State(_),
         },
     ) = (effort, stop.error)
     {
@@ -208,11 +214,11 @@ pub fn may_be_found(program: &Program, error: InferError) -> bool {
     match error {
         InferError::Recursion { .. } | InferError::Memory => false,
         InferError::Fault {
-            condition: Condition::LeavesFunction,
+            condition: ForeseenCondition::LeavesFunction,
             ..
         } => false,
         InferError::Fault {
-            condition: Condition::FallsOff,
+            condition: ForeseenCondition::FallsOff,
             ..
         } => true,
         InferError::Fault { .. } => goes_round(program),
@@ -238,7 +244,7 @@ fn flaw_of(error: InferError) -> Option<Refusal> {
 fn write_states<W: Tell>(
     out: &mut W,
     program: &Program,
-    stop: &Stop,
+    stop: &SearchStop,
     shown: Shown<'_>,
     lines: &[u8],
 ) {
@@ -259,7 +265,7 @@ fn write_states<W: Tell>(
 fn write_stop<W: Tell>(
     out: &mut W,
     program: &Program,
-    stop: &Stop,
+    stop: &SearchStop,
     shown: Shown<'_>,
     effort: Effort,
 ) {
@@ -278,7 +284,7 @@ fn write_stop<W: Tell>(
 
 /// A certificate that a search found, and the checker's answer: None if it certifies the program, else the least flaw.
 #[derive(Drop)]
-pub struct Found {
+pub struct FoundCertificate {
     pub certificate: Certificate,
     pub refusal: Option<Refusal>,
 }
@@ -289,7 +295,7 @@ fn explain_certified<W: Write>(
     program: &Program,
     certificate: Certificate,
     shown: Shown<'_>,
-) -> io::Result<Found>
+) -> io::Result<FoundCertificate>
     ensures found { IfOk result (λ f. f.certificate ≡ certificate) }
     ensures accepted { IfOk result (λ f. IfNone f.refusal (IsCertifiedBy program.now f.certificate)) }
     ensures refused { IfOk result (λ f. IfSome f.refusal (λ r. IsLeastFlaw program.now f.certificate (refusal_slot r) (refusal_number r))) }
@@ -298,7 +304,7 @@ fn explain_certified<W: Write>(
     let refusal = refusal_of(program, &certificate);
     tell_shown(program, &certificate, shown, refusal, &mut page);
     page.finish()?;
-    Ok(Found {
+    Ok(FoundCertificate {
         certificate,
         refusal,
     })
@@ -308,10 +314,10 @@ fn explain_certified<W: Write>(
 fn explain<W: Write>(
     out: &mut W,
     program: &Program,
-    found: Result<Certificate, Stop>,
+    found: Result<Certificate, SearchStop>,
     shown: Shown<'_>,
     effort: Effort,
-) -> io::Result<Result<Found, InferError>>
+) -> io::Result<Result<FoundCertificate, InferError>>
     ensures found { IfOk result (λ told. IfOk told (λ f. found ≡ Ok f.certificate)) }
     ensures stopped { IfOk result (λ told. IfErr told (λ e. IsErrAnd found (λ s. e ≡ s.error))) }
     ensures accepted { IfOk result (λ told. IfOk told (λ f. IfNone f.refusal (IsCertifiedBy program.now f.certificate))) }
@@ -332,7 +338,7 @@ fn explain<W: Write>(
 }
 
 /// What the plain inferrer had where it refused a program. I5 where memory runs out meanwhile.
-fn stop_of(alloc: Global, quest: Quest<'_>, error: InferError) -> Stop
+fn stop_of(alloc: Global, quest: Quest<'_>, error: InferError) -> SearchStop
     requires order { quest.least ≤ quest.most }
     requires short { quest.most ≤ max_context }
     ensures { (result.error ≡ error) ⊎ (result.error ≡ Memory) }
@@ -342,12 +348,12 @@ fn stop_of(alloc: Global, quest: Quest<'_>, error: InferError) -> Stop
         _ => sketch_of(alloc, quest, error),
     };
     match sketch {
-        Ok(sketch) => Stop { error, sketch },
-        Err(InferError::Memory) => Stop {
+        Ok(sketch) => SearchStop { error, sketch },
+        Err(InferError::Memory) => SearchStop {
             error: InferError::Memory,
             sketch: Sketch::nothing(),
         },
-        Err(_) => Stop {
+        Err(_) => SearchStop {
             error,
             sketch: Sketch::nothing(),
         },
@@ -356,7 +362,7 @@ fn stop_of(alloc: Global, quest: Quest<'_>, error: InferError) -> Stop
 
 /// What the deep search had where it stopped; of an access that is refused also which loop moves its pointer, where the plain
 /// inferrer sees one.
-fn with_walk(alloc: Global, quest: Quest<'_>, stop: Stop) -> Stop
+fn with_walk(alloc: Global, quest: Quest<'_>, stop: SearchStop) -> SearchStop
     requires order { quest.least ≤ quest.most }
     requires short { quest.most ≤ max_context }
     ensures { result.error ≡ stop.error }
@@ -367,8 +373,8 @@ fn with_walk(alloc: Global, quest: Quest<'_>, stop: Stop) -> Stop
     let Ok(plain) = sketch_of(alloc, quest, stop.error) else {
         return stop;
     };
-    let Stop { error, sketch } = stop;
-    Stop {
+    let SearchStop { error, sketch } = stop;
+    SearchStop {
         error,
         sketch: Sketch {
             certificate: sketch.certificate,
@@ -379,8 +385,8 @@ fn with_walk(alloc: Global, quest: Quest<'_>, stop: Stop) -> Stop
 
 /// A search for the certificate that is wanted, and what is shown of what it finds.
 #[derive(Clone, Copy)]
-pub struct Search<'t> {
-    pub wanted: Wanted,
+pub struct CertificateSearch<'t> {
+    pub wanted: WantedCertificate,
     pub shown: Shown<'t>,
 }
 
@@ -391,10 +397,10 @@ pub struct Search<'t> {
 pub fn explain_search<W: Write, H: Watch>(
     alloc: Global,
     program: &Program,
-    asked: Search<'_>,
+    asked: CertificateSearch<'_>,
     watch: &mut H,
     out: &mut W,
-) -> io::Result<Result<Found, InferError>>
+) -> io::Result<Result<FoundCertificate, InferError>>
     requires order { asked.wanted.least ≤ asked.wanted.most }
     requires short { asked.wanted.most ≤ max_context }
     ensures version { IfOk result (λ told. IfOk told (λ f. f.certificate.version ≡ 2)) }
@@ -405,8 +411,8 @@ pub fn explain_search<W: Write, H: Watch>(
     ensures refused { IfOk result (λ told. IfOk told (λ f. IfSome f.refusal (λ r. IsLeastFlaw program.now f.certificate (refusal_slot r) (refusal_number r)))) }
     ensures slot { IfOk result (λ told. IfErr told (λ e. infer_slot e < slots program.now.list)) }
 {
-    let Search { wanted, shown } = asked;
-    let Wanted { least, most, deep } = wanted;
+    let CertificateSearch { wanted, shown } = asked;
+    let WantedCertificate { least, most, deep } = wanted;
     let quest = Quest {
         program,
         least,

@@ -13,6 +13,6 @@ mod texts;
 pub use bpf_explain_program::{Shown, is_table, write_alone};
 pub use certificate::write_fault;
 pub use image::write_refusal;
-pub use inferred::{Found, Search, explain_search, may_be_found};
+pub use inferred::{CertificateSearch, FoundCertificate, explain_search, may_be_found};
 pub use program::explain;
 pub use text::{write_program, write_text_refusal};

@@ -2,7 +2,7 @@
 
 use bpf_cert::{MAX_BASE, MAX_TERMS, MAX_WEIGHT};
 use bpf_explain_program::{Name, register};
-use bpf_infer::{Limit, Loss, Move, Obstacle, Tangle, Trial};
+use bpf_infer::{CounterTrial, Limit, Loss, Move, Obstacle, Tangle};
 use bpf_streams::Tell;
 
 // The numbers in the words below.
@@ -70,7 +70,7 @@ fn write_loss<W: Tell>(out: &mut W, name: Name, loss: Loss) {
 }
 
 /// A place that was tried as a counter, and why it isn't one.
-fn write_trial<W: Tell>(out: &mut W, trial: &Trial) {
+fn write_trial<W: Tell>(out: &mut W, trial: &CounterTrial) {
     let name = Name(trial.place);
     match trial.moves {
         Move::By {
@@ -90,7 +90,7 @@ fn write_trial<W: Tell>(out: &mut W, trial: &Trial) {
 }
 
 /// The places that were tried as counters of a loop.
-fn write_trials<W: Tell>(out: &mut W, slot: u32, trials: &[Trial]) {
+fn write_trials<W: Tell>(out: &mut W, slot: u32, trials: &[CounterTrial]) {
     write!(
         out,
         "nothing counts the rounds of the loop at slot {slot}:\n"

@@ -3,7 +3,10 @@
 use crate::texts::{Excerpt, parted};
 use bpf_insn::{BuildError, Code};
 use bpf_streams::{Count, Page, Tell};
-use bpf_text::{Item, LineFault, Range, Stop, TextError, code_at, endings_of, first_token, label_name, line_stop, range_behind, target_name};
+use bpf_text::{
+    Item, LineFault, Range, Stop, TextError, code_at, endings_of, first_token, label_name,
+    line_stop, range_behind, target_name,
+};
 use std::alloc::{AllocError, Global};
 use std::collections::BTreeMap;
 use std::io::{self, Write};

@@ -2,26 +2,26 @@
 use Rattle.std.specs.Prelude.{◌≡◌, ◌<◌, ℕ, List, Option}
 use Rattle.bpf_insn.specs.Instruction.{Instructions, slots}
 use Rattle.bpf_follows.specs.declared.notes.Bounds.{Bounds}
-use Rattle.bpf_follows.specs.declared.notes.Place.{Place}
+use Rattle.bpf_follows.specs.declared.notes.Counterpart.{Counterpart}
 use Rattle.bpf_follows.specs.Meaning.{KeepsMeaning}
 use Rattle.bpf_follows.specs.Mismatches.{IsMismatch}
 use Rattle.bpf_changes.specs.RefusalNumbers.{harden_slot}
-use Rattle.bpf_explain_harden.specs.declared.hardened.Hardening.{Hardening}
-use Rattle.bpf_explain_harden.specs.declared.hardened.Made.{Made}
+use Rattle.bpf_explain_harden.specs.declared.hardened.HardeningAsked.{HardeningAsked}
+use Rattle.bpf_explain_harden.specs.declared.hardened.HardenedProgram.{HardenedProgram}
 use Rattle.bpf_explain_harden.specs.declared.refusal.Unhardened.{Unhardened}
 use Rattle.bpf_explain_harden.specs.declared.refusal.Unhardened.TheVariants.{Refused, Unshown}
 
 -- the runs for which a program is hardened, where so many of the lowest bytes of each frame are left to r10
-abbrev pub runs_of : Hardening → ℕ → Bounds
+abbrev pub runs_of : HardeningAsked → ℕ → Bounds
 runs_of h untouched = record { length = h.length; padded = h.padded; turns = h.turns; untouched = untouched }
 
 -- The new program keeps the meaning of the old one, and its certificate is for contexts of the length that is asked for.
-pub record IsMade (old : Instructions) (h : Hardening) (m : Made) : Type 0 where
+pub record IsMade (old : Instructions) (h : HardeningAsked) (m : HardenedProgram) : Type 0 where
   pub keeps : KeepsMeaning old m.program (runs_of h m.untouched)
   pub least : m.certificate.least ≡ h.length
   pub most : m.certificate.most ≡ h.length
 
 -- The refusal names a slot of the old program; or notes of a new one don't match.
-abbrev pub IsUnhardened : Instructions → Hardening → Unhardened → Type 0
+abbrev pub IsUnhardened : Instructions → HardeningAsked → Unhardened → Type 0
 IsUnhardened old h (Refused e) = harden_slot e < slots old.list
-IsUnhardened old h (Unshown m) = (new : Instructions) × (notes : List (Option Place)) × IsMismatch old new notes (runs_of h 0) m
+IsUnhardened old h (Unshown m) = (new : Instructions) × (notes : List (Option Counterpart)) × IsMismatch old new notes (runs_of h 0) m

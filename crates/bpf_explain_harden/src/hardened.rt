@@ -12,11 +12,13 @@ use crate::lines::moved_lines;
 use crate::refusal::{Unhardened, Unshown};
 use bpf_cert::Certificate;
 use bpf_check::Refusal;
-use bpf_explain_program::{Shown, refusal_of, source_at, tell_reason, tell_shown, tell_sketch, tell_sketched_dot};
+use bpf_explain_program::{
+    Shown, refusal_of, source_at, tell_reason, tell_shown, tell_sketch, tell_sketched_dot,
+};
 use bpf_follows::{Bounds, matching_keeps_meaning};
 use bpf_harden::{HardenError, Hardened, Options, harden};
 use bpf_harden_follows::evidence_of;
-use bpf_infer::{InferError, Stop, Watch, search_or_stop};
+use bpf_infer::{InferError, SearchStop, Watch, search_or_stop};
 use bpf_insn::{Code, Program};
 use bpf_semantics::HEAD_BYTES;
 use bpf_streams::{Page, Tell};
@@ -25,7 +27,7 @@ use std::io::{self, Write};
 
 /// For which contexts and runs a program is hardened, and what is shown of what comes of it.
 #[derive(Clone, Copy)]
-pub struct Hardening<'t> {
+pub struct HardeningAsked<'t> {
     /// The length of the contexts in bytes, at most 4,096.
     pub length: u32,
     /// Whether contexts are blocks.
@@ -37,7 +39,7 @@ pub struct Hardening<'t> {
 
 /// A hardened program with its certificate.
 #[derive(Drop)]
-pub struct Made {
+pub struct HardenedProgram {
     pub program: Program,
     pub certificate: Certificate,
     /// How many of the lowest bytes of each frame runs of the old program have to leave to r10.
@@ -55,7 +57,7 @@ fn lines_of<'t>(shown: Shown<'t>) -> &'t [u8] {
 }
 
 /// The runs for which it is hardened.
-fn runs_of(asked: Hardening<'_>, untouched: u32) -> Bounds
+fn runs_of(asked: HardeningAsked<'_>, untouched: u32) -> Bounds
     ensures { result ≡ runs_of asked.entry untouched }
 {
     Bounds {
@@ -71,7 +73,7 @@ fn left_for(
     alloc: Global,
     program: &Program,
     hardened: &Hardened,
-    asked: Hardening<'_>,
+    asked: HardeningAsked<'_>,
 ) -> Result<u32, Unhardened>
     ensures keeps { IfOk result (λ untouched. KeepsMeaning program.now hardened.now.program (runs_of asked.entry untouched)) }
     ensures err { IfErr result (IsUnhardened program.now asked.entry) }
@@ -96,7 +98,11 @@ fn is_for(certificate: &Certificate, length: u32) -> bool
 }
 
 /// The hardened program with the certificate that hardening ended with, if it is shown to keep the meaning.
-fn made_of(alloc: Global, program: &Program, asked: Hardening<'_>) -> Result<Made, Unhardened>
+fn made_of(
+    alloc: Global,
+    program: &Program,
+    asked: HardeningAsked<'_>,
+) -> Result<HardenedProgram, Unhardened>
     requires { asked.length ≤ max_context }
     ensures ok { IfOk result (IsMade program.now asked.entry) }
     ensures err { IfErr result (IsUnhardened program.now asked.entry) }
@@ -132,7 +138,7 @@ fn made_of(alloc: Global, program: &Program, asked: Hardening<'_>) -> Result<Mad
     let Ok(lines) = moved_lines(alloc, lines_of(asked.shown), &slots) else {
         return Err(Unhardened::Refused(HardenError::Memory));
     };
-    Ok(Made {
+    Ok(HardenedProgram {
         program: new,
         certificate,
         untouched,
@@ -141,7 +147,7 @@ fn made_of(alloc: Global, program: &Program, asked: Hardening<'_>) -> Result<Mad
 }
 
 /// The lengths of the contexts of the old program: of blocks it is given the packets.
-fn lengths_of(asked: Hardening<'_>) -> (u32, u32)
+fn lengths_of(asked: HardeningAsked<'_>) -> (u32, u32)
     ensures order { result.0 ≤ result.1 }
     ensures short { result.1 ≤ asked.entry.length }
 {
@@ -156,7 +162,7 @@ fn lengths_of(asked: Hardening<'_>) -> (u32, u32)
 fn known_of<H: Watch>(
     alloc: Global,
     program: &Program,
-    asked: Hardening<'_>,
+    asked: HardeningAsked<'_>,
     why: Unhardened,
     watch: &mut H,
 ) -> (Option<Certificate>, Unhardened)
@@ -169,7 +175,7 @@ fn known_of<H: Watch>(
     match search_or_stop(alloc, program, least, most, watch) {
         Ok(certificate) => (Some(certificate), why),
         Err(stop) => {
-            let Stop { error, sketch } = stop;
+            let SearchStop { error, sketch } = stop;
             match error {
                 InferError::Memory => (None, Unhardened::Refused(HardenError::Memory)),
                 _ => (sketch.certificate, why),
@@ -241,7 +247,11 @@ fn shown_with<'t>(shown: Shown<'_>, lines: &'t [u8]) -> Shown<'t> {
 }
 
 /// Explains a hardened program, and gives the checker's answer.
-fn explain_made<W: Write>(out: &mut W, made: &Made, shown: Shown<'_>) -> io::Result<Option<Refusal>>
+fn explain_made<W: Write>(
+    out: &mut W,
+    made: &HardenedProgram,
+    shown: Shown<'_>,
+) -> io::Result<Option<Refusal>>
     ensures accepted { IfOk result (λ o. IfNone o (IsCertifiedBy made.now.program made.now.certificate)) }
     ensures refused { IfOk result (λ o. IfSome o (λ r. IsLeastFlaw made.now.program made.now.certificate (refusal_slot r) (refusal_number r))) }
 {
@@ -260,10 +270,10 @@ fn explain_made<W: Write>(out: &mut W, made: &Made, shown: Shown<'_>) -> io::Res
 pub fn explain_hardening<W: Write, H: Watch>(
     alloc: Global,
     program: &Program,
-    asked: Hardening<'_>,
+    asked: HardeningAsked<'_>,
     watch: &mut H,
     out: &mut W,
-) -> io::Result<Result<(Made, Option<Refusal>), Unhardened>>
+) -> io::Result<Result<(HardenedProgram, Option<Refusal>), Unhardened>>
     requires { asked.length ≤ max_context }
     ensures made { IfOk result (λ told. IfOk told (λ m. IsMade program.now asked.entry m.0)) }
     ensures accepted { IfOk result (λ told. IfOk told (λ m. IfNone m.1 (IsCertifiedBy m.0.program m.0.certificate))) }

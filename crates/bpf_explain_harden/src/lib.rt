@@ -6,5 +6,5 @@ mod hardened;
 mod lines;
 mod refusal;
 
-pub use hardened::{Hardening, Made, explain_hardening};
+pub use hardened::{HardenedProgram, HardeningAsked, explain_hardening};
 pub use refusal::{Unhardened, Unshown};

@@ -10,9 +10,9 @@ mod plan;
 
 use crate::graph::blocks::write_blocks;
 use crate::graph::edges::write_edges;
-pub use crate::graph::flow::Flow;
+pub use crate::graph::flow::FlowOfRuns;
 use crate::graph::flow::flow_of;
-use crate::graph::plan::Plan;
+use crate::graph::plan::GraphPlan;
 pub use crate::graph::plan::call_target;
 use crate::listing::write_header;
 use crate::program::write_refused;
@@ -30,8 +30,8 @@ pub struct Scene<'a, 'b> {
     pub certificate: Option<&'a Index<'b>>,
     /// Whether budgets are told.
     pub has_budgets: bool,
-    pub plan: Plan,
-    pub flow: Flow,
+    pub plan: GraphPlan,
+    pub flow: FlowOfRuns,
     /// The instructions that slot 0 leads to.
     pub reached: SlotSet,
     pub refusal: Option<Refusal>,
@@ -62,13 +62,13 @@ fn scene_of<'a, 'b, C: Code>(
 ) -> Scene<'a, 'b> {
     let flow = match certificate {
         Some(certificate) => flow_of(program, certificate),
-        None => Flow::any(),
+        None => FlowOfRuns::any(),
     };
     let reached = reached_from_start(program, &flow);
     Scene {
         certificate,
         has_budgets,
-        plan: Plan::of(program, certificate),
+        plan: GraphPlan::of(program, certificate),
         flow,
         reached,
         refusal,

@@ -154,9 +154,9 @@ pub fn known_register(state: RegState) -> Known {
 
 /// An instruction in the one spelling of the language, without the line's end.
 #[derive(Clone, Copy)]
-pub struct Spelled(pub Insn);
+pub struct SpelledInsn(pub Insn);
 
-impl fmt::Display for Spelled {
+impl fmt::Display for SpelledInsn {
     fn fmt<W: fmt::Write>(&self, f: &mut fmt::Formatter<W>) -> fmt::Result {
         let mut text: ArrayVec<u8, 64> = ArrayVec::new();
         let _ = bpf_text::write_line(&mut text, &self.0);

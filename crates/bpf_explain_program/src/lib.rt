@@ -24,7 +24,7 @@ mod words;
 pub use alone::write_alone;
 pub use graph::tell_sketched_dot;
 pub use judged::refusal_of;
-pub use known::{Name, Spelled};
+pub use known::{Name, SpelledInsn};
 pub use listing::write_padded;
 pub use program::{tell_reason, tell_shown, tell_sketch, write_shown};
 pub use reach::tell_unreached;

@@ -1,8 +1,8 @@
 //! The lines of a listing.
 
-use crate::known::{Known, Name, Number, Spelled, Written};
+use crate::known::{Known, Name, Number, SpelledInsn, Written};
 use crate::places::{changes, is_same, is_unknown, places_compared, places_written, take_all};
-use crate::sight::{Sight, Way};
+use crate::sight::{EdgeSeen, Sight};
 use bpf_cert::{Function, Label, Measure};
 use bpf_check::{Index, Seen};
 use bpf_infer_base::{PLACES, PlaceSet, place, slots_touched};
@@ -59,9 +59,9 @@ pub fn write_function<W: Tell>(out: &mut W, function: &Function) {
 
 /// What a term counts, as `r6` or `(10 - r6)`.
 #[derive(Clone, Copy)]
-struct Counted(Measure);
+struct TermCount(Measure);
 
-impl fmt::Display for Counted {
+impl fmt::Display for TermCount {
     fn fmt<W: fmt::Write>(&self, f: &mut fmt::Formatter<W>) -> fmt::Result {
         match self.0 {
             Measure::Down(place) => fmt::Display::fmt(&Name(place), f),
@@ -78,7 +78,7 @@ pub fn write_budget<W: Tell>(out: &mut W, label: &Label) {
     let base = label.budget.base;
     write!(out, "{base}");
     for term in label.budget.terms.as_slice() {
-        let (weight, counted) = (term.weight, Counted(term.measure));
+        let (weight, counted) = (term.weight, TermCount(term.measure));
         write!(out, " + {weight}*{counted}");
     }
 }
@@ -111,7 +111,7 @@ pub fn write_label<W: Tell>(out: &mut W, label: &Label, has_budgets: bool, room:
 
 /// The slot and the instruction, padded.
 pub fn write_padded<W: Tell>(out: &mut W, slot: u32, insn: &Insn) {
-    let text = Spelled(*insn);
+    let text = SpelledInsn(*insn);
     write!(out, "{slot:>5}  {text:<36}");
 }
 
@@ -202,7 +202,12 @@ pub fn write_instruction<C: Code, W: Tell>(out: &mut W, sight: &Sight<'_, C>, sh
 // ---- edges
 
 /// `; slack 0: base 23, cost 1, base there 2, kept 0, taken 20`, the last two where one of the labels has a term.
-fn write_slack<C: Code, W: Tell>(out: &mut W, sight: &Sight<'_, C>, way: Way<'_, '_>, new: &Label) {
+fn write_slack<C: Code, W: Tell>(
+    out: &mut W,
+    sight: &Sight<'_, C>,
+    way: EdgeSeen<'_, '_>,
+    new: &Label,
+) {
     let Some(here) = sight.here else {
         return;
     };
@@ -222,7 +227,7 @@ fn write_slack<C: Code, W: Tell>(out: &mut W, sight: &Sight<'_, C>, way: Way<'_,
 }
 
 /// Whether an edge to the next instruction says no more than that it is there.
-fn is_plain_step(way: Way<'_, '_>, more: PlaceSet) -> bool {
+fn is_plain_step(way: EdgeSeen<'_, '_>, more: PlaceSet) -> bool {
     way.edge.is_live && way.edge.label.is_none() && more.is_empty()
 }
 
@@ -231,7 +236,7 @@ fn is_plain_step(way: Way<'_, '_>, more: PlaceSet) -> bool {
 fn write_way<C: Code, W: Tell>(
     out: &mut W,
     sight: &Sight<'_, C>,
-    way: Way<'_, '_>,
+    way: EdgeSeen<'_, '_>,
     shown: &mut State,
 ) {
     let more = changes(&sight.before, way.state, places_compared(&sight.site.insn));

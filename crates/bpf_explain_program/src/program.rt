@@ -7,7 +7,7 @@ use crate::graph::tell_dot;
 use crate::listing::{Lengths, steps_of, write_header};
 use crate::pass::pass_over;
 use crate::reach::tell_unreached;
-use crate::report::{Report, View};
+use crate::report::{ProgramReport, View};
 use crate::shown::Shown;
 use bpf_cert::Certificate;
 use bpf_check::{Index, Refusal};
@@ -23,7 +23,7 @@ fn tell_all<C: Code, W: Tell>(
     lines: &[u8],
     out: &mut W,
 ) {
-    let mut report = Report::new(program, certificate, view, lines, out);
+    let mut report = ProgramReport::new(program, certificate, view, lines, out);
     let end = pass_over(program, certificate, view.has_budgets(), &mut report);
     report.end(end);
 }

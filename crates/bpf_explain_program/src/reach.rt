@@ -1,6 +1,6 @@
 //! Which instructions slot 0 leads to: a search of the control-flow graph, with the set of those that wait.
 
-use crate::graph::{Flow, call_target};
+use crate::graph::{FlowOfRuns, call_target};
 use bpf_cert::LAST_SLOT;
 use bpf_check::jump_target;
 use bpf_infer_base::SlotSet;
@@ -10,12 +10,12 @@ use std::fmt;
 
 /// The search as far as it is.
 #[derive(Drop)]
-struct Search {
+struct ReachSearch {
     waiting: SlotSet,
     reached: SlotSet,
 }
 
-impl Search {
+impl ReachSearch {
     /// An edge leads to a slot.
     fn lead_to(&mut self, slot: u32) {
         if !self.reached.has(slot) {
@@ -24,7 +24,7 @@ impl Search {
     }
 
     /// Follows the edges of the instruction at a slot, but for those that are known to be dead.
-    fn follow<C: Code>(&mut self, program: &C, flow: &Flow, slot: u32) {
+    fn follow<C: Code>(&mut self, program: &C, flow: &FlowOfRuns, slot: u32) {
         if slot > LAST_SLOT {
             return;
         }
@@ -47,8 +47,8 @@ impl Search {
 }
 
 /// The instructions that slot 0 leads to, over edges that aren't known to be dead.
-pub fn reached_from_start<C: Code>(program: &C, flow: &Flow) -> SlotSet {
-    let mut search = Search {
+pub fn reached_from_start<C: Code>(program: &C, flow: &FlowOfRuns) -> SlotSet {
+    let mut search = ReachSearch {
         waiting: SlotSet::none(),
         reached: SlotSet::none(),
     };
@@ -66,12 +66,12 @@ pub fn reached_from_start<C: Code>(program: &C, flow: &Flow) -> SlotSet {
 
 /// Slots one after the other: the first and the last.
 #[derive(Clone, Copy)]
-pub struct Range {
+pub struct SlotRange {
     pub first: u32,
     pub last: u32,
 }
 
-impl fmt::Display for Range {
+impl fmt::Display for SlotRange {
     fn fmt<W: fmt::Write>(&self, f: &mut fmt::Formatter<W>) -> fmt::Result {
         let (first, last) = (self.first, self.last);
         if first == last {
@@ -83,16 +83,16 @@ impl fmt::Display for Range {
 }
 
 /// The first slots from one on at which instructions begin that aren't reached, one after the other.
-fn range_from<C: Code>(program: &C, reached: &SlotSet, from: u32) -> Option<Range> {
-    let mut found: Option<Range> = None;
+fn range_from<C: Code>(program: &C, reached: &SlotSet, from: u32) -> Option<SlotRange> {
+    let mut found: Option<SlotRange> = None;
     for slot in from..program.slots().min(MAX_SLOTS as u32) {
         if let Some(insn) = program.insn(slot) {
             let last = slot.saturating_add(insn.slots()).saturating_sub(1);
             found = match found {
                 Some(range) if reached.has(slot) => return Some(range),
-                Some(range) => Some(Range { last, ..range }),
+                Some(range) => Some(SlotRange { last, ..range }),
                 None if reached.has(slot) => None,
-                None => Some(Range { first: slot, last }),
+                None => Some(SlotRange { first: slot, last }),
             };
         }
     }
@@ -102,7 +102,7 @@ fn range_from<C: Code>(program: &C, reached: &SlotSet, from: u32) -> Option<Rang
 /// Tells which slots no jump, no call and no instruction before leads to, up to four ranges: most often the functions behind the one
 /// that was taken for the program.
 pub fn tell_unreached<C: Code, W: Tell>(program: &C, out: &mut W) {
-    let reached = reached_from_start(program, &Flow::any());
+    let reached = reached_from_start(program, &FlowOfRuns::any());
     let Some(first) = range_from(program, &reached, 0) else {
         return;
     };

@@ -1,15 +1,18 @@
 //! The flaws at a slot, told in the order of their numbers.
 
 use crate::flaws::{CONDITIONS, Flaws};
-use crate::known::Spelled;
+use crate::known::SpelledInsn;
 use crate::listing::{write_edges, write_function, write_instruction, write_label};
 use crate::pass::Observer;
-use crate::reach::Range;
+use crate::reach::SlotRange;
 use crate::sight::Sight;
 use crate::source::SourceLines;
 use crate::standing::{label_flaws, last_slot, standing_flaws, start_flaws};
 use crate::whole::write_whole;
-use crate::words::{Handings, Silence, tell, tell_function, tell_handed, tell_label, tell_mixed, tell_silence, tell_start};
+use crate::words::{
+    Handings, Silence, tell, tell_function, tell_handed, tell_label, tell_mixed, tell_silence,
+    tell_start,
+};
 use bpf_cert::{Function, MAX_FUNCTIONS};
 use bpf_check::{Index, Refusal, Standing, see_start, standing_at};
 use bpf_insn::{Code, Insn};
@@ -51,7 +54,7 @@ impl View {
 /// Slots at which no state is known, for one reason and without another flaw.
 #[derive(Clone, Copy)]
 struct Quiet {
-    slots: Range,
+    slots: SlotRange,
     silence: Silence,
 }
 
@@ -65,7 +68,7 @@ fn write_source<W: Tell>(out: &mut W, before: &str, behind: &str, lines: &Source
 
 /// What goes on from slot to slot as a program is told.
 #[derive(Drop)]
-pub struct Report<'a, 'o, C: Code, W: Tell> {
+pub struct ProgramReport<'a, 'o, C: Code, W: Tell> {
     program: &'a C,
     certificate: &'a Index<'a>,
     view: View,
@@ -85,7 +88,7 @@ pub struct Report<'a, 'o, C: Code, W: Tell> {
     lines: SourceLines<'a>,
 }
 
-impl<'a, 'o, C: Code, W: Tell> Report<'a, 'o, C, W> {
+impl<'a, 'o, C: Code, W: Tell> ProgramReport<'a, 'o, C, W> {
     /// Nothing is told yet.
     pub fn new(
         program: &'a C,
@@ -94,7 +97,7 @@ impl<'a, 'o, C: Code, W: Tell> Report<'a, 'o, C, W> {
         lines: &'a [u8],
         out: &'o mut W,
     ) -> Self {
-        Report {
+        ProgramReport {
             program,
             certificate,
             view,
@@ -117,7 +120,7 @@ impl<'a, 'o, C: Code, W: Tell> Report<'a, 'o, C, W> {
         }
         write!(self.out, "C{number} at slot {slot}");
         if let Some(insn) = insn {
-            let text = Spelled(insn);
+            let text = SpelledInsn(insn);
             write!(self.out, ", {text}");
         }
         self.out.say(": ");
@@ -303,7 +306,7 @@ impl<'a, 'o, C: Code, W: Tell> Report<'a, 'o, C, W> {
     /// Passes over a slot at which no state is known. Those that were passed over for another reason are told.
     fn pass_over(&mut self, slot: u32) {
         let (silence, known) = (self.silence, self.quiet);
-        let mut slots = Range {
+        let mut slots = SlotRange {
             first: slot,
             last: slot,
         };
@@ -415,7 +418,7 @@ impl<'a, 'o, C: Code, W: Tell> Report<'a, 'o, C, W> {
     }
 }
 
-impl<'a, 'o, C: Code, W: Tell> Observer<C> for Report<'a, 'o, C, W> {
+impl<'a, 'o, C: Code, W: Tell> Observer<C> for ProgramReport<'a, 'o, C, W> {
     fn observe(&mut self, sight: &Sight<'_, C>) -> bool {
         self.show(sight);
         self.note_silence(sight);

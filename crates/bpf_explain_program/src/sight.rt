@@ -7,7 +7,7 @@ use bpf_state::{Condition, State, Work};
 
 /// An edge with the state that goes along it.
 #[derive(Clone, Copy)]
-pub struct Way<'s, 'a> {
+pub struct EdgeSeen<'s, 'a> {
     pub edge: JudgedEdge<'a>,
     pub state: &'s State,
     pub is_jump: bool,
@@ -100,7 +100,7 @@ impl<'a, C: Code> Sight<'a, C> {
 
     /// The edge of the jump, and the one to the next instruction, of which a dead one is told beside that of a conditional jump
     /// alone.
-    pub fn ways(&self) -> [Option<Way<'_, 'a>>; 2] {
+    pub fn ways(&self) -> [Option<EdgeSeen<'_, 'a>>; 2] {
         let Some(seen) = &self.seen else {
             return [None, None];
         };
@@ -110,7 +110,7 @@ impl<'a, C: Code> Sight<'a, C> {
         } else {
             ("", "")
         };
-        let next = Way {
+        let next = EdgeSeen {
             edge: seen.next,
             state: &self.behind,
             is_jump: false,
@@ -119,7 +119,7 @@ impl<'a, C: Code> Sight<'a, C> {
         let Some(edge) = seen.jump else {
             return [None, seen.next.is_live.then_some(next)];
         };
-        let jump = Way {
+        let jump = EdgeSeen {
             edge,
             state: if is_test { &self.if_so } else { &self.behind },
             is_jump: true,

@@ -18,15 +18,15 @@ pub struct Sum {
 
 /// A register as the instruction at a slot takes it: as an operand of a sum of two registers, or to test it.
 #[derive(Clone, Copy)]
-pub struct Use {
+pub struct RegisterUse {
     pub slot: u32,
     pub reg: Reg,
     pub sum: Sum,
 }
 
-impl Default for Use {
+impl Default for RegisterUse {
     fn default() -> Self {
-        Use {
+        RegisterUse {
             slot: 0,
             reg: Reg::R0,
             sum: Sum::of(0),
@@ -39,7 +39,7 @@ impl Default for Use {
 pub struct Held {
     pub sum: Sum,
     /// The two whose sum it is, but for a constant.
-    pub parts: [Option<Use>; 2],
+    pub parts: [Option<RegisterUse>; 2],
     /// The slot of the 64-bit 0 that it is computed from.
     pub zero: Option<u32>,
 }
@@ -49,7 +49,7 @@ pub struct Held {
 pub struct Trail {
     held: [Held; 11],
     /// The tests by which a register is above or below something.
-    tests: ArrayVec<Use, 32>,
+    tests: ArrayVec<RegisterUse, 32>,
 }
 
 /// The number of the value that the instruction at a slot gives a register.
@@ -133,9 +133,9 @@ impl Trail {
     }
 
     /// A register as the instruction at a slot takes it.
-    pub fn used(&self, slot: u32, reg: Reg) -> Use {
+    pub fn used(&self, slot: u32, reg: Reg) -> RegisterUse {
         let sum = self.held(reg).sum;
-        Use { slot, reg, sum }
+        RegisterUse { slot, reg, sum }
     }
 
     /// Lets a register hold something.
@@ -252,7 +252,7 @@ impl Trail {
     }
 
     /// The last test of a value that a part has, too, which was made of another copy.
-    pub fn test_beside(&self, part: Use) -> Option<Use> {
+    pub fn test_beside(&self, part: RegisterUse) -> Option<RegisterUse> {
         let mut found = None;
         let mut bit = 1u32;
         for test in self.tests.iter() {

@@ -1,6 +1,6 @@
 //! One instruction with the whole states before and after it.
 
-use crate::known::{Known, Name, Offset, Spelled};
+use crate::known::{Known, Name, Offset, SpelledInsn};
 use crate::places::{is_unknown, tag_at};
 use crate::sight::Sight;
 use bpf_cert::Label;
@@ -59,7 +59,7 @@ fn write_before<W: Tell>(out: &mut W, here: Here<'_>, state: &State) {
 
 /// Writes an instruction, the state in front of it, and those behind it.
 pub fn write_whole<C: Code, W: Tell>(out: &mut W, sight: &Sight<'_, C>) {
-    let (slot, text) = (sight.site.here.slot, Spelled(sight.site.insn));
+    let (slot, text) = (sight.site.here.slot, SpelledInsn(sight.site.insn));
     write!(out, "slot {slot}: {text}\n");
     let Some(here) = sight.here else {
         return out.say("no state is known here\n");

@@ -13,7 +13,7 @@ use Rattle.bpf_follows.specs.declared.notes.Area.{Area}
 use Rattle.bpf_follows.specs.declared.notes.Area.TheVariants.{Given, Own}
 use Rattle.bpf_follows.specs.declared.notes.Kind.{Kind}
 use Rattle.bpf_follows.specs.declared.notes.Kind.TheVariants.{Nothing, Unset, Same, Both, Number, Natural, Inner, Length, Ending, Closing, Offset, Fixed, Within, Start, Head, Base, Moved, Address, Saved, Kept, Constant, Counter, Turn, Alone, Returns}
-use Rattle.bpf_follows.specs.declared.notes.Place.{Place}
+use Rattle.bpf_follows.specs.declared.notes.Counterpart.{Counterpart}
 use Rattle.bpf_follows.specs.declared.error.NotesError.{NotesError}
 use Rattle.bpf_follows.specs.declared.error.NotesError.TheVariants.{Form}
 use Rattle.bpf_follows.specs.NotesText.{max_lines, IntFits, KindFits, PlaceFits, NoteFits, entry_text, behind_text, bounds_text, kept_text, beside_text, area_text, held_text, kinds_text, place_text, note_text, note_line, note_lines}
@@ -349,7 +349,7 @@ kinds_again done (kind ∷ kinds) k rest long few fits = by_kind (held_is (lengt
 
 -- ---- places
 
-place_again : (place : Place) → PlaceFits place → (rest : List ℕ) → place_in (place_text place ++ 10 ∷ rest) ≡ Some place
+place_again : (place : Counterpart) → PlaceFits place → (rest : List ℕ) → place_in (place_text place ++ 10 ∷ rest) ≡ Some place
 unfolding place_in place_text
 place_again place fits rest =
     let front = kinds_front 0 place.kinds fits.kinds rest in
@@ -370,13 +370,13 @@ place_again place fits rest =
       kinds,
     ) refl
 
-no_none : (place : Place) (rest : List ℕ) → behind (codes "none") (place_text place ++ rest) ≡ None
+no_none : (place : Counterpart) (rest : List ℕ) → behind (codes "none") (place_text place ++ rest) ≡ None
 unfolding place_text behind
 no_none place rest = refl
 
 -- ---- lines
 
-note_again : (slot : ℕ) → slot < 2 ^ 32 → (note : Option Place) → NoteFits note → (rest : List ℕ) → note_in (note_line slot note ++ rest) ≡ Some note
+note_again : (slot : ℕ) → slot < 2 ^ 32 → (note : Option Counterpart) → NoteFits note → (rest : List ℕ) → note_in (note_line slot note ++ rest) ≡ Some note
 unfolding note_in note_line note_text number_in behind
 note_again slot small None fits rest =
     rw (append_assoc (decimal slot) (codes ": none\n") rest, digits_again slot 58 (codes " none\n" ++ rest) small (refl, refl)) refl
@@ -389,21 +389,21 @@ note_again slot small (Some place) fits rest =
       place_again place fits rest,
     ) refl
 
-pub taken_again : (slot : ℕ) → slot < 2 ^ 32 → (note : Option Place) → NoteFits note → (rest : List ℕ) → taken_at slot (note_line slot note ++ rest) ≡ Some (note, rest)
+pub taken_again : (slot : ℕ) → slot < 2 ^ 32 → (note : Option Counterpart) → NoteFits note → (rest : List ℕ) → taken_at slot (note_line slot note ++ rest) ≡ Some (note, rest)
 unfolding taken_at
 taken_again slot small note fits rest = rw (note_again slot small note fits rest, behind_word (note_line slot note) (note_line slot note ++ rest) rest refl) refl
 
 -- a line isn't empty
-line_front : (slot : ℕ) (note : Option Place) (rest : List ℕ) → 0 < length (note_line slot note ++ rest)
+line_front : (slot : ℕ) (note : Option Counterpart) (rest : List ℕ) → 0 < length (note_line slot note ++ rest)
 unfolding note_line
 line_front slot note rest = rw (length-append (decimal slot ++ (codes ": " ++ (note_text note ++ codes "\n"))) rest, length-append (decimal slot) (codes ": " ++ (note_text note ++ codes "\n"))) (omega arith)
 
-lines_step : (k slot : ℕ) (text : List ℕ) (n : Option Place) (rest : List ℕ) → 0 < length text → taken_at slot text ≡ Some (n, rest) → lines_in (suc k) slot text ≡ with_front n (lines_in k (slot + 1) rest)
+lines_step : (k slot : ℕ) (text : List ℕ) (n : Option Counterpart) (rest : List ℕ) → 0 < length text → taken_at slot text ≡ Some (n, rest) → lines_in (suc k) slot text ≡ with_front n (lines_in k (slot + 1) rest)
 unfolding lines_in
 lines_step k slot [] n rest some e = absurd (omega arith)
 lines_step k slot (c ∷ cs) n rest some e = rw e refl
 
-pub lines_again : (k slot : ℕ) (notes : List (Option Place)) → length notes ≤ k → slot + length notes ≤ max_lines → AllByRecursion NoteFits notes → lines_in k slot (note_lines slot notes) ≡ Ok notes
+pub lines_again : (k slot : ℕ) (notes : List (Option Counterpart)) → length notes ≤ k → slot + length notes ≤ max_lines → AllByRecursion NoteFits notes → lines_in k slot (note_lines slot notes) ≡ Ok notes
 unfolding note_lines
 lines_again k slot [] long few fits = unfold lines_in in refl
 lines_again zero slot (n ∷ notes) long few fits = absurd (omega arith)
@@ -430,26 +430,26 @@ pub taken_none : (slot : ℕ) (text : List ℕ) → note_in text ≡ None → ta
 unfolding taken_at
 taken_none slot text e = rw e refl
 
-pub taken_some : (slot : ℕ) (text : List ℕ) (n : Option Place) (rest : List ℕ) → note_in text ≡ Some n → behind (note_line slot n) text ≡ Some rest → taken_at slot text ≡ Some (n, rest)
+pub taken_some : (slot : ℕ) (text : List ℕ) (n : Option Counterpart) (rest : List ℕ) → note_in text ≡ Some n → behind (note_line slot n) text ≡ Some rest → taken_at slot text ≡ Some (n, rest)
 unfolding taken_at
 taken_some slot text n rest e f = rw (e, f) refl
 
-pub taken_other : (slot : ℕ) (text : List ℕ) (n : Option Place) → note_in text ≡ Some n → behind (note_line slot n) text ≡ None → taken_at slot text ≡ None
+pub taken_other : (slot : ℕ) (text : List ℕ) (n : Option Counterpart) → note_in text ≡ Some n → behind (note_line slot n) text ≡ None → taken_at slot text ≡ None
 unfolding taken_at
 taken_other slot text n e f = rw (e, f) refl
 
-pub lines_end : (done : List (Option Place)) (k slot : ℕ) (text : List ℕ) → length text ≡ 0 → after_lines done (lines_in k slot text) ≡ Ok done
+pub lines_end : (done : List (Option Counterpart)) (k slot : ℕ) (text : List ℕ) → length text ≡ 0 → after_lines done (lines_in k slot text) ≡ Ok done
 unfolding lines_in
 lines_end done k slot [] e = ap Ok (append-nil done)
 lines_end done k slot (c ∷ cs) e = absurd (omega arith)
 
-pub lines_full : (done : List (Option Place)) (k slot : ℕ) (text : List ℕ) → 0 < length text → k ≡ 0 → after_lines done (lines_in k slot text) ≡ Err (Form (slot + 2))
+pub lines_full : (done : List (Option Counterpart)) (k slot : ℕ) (text : List ℕ) → 0 < length text → k ≡ 0 → after_lines done (lines_in k slot text) ≡ Err (Form (slot + 2))
 unfolding lines_in
 lines_full done k slot [] some e = absurd (omega arith)
 lines_full done zero slot (c ∷ cs) some e = refl
 lines_full done (suc k) slot (c ∷ cs) some e = absurd (omega arith)
 
-lines_none : (done : List (Option Place)) (k slot : ℕ) (text : List ℕ) → 0 < length text → taken_at slot text ≡ None → after_lines done (lines_in (suc k) slot text) ≡ Err (Form (slot + 2))
+lines_none : (done : List (Option Counterpart)) (k slot : ℕ) (text : List ℕ) → 0 < length text → taken_at slot text ≡ None → after_lines done (lines_in (suc k) slot text) ≡ Err (Form (slot + 2))
 unfolding lines_in
 lines_none done k slot [] some e = absurd (omega arith)
 lines_none done k slot (c ∷ cs) some e = rw e refl
@@ -457,14 +457,14 @@ lines_none done k slot (c ∷ cs) some e = rw e refl
 count : (slot : ℕ) → slot < max_lines → max_lines - slot ≡ suc (max_lines - (slot + 1))
 count slot h = omega arith
 
-pub lines_stop : (done : List (Option Place)) (slot : ℕ) (text : List ℕ) → 0 < length text → slot < max_lines → taken_at slot text ≡ None → after_lines done (lines_in (max_lines - slot) slot text) ≡ Err (Form (slot + 2))
+pub lines_stop : (done : List (Option Counterpart)) (slot : ℕ) (text : List ℕ) → 0 < length text → slot < max_lines → taken_at slot text ≡ None → after_lines done (lines_in (max_lines - slot) slot text) ≡ Err (Form (slot + 2))
 lines_stop done slot text some h e = ap (λ k. after_lines done (lines_in k slot text)) (count slot h) ∙ lines_none done (max_lines - (slot + 1)) slot text some e
 
-front_after : (done : List (Option Place)) (n : Option Place) (r : Result (List (Option Place)) NotesError) → after_lines (done ++ n ∷ []) r ≡ after_lines done (with_front n r)
+front_after : (done : List (Option Counterpart)) (n : Option Counterpart) (r : Result (List (Option Counterpart)) NotesError) → after_lines (done ++ n ∷ []) r ≡ after_lines done (with_front n r)
 front_after done n (Ok notes) = ap Ok (append_assoc done (n ∷ []) notes)
 front_after done n (Err error) = refl
 
-pub lines_more : (done : List (Option Place)) (slot : ℕ) (text : List ℕ) (n : Option Place) (more : List ℕ) → 0 < length text → slot < max_lines → taken_at slot text ≡ Some (n, more)
+pub lines_more : (done : List (Option Counterpart)) (slot : ℕ) (text : List ℕ) (n : Option Counterpart) (more : List ℕ) → 0 < length text → slot < max_lines → taken_at slot text ≡ Some (n, more)
     → after_lines (done ++ n ∷ []) (lines_in (max_lines - (slot + 1)) (slot + 1) more) ≡ after_lines done (lines_in (max_lines - slot) slot text)
 lines_more done slot text n more some h e =
     front_after done n (lines_in (max_lines - (slot + 1)) (slot + 1) more)

@@ -16,7 +16,7 @@ use Rattle.bpf_semantics.specs.declared.value.Region.TheVariants.{Frame as Frame
 use Rattle.bpf_follows.specs.declared.notes.Area.TheVariants.{Given, Own}
 use Rattle.bpf_follows.specs.declared.notes.Kind.{Kind}
 use Rattle.bpf_follows.specs.declared.notes.Kind.TheVariants.{Unset, Same, Number as NumberKind, Natural, Inner, Length, Offset, Fixed, Within, Start, Head, Base, Moved, Constant, Counter, Alone, Returns, Both, Closing, Ending}
-use Rattle.bpf_follows.specs.declared.notes.Place.{Place}
+use Rattle.bpf_follows.specs.declared.notes.Counterpart.{Counterpart}
 use Rattle.bpf_follows.specs.Areas.{same_area}
 use Rattle.bpf_follows.specs.Relation.{Past, Kinds, places, Gives, weaker, natural_top, is_free, kinds_of, place_at, HasOffset, IsWithin, as_offset, register_in, FitsKind, FitsSlot, FrameFits, Follows}
 use Rattle.bpf_follows.specs.Matching.{Arrives}
@@ -32,7 +32,7 @@ both_true false b e = absurd (false≢true e)
 pub plus_zero : (z : ℤ) → z ≡ z +ℤ pos 0
 plus_zero z = omega (arith, ints)
 
-module _ (ends : Order) (notes : List (Option Place)) (turns : ℕ) (passed : Past) where
+module _ (ends : Order) (notes : List (Option Counterpart)) (turns : ℕ) (passed : Past) where
   -- what is made of the new state follows the old one's successor
   pub record Arrived (u : State) (o : Option State) : Type 0 where
     pub state : State

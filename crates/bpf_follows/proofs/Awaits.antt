@@ -21,15 +21,15 @@ use Rattle.bpf_semantics.specs.Memory.Location.{InContext, InFrame}
 use Rattle.bpf_semantics.specs.Step.{does, next, operand, alu_result, test_of_values, load, load_extended, store, atomic_result, fetched, jump, saved, entered, left}
 use Rattle.bpf_semantics.specs.declared.value.Value.{Value}
 use Rattle.bpf_semantics.specs.declared.value.Value.TheVariants.{Number, Pointer}
-use Rattle.bpf_follows.specs.declared.notes.Place.{Place}
+use Rattle.bpf_follows.specs.declared.notes.Counterpart.{Counterpart}
 use Rattle.bpf_follows.specs.Relation.{Gives, kinds_of, place_at}
 use Rattle.bpf_follows.specs.Returned.{is_call, led, back_of}
 use Rattle.bpf_follows.proofs.Lists.{unmapped, cond_first, cond_second, Cells}
 use Rattle.bpf_follows.proofs.Owns.{IsLive, live_location, live_next, top_stack, waiting_stack}
 
 -- the frame that waits at one slot takes what the function at another gives back
-abbrev pub Takes : List (Option Place) → ℕ → ℕ → ℕ → Type 0
-Takes notes turns slot behind = (place next : Place) → place_at notes slot ≡ Some place → place_at notes behind ≡ Some next → Gives turns 0 (back_of place) (kinds_of next 0)
+abbrev pub Takes : List (Option Counterpart) → ℕ → ℕ → ℕ → Type 0
+Takes notes turns slot behind = (place next : Counterpart) → place_at notes slot ≡ Some place → place_at notes behind ≡ Some next → Gives turns 0 (back_of place) (kinds_of next 0)
 
 module _ (R : ℕ → ℕ → Type 0) where
   -- of a frame at the slot, and those that wait

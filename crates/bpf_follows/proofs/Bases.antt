@@ -31,7 +31,7 @@ use Rattle.bpf_follows.specs.declared.notes.Area.{Area}
 use Rattle.bpf_follows.specs.declared.notes.Area.TheVariants.{Given, Own}
 use Rattle.bpf_follows.specs.declared.notes.Kind.{Kind}
 use Rattle.bpf_follows.specs.declared.notes.Kind.TheVariants.{Same, Fixed, Closing, Head, Address}
-use Rattle.bpf_follows.specs.declared.notes.Place.{Place}
+use Rattle.bpf_follows.specs.declared.notes.Counterpart.{Counterpart}
 use Rattle.bpf_follows.specs.Areas.{origin, is_own, same_area, IsInto}
 use Rattle.bpf_follows.specs.Relation.{Past, Kinds, as_pointer, FitsKind, register_in, is_alone}
 use Rattle.bpf_follows.specs.Numbers.{loaded_number, number_kind, told}
@@ -78,7 +78,7 @@ based_is area r kind e = by_base_of (base_of r kind) refl e
     by_base_of None eo e = absurd (false≢true e)
     by_base_of (Some b) eo e = eo ∙ ap Some (area_same b area e)
 
-module _ (ends : Order) (notes : List (Option Place)) (turns : ℕ) (passed : Past) where
+module _ (ends : Order) (notes : List (Option Counterpart)) (turns : ℕ) (passed : Past) where
   -- the new machine's access goes to the same place, and where that isn't in the own frame, a pointer there is kept
   pub record SamePlace (s t : State) (old new : Access) (area : Area) (at : Location) : Type 0 where
     pub value : Value

@@ -7,7 +7,7 @@ use Rattle.bpf_semantics.specs.Run.{Steps}
 use Rattle.bpf_semantics.specs.MachineLaws.{StepsAreComputed}
 use Rattle.bpf_follows.specs.declared.notes.Bounds.{Bounds}
 use Rattle.bpf_follows.specs.declared.notes.Area.TheVariants.{Given}
-use Rattle.bpf_follows.specs.declared.notes.Place.{Place}
+use Rattle.bpf_follows.specs.declared.notes.Counterpart.{Counterpart}
 use Rattle.bpf_follows.specs.Meaning.{visits, is_at}
 use Rattle.bpf_semantics.specs.Blocks.{head_bytes}
 use Rattle.bpf_follows.specs.Areas.{first_of}
@@ -71,7 +71,7 @@ AllStay p rooms zero s t e = Unit {0}
 AllStay p rooms (suc k) s t (mid, run, step) = AllStay p rooms k s mid run × Stays p rooms mid
 
 -- The old machine's first state, and the new machine's behind what it begins with.
-pub record Begins (old new : Instructions) (notes : List (Option Place)) (bounds : Bounds) (packet : Option ℕ) (context : List ℕ) (first : State) : Type 0 where
+pub record Begins (old new : Instructions) (notes : List (Option Counterpart)) (bounds : Bounds) (packet : Option ℕ) (context : List ℕ) (first : State) : Type 0 where
   pub state : IsState first
   pub owns : Owns first
   pub awaited : Awaited (Takes notes bounds.turns) first

@@ -22,7 +22,7 @@ use Rattle.bpf_semantics.specs.declared.value.Value.TheVariants.{Number, Pointer
 use Rattle.bpf_semantics.specs.declared.value.Region.TheVariants.{Context, Frame as FrameAt}
 use Rattle.bpf_follows.specs.declared.notes.Kind.{Kind}
 use Rattle.bpf_follows.specs.declared.notes.Kind.TheVariants.{Same}
-use Rattle.bpf_follows.specs.declared.notes.Place.{Place}
+use Rattle.bpf_follows.specs.declared.notes.Counterpart.{Counterpart}
 use Rattle.bpf_follows.specs.Relation.{Past, Kinds, kinds_waiting, IsKept, IsRead, EachPair, FitsKind, SlotKept, FitsSlot, FrameFits, FrameWaits, register_in, is_alone}
 use Rattle.bpf_follows.specs.Matching.{is_changed, kinds_after, AllPlain}
 use Rattle.bpf_follows.proofs.Lists.{mapped, unmapped, cond_first, cond_second, same_is_kept, as_long, pairs_weaker, pair_at, pair_inside, pairs_set, pairs_drop, pairs_take, Cells, bytes_kept, pointer_kept, no_pointer, each_kept, bytes_keep, parts_keep}
@@ -47,7 +47,7 @@ here_next s x (InFrame n i) h = h
 
 -- ---- states
 
-module _ (ends : Order) (notes : List (Option Place)) (turns : ℕ) (passed : Past) where
+module _ (ends : Order) (notes : List (Option Counterpart)) (turns : ℕ) (passed : Past) where
   -- the running frames by kinds, wherever they stand; the waiting ones follow
   pub record Between (kinds : Kinds) (s t : State) : Type 0 where
     pub top : FrameFits ends turns passed kinds s.top t.top

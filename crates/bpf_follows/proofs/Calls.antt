@@ -17,7 +17,7 @@ use Rattle.bpf_semantics.specs.declared.value.Region.TheVariants.{Frame as Frame
 use Rattle.bpf_follows.specs.declared.notes.Area.TheVariants.{Given, Own}
 use Rattle.bpf_follows.specs.declared.notes.Kind.{Kind}
 use Rattle.bpf_follows.specs.declared.notes.Kind.TheVariants.{Nothing, Unset, Same, Number as NumberKind, Natural, Inner, Length, Closing, Ending, Head, Offset, Fixed, Within, Start, Base, Moved, Address, Constant, Counter, Turn, Alone, Returns, Both, Saved, Kept}
-use Rattle.bpf_follows.specs.declared.notes.Place.{Place}
+use Rattle.bpf_follows.specs.declared.notes.Counterpart.{Counterpart}
 use Rattle.bpf_follows.specs.Relation.{Past, Kinds, Gives, weaker, kinds_of, EachPair, FitsKind, FitsSlot, FrameFollows, FrameWaits, register_in, is_of_other, is_alone, places, place_at, received, kinds_waiting}
 use Rattle.bpf_follows.specs.Extras.{is_same}
 use Rattle.bpf_follows.specs.Matching.{held, handed, kinds_behind, kinds_beyond, kinds_called, AllPlain, Arrives}
@@ -117,7 +117,7 @@ own_held off (Turn head) = refl
 own_held off Alone = refl
 own_held off (Returns least most) = refl
 
-module _ (ends : Order) (notes : List (Option Place)) (turns : ℕ) (passed : Past) where
+module _ (ends : Order) (notes : List (Option Counterpart)) (turns : ℕ) (passed : Past) where
   abbrev AllFit : Kinds → Registers → Registers → Type 0
   AllFit kinds xs ys = (r : ℕ) → r < 11 → FitsKind turns passed (λ q. get_or xs q None) r (kinds r) (get_or ys r None)
 
@@ -318,7 +318,7 @@ module _ (ends : Order) (notes : List (Option Place)) (turns : ℕ) (passed : Pa
   no_zero : (k : ℕ) → 11 + k == 0 ≡ false
   no_zero k = ne_eqb (11 + k) 0 (λ z. absurd (omega arith))
 
-  waiting_given : (back : Kind) (have : Kinds) (place : Place) (r : ℕ) → Gives turns r (received back have r) (kinds_of place r) → Gives turns r (have r) (kinds_waiting place r)
+  waiting_given : (back : Kind) (have : Kinds) (place : Counterpart) (r : ℕ) → Gives turns r (received back have r) (kinds_of place r) → Gives turns r (have r) (kinds_waiting place r)
   waiting_given back have place r g = by_cases (r == 0) g
     where
       by_cases : (b : Bool) → Gives turns r (if b then back else have r) (kinds_of place r) → Gives turns r (have r) (if b then Nothing else kinds_of place r)
@@ -402,7 +402,7 @@ module _ (ends : Order) (notes : List (Option Place)) (turns : ℕ) (passed : Pa
 
   -- what is given back is what the notes say of r0
   abbrev pub IsGiven : ℕ → StackFrame → Type 0
-  IsGiven v c = (place : Place) → place_at notes c.slot ≡ Some place → is_of_other (kinds_of place 0) ≡ false → FitsKind turns passed (λ q. Some (Number v)) 0 (kinds_of place 0) (Some (Number v))
+  IsGiven v c = (place : Counterpart) → place_at notes c.slot ≡ Some place → is_of_other (kinds_of place 0) ≡ false → FitsKind turns passed (λ q. Some (Number v)) 0 (kinds_of place 0) (Some (Number v))
 
   back_to : (c d : StackFrame) (v : ℕ) → FrameWaits ends notes turns passed c d → IsGiven v c
       → FrameFollows ends notes turns passed kinds_of (record { slot = c.slot; registers = Some (Number v) ∷ drop 1 (saved c.registers); stack = c.stack }) (record { slot = d.slot; registers = Some (Number v) ∷ drop 1 (saved d.registers); stack = d.stack })
@@ -455,7 +455,7 @@ module _ (ends : Order) (notes : List (Option Place)) (turns : ℕ) (passed : Pa
   back_fits kinds back s t h same (inl e) = subst (λ kind. FitsKind turns passed (register_in s.top) 0 kind (register_in t.top 0)) (sym e) (same_kept ends notes turns passed (register_in s.top) 0 (kinds 0) (register_in t.top 0) same (h.top.registers 0 (omega arith)))
   back_fits kinds back s t h same (inr g) = kind_given ends notes turns passed (register_in s.top) 0 (kinds 0) back (register_in t.top 0) (omega arith) g (h.top.registers 0 (omega arith))
 
-  pub exit_kept : (order : Order) (kinds : Kinds) (place : Place) (s t u : State) → Between ends notes turns passed kinds s t → is_same (kinds 0) ≡ true → place_at notes s.top.slot ≡ Some place → (back_of place ≡ Same) ⊎ Gives turns 0 (kinds 0) (back_of place) → Awaited (Takes notes turns) s
+  pub exit_kept : (order : Order) (kinds : Kinds) (place : Counterpart) (s t u : State) → Between ends notes turns passed kinds s t → is_same (kinds 0) ≡ true → place_at notes s.top.slot ≡ Some place → (back_of place ≡ Same) ⊎ Gives turns 0 (kinds 0) (back_of place) → Awaited (Takes notes turns) s
       → does order Exit s ≡ Some u → Arrived ends notes turns passed u (does order Exit t)
   unfolding does
   exit_kept order kinds place s t u h same noted back all e = option_and_then_some _ (number_of_register s R0) u e (λ v ev e1.

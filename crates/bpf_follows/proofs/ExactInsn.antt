@@ -23,7 +23,7 @@ use Rattle.bpf_semantics.specs.declared.value.Region.{Region}
 use Rattle.bpf_follows.specs.declared.notes.Area.{Area}
 use Rattle.bpf_follows.specs.declared.notes.Kind.{Kind}
 use Rattle.bpf_follows.specs.declared.notes.Kind.TheVariants.{Number as NumberKind, Offset, Fixed}
-use Rattle.bpf_follows.specs.declared.notes.Place.{Place}
+use Rattle.bpf_follows.specs.declared.notes.Counterpart.{Counterpart}
 use Rattle.bpf_follows.specs.Areas.{origin, same_area, IsInto}
 use Rattle.bpf_follows.specs.Relation.{Past, Kinds, IsFixed, FitsKind, as_number, register_in}
 use Rattle.bpf_follows.specs.Exact.{exactly, farthest, fixed_at, exact_kind, alu_exactly, apart, alu_fixed, alu_of_kinds, by_exact}
@@ -39,7 +39,7 @@ natural_is : (z : ℤ) (n : ℕ) → not_negative z ≡ Some n → z ≡ pos n
 natural_is (pos m) n e = ap pos (same_Some _ _ e)
 natural_is z n e = absurd (none-some _ e)
 
-module _ (ends : Order) (notes : List (Option Place)) (turns : ℕ) (passed : Past) where
+module _ (ends : Order) (notes : List (Option Counterpart)) (turns : ℕ) (passed : Past) where
   -- ---- what is written
 
   number_made : (own : Option Value) (n : ℕ) (made : Kind) (v : Value) (o : Option Value) → exact_kind n ≡ Some made → Number n ≡ v → o ≡ Some (Number n) → Computes ends notes turns passed own made v o

@@ -31,7 +31,7 @@ use Rattle.bpf_follows.specs.declared.notes.Area.{Area}
 use Rattle.bpf_follows.specs.declared.notes.Area.TheVariants.{Given, Own}
 use Rattle.bpf_follows.specs.declared.notes.Kind.{Kind}
 use Rattle.bpf_follows.specs.declared.notes.Kind.TheVariants.{Nothing, Same, Number as NumberKind, Natural, Inner, Length, Ending, Closing, Head, Offset, Fixed, Within, Start, Base, Moved, Address, Constant, Counter, Turn, Alone, Returns, Both}
-use Rattle.bpf_follows.specs.declared.notes.Place.{Place}
+use Rattle.bpf_follows.specs.declared.notes.Counterpart.{Counterpart}
 use Rattle.bpf_follows.specs.declared.site.Span.{Span}
 use Rattle.bpf_follows.specs.declared.site.Front.{Front}
 use Rattle.bpf_semantics.specs.Blocks.{head_bytes}
@@ -344,7 +344,7 @@ alu_does order op dst src t v e free = option_and_then_some (alu_result W64 op (
     let after : State = with_register (next (Alu op W64 dst src) t) (register_number dst) (Some v) in
     bind _ (operand t src) b _ eb (bind _ (alu_result W64 op (register t dst) b) v _ ev (ap (λ c. cond c None (Some after)) free)))
 
-module _ (ends : Order) (notes : List (Option Place)) (turns : ℕ) (passed : Past) where
+module _ (ends : Order) (notes : List (Option Counterpart)) (turns : ℕ) (passed : Past) where
   -- the new machine has gone on by one slot
   pub record Goes1 (order : Order) (i : Insn) (made : List Kind) (s t : State) : Type 0 where
     pub state : State

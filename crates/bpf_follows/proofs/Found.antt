@@ -3,7 +3,7 @@ use Rattle.std.proofs.Common.{◌≡◌, ℕ, zero, suc, ◌+◌, ◌≤◌, ◌
 use Rattle.std.specs.Prelude.{option_map, Result, Ok, Err}
 use Rattle.std.specs.Option.{option_map_or}
 use Rattle.bpf_streams.specs.Words.{behind}
-use Rattle.bpf_follows.specs.declared.notes.Place.{Place}
+use Rattle.bpf_follows.specs.declared.notes.Counterpart.{Counterpart}
 use Rattle.bpf_follows.specs.declared.error.NotesError.{NotesError}
 use Rattle.bpf_follows.specs.declared.error.NotesError.TheVariants.{Form}
 use Rattle.bpf_follows.specs.NotesText.{max_lines, note_line, note_lines}
@@ -12,19 +12,19 @@ use Rattle.bpf_follows.specs.code.Reading.{◌>>=◌, note_in, taken_at, with_fr
 use Rattle.bpf_streams.proofs.WordLemmas.{behind_is}
 use Rattle.bpf_follows.proofs.Again.{taken_again}
 
-taken_is : (slot : ℕ) (text : List ℕ) (note : Option Place) (rest : List ℕ) → taken_at slot text ≡ Some (note, rest) → text ≡ note_line slot note ++ rest
+taken_is : (slot : ℕ) (text : List ℕ) (note : Option Counterpart) (rest : List ℕ) → taken_at slot text ≡ Some (note, rest) → text ≡ note_line slot note ++ rest
 unfolding taken_at
 taken_is slot text note rest e = by_note (note_in text) e
   where
-    by_left : (read : Option Place) (left : Option (List ℕ)) → behind (note_line slot read) text ≡ left → option_map {U = Option Place × List ℕ} (λ r. (read, r)) left ≡ Some (note, rest) → text ≡ note_line slot note ++ rest
+    by_left : (read : Option Counterpart) (left : Option (List ℕ)) → behind (note_line slot read) text ≡ left → option_map {U = Option Counterpart × List ℕ} (λ r. (read, r)) left ≡ Some (note, rest) → text ≡ note_line slot note ++ rest
     by_left read None is e = cc
     by_left read (Some r) is e =
-        let pair : ◌≡◌ {A = Option Place × List ℕ} (read, r) (note, rest) = cc in
-        let same : read ≡ note = ap (λ (p : Option Place × List ℕ). p.0) pair in
-        let tail : r ≡ rest = ap (λ (p : Option Place × List ℕ). p.1) pair in
+        let pair : ◌≡◌ {A = Option Counterpart × List ℕ} (read, r) (note, rest) = cc in
+        let same : read ≡ note = ap (λ (p : Option Counterpart × List ℕ). p.0) pair in
+        let tail : r ≡ rest = ap (λ (p : Option Counterpart × List ℕ). p.1) pair in
         behind_is (note_line slot read) text r is ∙ ap (λ x. note_line slot x ++ r) same ∙ ap (λ x. note_line slot note ++ x) tail
 
-    by_note : (o : Option (Option Place)) → (o >>= λ n. option_map {U = Option Place × List ℕ} (λ r. (n, r)) (behind (note_line slot n) text)) ≡ Some (note, rest) → text ≡ note_line slot note ++ rest
+    by_note : (o : Option (Option Counterpart)) → (o >>= λ n. option_map {U = Option Counterpart × List ℕ} (λ r. (n, r)) (behind (note_line slot n) text)) ≡ Some (note, rest) → text ≡ note_line slot note ++ rest
     by_note None e = cc
     by_note (Some read) e = by_left read (behind (note_line slot read) text) refl e
 
@@ -33,11 +33,11 @@ no_line : (slot : ℕ) (text : List ℕ) → slot + 1 ≤ max_lines → taken_at
 no_line slot text small none note rest fits e = let some : taken_at slot text ≡ Some (note, rest) = ap (taken_at slot) e ∙ taken_again slot (omega arith) note fits rest in cc
 
 -- what reading the lines says of them, where so many may follow
-pub Says : ℕ → List ℕ → Result (List (Option Place)) NotesError → Type 0
+pub Says : ℕ → List ℕ → Result (List (Option Counterpart)) NotesError → Type 0
 Says slot text (Ok notes) = text ≡ note_lines slot notes
 Says slot text (Err error) = (line : ℕ) × (error ≡ Form line) × StopsAt slot text line
 
-behind_front : (slot : ℕ) (text rest : List ℕ) (note : Option Place) (r : Result (List (Option Place)) NotesError) → text ≡ note_line slot note ++ rest → Says (slot + 1) rest r → Says slot text (with_front note r)
+behind_front : (slot : ℕ) (text rest : List ℕ) (note : Option Counterpart) (r : Result (List (Option Counterpart)) NotesError) → text ≡ note_line slot note ++ rest → Says (slot + 1) rest r → Says slot text (with_front note r)
 unfolding Says note_lines
 behind_front slot text rest note (Ok notes) e says = e ∙ ap (λ t. note_line slot note ++ t) says
 behind_front slot text rest note (Err error) e (line, is, stops) =
@@ -66,12 +66,12 @@ lines_say k slot [] room = refl
 lines_say zero slot (c ∷ cs) room = (slot + 2, refl, stopped slot c cs (inl (omega arith)))
 lines_say (suc k) slot (c ∷ cs) room = by_taken (taken_at slot (c ∷ cs)) refl (λ rest. lines_say k (slot + 1) rest (omega arith))
   where
-    by_taken : (o : Option (Option Place × List ℕ)) → taken_at slot (c ∷ cs) ≡ o → ((rest : List ℕ) → Says (slot + 1) rest (lines_in k (slot + 1) rest))
+    by_taken : (o : Option (Option Counterpart × List ℕ)) → taken_at slot (c ∷ cs) ≡ o → ((rest : List ℕ) → Says (slot + 1) rest (lines_in k (slot + 1) rest))
         → Says slot (c ∷ cs) (option_map_or (λ x. with_front x.0 (lines_in k (slot + 1) x.1)) o (Err (Form (slot + 2))))
     by_taken None e more = (slot + 2, refl, stopped slot c cs (inr (no_line slot (c ∷ cs) (omega arith) e)))
     by_taken (Some x) e more = behind_front slot (c ∷ cs) x.1 x.0 (lines_in k (slot + 1) x.1) (taken_is slot (c ∷ cs) x.0 x.1 e) (more x.1)
 
-pub found : (text : List ℕ) (notes : List (Option Place)) → lines_in max_lines 0 text ≡ Ok notes → text ≡ note_lines 0 notes
+pub found : (text : List ℕ) (notes : List (Option Counterpart)) → lines_in max_lines 0 text ≡ Ok notes → text ≡ note_lines 0 notes
 unfolding Says
 found text notes e = subst (Says 0 text) e (lines_say max_lines 0 text refl)
 

@@ -23,7 +23,7 @@ use Rattle.bpf_semantics.proofs.Head.{Holds, holds}
 use Rattle.bpf_semantics.proofs.Law.{run_stands}
 use Rattle.bpf_follows.specs.declared.notes.Bounds.{Bounds}
 use Rattle.bpf_follows.specs.declared.notes.Area.TheVariants.{Given}
-use Rattle.bpf_follows.specs.declared.notes.Place.{Place}
+use Rattle.bpf_follows.specs.declared.notes.Counterpart.{Counterpart}
 use Rattle.bpf_follows.specs.Meaning.{visits, LeavesLowest, AreGiven, EndsInBounds}
 use Rattle.bpf_follows.specs.Relation.{Past, kind_in, FitsKind, FitsSlot, register_in}
 use Rattle.bpf_follows.specs.Areas.{first_of}
@@ -53,7 +53,7 @@ no_stack old bounds passed registers k lt = subst (λ kind. FitsSlot old.order b
 abbrev plain_past : Past
 plain_past = record { visits = λ slot. 0; packet = None }
 
-module _ (computed : StepsAreComputed) (keeps : StepKeepsContext) (states : StepKeepsStates) (begin : StartIsState) (old new : Instructions) (notes : List (Option Place)) (bounds : Bounds) (valid : IsProgram old.list) (matches : Matches old new notes bounds) where
+module _ (computed : StepsAreComputed) (keeps : StepKeepsContext) (states : StepKeepsStates) (begin : StartIsState) (old new : Instructions) (notes : List (Option Counterpart)) (bounds : Bounds) (valid : IsProgram old.list) (matches : Matches old new notes bounds) where
   context_kept : (k : ℕ) (first s : State) → Steps old k first s → s.context ≡ first.context
   context_kept zero first s e = ap (λ (s : State). s.context) e
   context_kept (suc k) first s (mid, run, step) = keeps old mid s step ∙ context_kept k first mid run

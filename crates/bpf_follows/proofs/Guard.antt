@@ -30,7 +30,7 @@ use Rattle.bpf_follows.specs.declared.notes.Area.{Area}
 use Rattle.bpf_follows.specs.declared.notes.Area.TheVariants.{Given, Own}
 use Rattle.bpf_follows.specs.declared.notes.Kind.{Kind}
 use Rattle.bpf_follows.specs.declared.notes.Kind.TheVariants.{Nothing, Same, Number as NumberKind, Natural, Offset, Fixed, Within, Moved, Counter, Both}
-use Rattle.bpf_follows.specs.declared.notes.Place.{Place}
+use Rattle.bpf_follows.specs.declared.notes.Counterpart.{Counterpart}
 use Rattle.bpf_follows.specs.declared.site.Span.{Span}
 use Rattle.bpf_follows.specs.declared.site.Range.{Range}
 use Rattle.bpf_follows.specs.declared.site.Front.{Front}
@@ -95,7 +95,7 @@ small_there : (z : ℤ) (x n : ℕ) → IsNear z → modulo z addresses ≡ x �
 small_there (pos m) x n near e h small = let far = near.1 in let below : m ≤ 2 ^ 63 + 512 = omega (arith, ints) in let same : m ≡ x = omega arith in (omega (arith, ints), omega (arith, ints))
 small_there (negsuc m) x n near e h small = let far = near.0 in let below : m ≤ 2 ^ 63 = omega (arith, ints) in absurd (omega arith)
 
-module _ (ends : Order) (notes : List (Option Place)) (turns : ℕ) (passed : Past) where
+module _ (ends : Order) (notes : List (Option Counterpart)) (turns : ℕ) (passed : Past) where
   other_does : (order : Order) (t : State) (dst : Reg) (imm off : ℤ) (x : ℕ) → register t dst ≡ Some (Number x) → (x ≡ extended imm → ⊥) → does order (JumpIf Eq W64 dst (Imm imm) off) t ≡ Some (at_slot (t.top.slot + 1) t)
   unfolding does
   other_does order t dst imm off x e other = bind _ (register t dst) (Number x) _ e (ap (λ b. cond b (jump t off) (Some (at_slot (t.top.slot + 1) t))) (ne_eqb x (extended imm) other))

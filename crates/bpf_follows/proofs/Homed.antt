@@ -22,7 +22,7 @@ use Rattle.bpf_follows.specs.declared.notes.Area.{Area}
 use Rattle.bpf_follows.specs.declared.notes.Area.TheVariants.{Given, Own}
 use Rattle.bpf_follows.specs.declared.notes.Kind.{Kind}
 use Rattle.bpf_follows.specs.declared.notes.Kind.TheVariants.{Inner, Head, Start, Address}
-use Rattle.bpf_follows.specs.declared.notes.Place.{Place}
+use Rattle.bpf_follows.specs.declared.notes.Counterpart.{Counterpart}
 use Rattle.bpf_follows.specs.Areas.{IsInto, is_homed_by}
 use Rattle.bpf_follows.specs.Relation.{Past, Kinds, HasOffset, FitsKind, register_in, is_alone}
 use Rattle.bpf_follows.specs.Matching.{AllPlain, is_homed}
@@ -47,7 +47,7 @@ offset_here : (area : Area) (by : ℤ) (make : Region → ℤ → Value) (s : St
     → location_of s k off v ≡ Some at → IsHere s at
 offset_here area by make s k off old v new at o h ev el = into_here area s k off h.offset h.region at o h.into (subst (λ v. location_of s k off v ≡ Some at) (same_Some _ _ (sym ev ∙ h.old_is)) el)
 
-module _ (ends : Order) (notes : List (Option Place)) (turns : ℕ) (passed : Past) where
+module _ (ends : Order) (notes : List (Option Counterpart)) (turns : ℕ) (passed : Past) where
   -- by the kind
   kind_here : (kind : Kind) (s : State) (r : Reg) (k : ℕ) (off : ℤ) (v : Value) (new : Option Value) (at : Location) → Owns s → is_homed_by (register_number r) kind ≡ true → FitsKind turns passed (register_in s.top) (register_number r) kind new → register s r ≡ Some v
       → location_of s k off v ≡ Some at → IsHere s at

@@ -22,7 +22,7 @@ use Rattle.bpf_semantics.specs.declared.value.Value.{Value}
 use Rattle.bpf_semantics.specs.declared.value.Value.TheVariants.{Number, Pointer}
 use Rattle.bpf_semantics.specs.declared.value.Region.TheVariants.{Context, Frame as FrameAt}
 use Rattle.bpf_follows.specs.declared.notes.Kind.TheVariants.{Same}
-use Rattle.bpf_follows.specs.declared.notes.Place.{Place}
+use Rattle.bpf_follows.specs.declared.notes.Counterpart.{Counterpart}
 use Rattle.bpf_follows.specs.Relation.{Past, Kinds, is_alone}
 use Rattle.bpf_follows.specs.Extras.{is_r10}
 use Rattle.bpf_follows.specs.Inner.{is_beside, misses_by, misses}
@@ -91,7 +91,7 @@ none_given order B (Pointer region z) i s u e = none-some _ e
 none_given order H (Pointer region z) i s u e = none-some _ e
 none_given order W (Pointer region z) i s u e = none-some _ e
 
-module _ (ends : Order) (notes : List (Option Place)) (turns : ℕ) (passed : Past) where
+module _ (ends : Order) (notes : List (Option Counterpart)) (turns : ℕ) (passed : Past) where
   -- a value is put somewhere
   pub far_put : (order : Order) (i : Insn) (a : Access) (kinds : Kinds) (s t u : State) (base v : Value) (at : Location) → access_of i ≡ Some a → IsFarPut a → is_call i ≡ false → register_written i ≡ None
       → Between ends notes turns passed kinds s t → Owns s → (is_homed kinds i ≡ false → is_alone notes ≡ false) → register s a.base ≡ Some base → location_of s (byte_count a.size) a.offset base ≡ Some at → store order a.size v at (next i s) ≡ Some u

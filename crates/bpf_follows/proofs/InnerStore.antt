@@ -23,7 +23,7 @@ use Rattle.bpf_semantics.specs.declared.value.Value.TheVariants.{Number, Pointer
 use Rattle.bpf_semantics.specs.declared.value.Region.{Region}
 use Rattle.bpf_follows.specs.declared.notes.Kind.{Kind}
 use Rattle.bpf_follows.specs.declared.notes.Kind.TheVariants.{Nothing, Same}
-use Rattle.bpf_follows.specs.declared.notes.Place.{Place}
+use Rattle.bpf_follows.specs.declared.notes.Counterpart.{Counterpart}
 use Rattle.bpf_follows.specs.Relation.{Past, Kinds, IsKept, IsRead, EachPair, FitsKind, FitsSlot, register_in}
 use Rattle.bpf_follows.specs.Extras.{is_r10}
 use Rattle.bpf_follows.specs.Inner.{reach, is_outside, is_beside, misses_by, misses}
@@ -161,7 +161,7 @@ struck_slot hit kinds k b e =
 pub struck_some : (hit : ℕ → Bool) (kinds : Kinds) → InSome kinds (struck hit kinds) hit Same
 struck_some hit kinds = record { low = struck_low hit kinds; put = λ k lt e. struck_slot hit kinds k true e; others = λ k lt e. struck_slot hit kinds k false e }
 
-module _ (ends : Order) (notes : List (Option Place)) (turns : ℕ) (passed : Past) where
+module _ (ends : Order) (notes : List (Option Counterpart)) (turns : ℕ) (passed : Past) where
   -- where a register of such a kind leads
   pub lies_by : (kinds : Kinds) (s t : State) (a : Access) (base : Value) (at : Location) → Between ends notes turns passed kinds s t → Owns s → has_reach (kinds (register_number a.base)) ≡ true → register s a.base ≡ Some base → location_of s (byte_count a.size) a.offset base ≡ Some at
       → Lies s (kinds (register_number a.base)) a at

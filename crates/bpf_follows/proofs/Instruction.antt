@@ -32,7 +32,7 @@ use Rattle.bpf_semantics.specs.declared.value.Value.TheVariants.{Number, Pointer
 use Rattle.bpf_semantics.specs.declared.value.Region.{Region}
 use Rattle.bpf_follows.specs.declared.notes.Kind.{Kind}
 use Rattle.bpf_follows.specs.declared.notes.Kind.TheVariants.{Same, Number as NumberKind, Natural, Inner, Length, Start, Alone, Returns, Both}
-use Rattle.bpf_follows.specs.declared.notes.Place.{Place}
+use Rattle.bpf_follows.specs.declared.notes.Counterpart.{Counterpart}
 use Rattle.bpf_follows.specs.Relation.{Past, Kinds, IsKept, register_in, FitsKind, is_alone}
 use Rattle.bpf_follows.specs.Exact.{may_go, may_fall, may_lead}
 use Rattle.bpf_follows.specs.Numbers.{loaded_number, number_kind, told}
@@ -102,11 +102,11 @@ is_flow Exit = true
 is_flow i = false
 
 -- what the instruction does on the frame is the same
-pub record Tame (notes : List (Option Place)) (kinds : Kinds) (i : Insn) : Type 0 where
+pub record Tame (notes : List (Option Counterpart)) (kinds : Kinds) (i : Insn) : Type 0 where
   pub far : is_far i ≡ true → is_far_put i ≡ false → ((k : ℕ) → k < 64 → IsPlainAt kinds i k) × (is_homed kinds i ≡ false → is_alone notes ≡ false)
   pub near : (k : ℕ) → whole_slot i ≡ Some k → is_plain (kinds (11 + k)) ≡ true
 
-module _ (ends : Order) (notes : List (Option Place)) (turns : ℕ) (passed : Past) where
+module _ (ends : Order) (notes : List (Option Counterpart)) (turns : ℕ) (passed : Past) where
   -- ---- what is read
 
   abbrev AllSame : Kinds → List Reg → Type 0

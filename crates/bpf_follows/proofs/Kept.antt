@@ -29,7 +29,7 @@ use Rattle.bpf_semantics.proofs.NumberLemmas.{modulo_below}
 use Rattle.bpf_semantics.specs.Blocks.{head_bytes}
 use Rattle.bpf_follows.specs.declared.notes.Kind.{Kind}
 use Rattle.bpf_follows.specs.declared.notes.Kind.TheVariants.{Nothing, Number as NumberKind, Natural, Inner, Length, Closing, Ending, Offset, Fixed, Within, Start, Head, Base, Moved, Address, Constant, Counter, Turn, Both, Saved, Kept}
-use Rattle.bpf_follows.specs.declared.notes.Place.{Place}
+use Rattle.bpf_follows.specs.declared.notes.Counterpart.{Counterpart}
 use Rattle.bpf_follows.specs.declared.site.Front.{Front}
 use Rattle.bpf_follows.specs.Areas.{origin}
 use Rattle.bpf_follows.specs.Relation.{Past, kind_in, is_free, IsOneValue, IsOneNumber, FitsKind, Holds, IsUnset, IsRead, FitsSlot, register_in}
@@ -190,7 +190,7 @@ module _ (ends : Order) (turns : ℕ) (passed : Past) (registers : ℕ → Optio
 abbrev pub Sound : State → Type 0
 Sound s = Owns s × ((q : ℕ) → FitsMachine (register_in s.top q))
 
-module _ (ends : Order) (notes : List (Option Place)) (turns : ℕ) (passed : Past) where
+module _ (ends : Order) (notes : List (Option Counterpart)) (turns : ℕ) (passed : Past) where
   -- ---- the new machine's own frame
 
   record AtSlot (s t : State) (r : Reg) (off : ℤ) (k : ℕ) : Type 0 where

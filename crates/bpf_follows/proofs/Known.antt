@@ -45,7 +45,7 @@ use Rattle.bpf_num.proofs.NumberLaws.{num_alu_keeps}
 use Rattle.bpf_num.proofs.RefineLaws.{refine_keeps}
 use Rattle.bpf_follows.specs.declared.notes.Kind.{Kind}
 use Rattle.bpf_follows.specs.declared.notes.Kind.TheVariants.{Same, Number, Natural, Length, Both}
-use Rattle.bpf_follows.specs.declared.notes.Place.{Place}
+use Rattle.bpf_follows.specs.declared.notes.Counterpart.{Counterpart}
 use Rattle.bpf_follows.specs.Relation.{Past, Kinds, FitsKind, FitsSlot, register_in, most_natural, natural_top}
 use Rattle.bpf_follows.specs.Numbers.{bounded, number_of, bounds_of, is_numeric, read_number, operand_number, left_number, alu_number, loaded_number, alu_kind, number_kind, is_number_test, told_by, may_answer, is_operand, told}
 use Rattle.bpf_follows.proofs.Lists.{unmapped, same_is_kept}
@@ -151,7 +151,7 @@ numerals_tested width cond src s (ANumber x) (Pointer region at) taken eb e is =
 numerals_tested width cond (FromReg r) s (Pointer region at) (Pointer other off) taken eb e is = absurd (two_pointers width cond r region other at off taken is e)
 numerals_tested width cond (Imm imm) s (Pointer region at) (Pointer other off) taken eb e is = absurd (false≢true (ap is_address (same_Some _ _ eb)))
 
-module _ (ends : Order) (notes : List (Option Place)) (turns : ℕ) (passed : Past) where
+module _ (ends : Order) (notes : List (Option Counterpart)) (turns : ℕ) (passed : Past) where
   fits_register : (kinds : Kinds) (s t : State) (r : Reg) → Between ends notes turns passed kinds s t → FitsKind turns passed (register_in s.top) (register_number r) (kinds (register_number r)) (register t r)
   fits_register kinds s t r b = b.top.registers (register_number r) (reg_below r)
 

@@ -31,7 +31,7 @@ use Rattle.bpf_follows.specs.declared.notes.Kind.{Kind}
 use Rattle.bpf_follows.specs.declared.notes.Kind.TheVariants.{Nothing, Unset, Fixed}
 use Rattle.bpf_follows.specs.declared.site.Span.{Span}
 use Rattle.bpf_follows.specs.declared.site.Site.{Site}
-use Rattle.bpf_follows.specs.declared.notes.Place.{Place}
+use Rattle.bpf_follows.specs.declared.notes.Counterpart.{Counterpart}
 use Rattle.bpf_follows.specs.Meaning.{visits}
 use Rattle.bpf_semantics.specs.Blocks.{head_bytes}
 use Rattle.bpf_follows.specs.Areas.{origin, first_of}
@@ -65,7 +65,7 @@ use Rattle.bpf_follows.proofs.Awaits.{Takes, Awaited, Onward, awaited_does}
 use Rattle.bpf_follows.proofs.GivenBack.{own_called, onward}
 use Rattle.bpf_follows.proofs.Begins.{no_call, framed_goes, runs, no_more, visits_next, end_of, rooms_of, Serves, AllStay, Begins}
 
-module _ (computed : StepsAreComputed) (keeps : StepKeepsContext) (states : StepKeepsStates) (old new : Instructions) (notes : List (Option Place)) (bounds : Bounds) (valid : IsProgram old.list) (matches : Matches old new notes bounds) (packet : Option ℕ) (serves : Serves bounds packet) where
+module _ (computed : StepsAreComputed) (keeps : StepKeepsContext) (states : StepKeepsStates) (old new : Instructions) (notes : List (Option Counterpart)) (bounds : Bounds) (valid : IsProgram old.list) (matches : Matches old new notes bounds) (packet : Option ℕ) (serves : Serves bounds packet) where
   abbrev pub rooms : Rooms
   rooms = rooms_of bounds packet
 
@@ -120,7 +120,7 @@ module _ (computed : StepsAreComputed) (keeps : StepKeepsContext) (states : Step
   -- from the instruction itself, which stands at the slot
   module _ (passed : Past) (site : Site) (s t u : State) (state : IsState s) (after : IsState u) (o : Owns s) (b : Between old.order notes bounds.turns passed (known site.slot site.kinds) s t) (old_at : s.top.slot ≡ site.slot) (at : t.top.slot ≡ site.new_slot)
       (stands : insn_at new.list site.new_slot ≡ Some site.moved) (falls : Falls notes bounds site) (leads : Leads notes new bounds site) (lone : IsLone (is_alone notes) (known site.slot site.kinds) site.insn)
-      (place : Place) (noted : place_at notes s.top.slot ≡ Some place) (back : GivesBack notes bounds.turns place site) (awaited : Awaited (Takes notes bounds.turns) s) where
+      (place : Counterpart) (noted : place_at notes s.top.slot ≡ Some place) (back : GivesBack notes bounds.turns place site) (awaited : Awaited (Takes notes bounds.turns) s) where
     kinds : Kinds
     kinds = known site.slot site.kinds
 

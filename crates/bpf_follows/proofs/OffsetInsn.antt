@@ -34,7 +34,7 @@ use Rattle.bpf_follows.specs.declared.notes.Area.{Area}
 use Rattle.bpf_follows.specs.declared.notes.Area.TheVariants.{Given, Own}
 use Rattle.bpf_follows.specs.declared.notes.Kind.{Kind}
 use Rattle.bpf_follows.specs.declared.notes.Kind.TheVariants.{Both, Number as NumberKind, Offset, Fixed, Within, Start}
-use Rattle.bpf_follows.specs.declared.notes.Place.{Place}
+use Rattle.bpf_follows.specs.declared.notes.Counterpart.{Counterpart}
 use Rattle.bpf_follows.specs.Areas.{origin, area_of, is_offset, are_alike, unbounded, IsInto}
 use Rattle.bpf_follows.specs.Relation.{Past, Kinds, HasOffset, IsFixed, IsWithin, IsOneNumber, as_number, as_offset, FitsKind, register_in}
 use Rattle.bpf_follows.specs.Extras.{is_same, is_r10}
@@ -68,7 +68,7 @@ small_origin Own z low high l h small = fits_64 z (omega (arith, ints)) (omega (
 turned : (a b c : ℤ) → a +ℤ (b +ℤ c) ≡ (a +ℤ c) +ℤ (b +ℤ pos 0)
 turned a b c = omega (arith, ints)
 
-module _ (ends : Order) (notes : List (Option Place)) (turns : ℕ) (passed : Past) where
+module _ (ends : Order) (notes : List (Option Counterpart)) (turns : ℕ) (passed : Past) where
   -- what the new machine computes, where the old one computes v, and has `own` in r10
   pub record Computes (own : Option Value) (kind : Kind) (v : Value) (o : Option Value) : Type 0 where
     pub value : Value

@@ -26,7 +26,7 @@ use Rattle.bpf_follows.specs.declared.notes.Area.{Area}
 use Rattle.bpf_follows.specs.declared.notes.Area.TheVariants.{Given}
 use Rattle.bpf_follows.specs.declared.notes.Kind.{Kind}
 use Rattle.bpf_follows.specs.declared.notes.Kind.TheVariants.{Ending, Closing}
-use Rattle.bpf_follows.specs.declared.notes.Place.{Place}
+use Rattle.bpf_follows.specs.declared.notes.Counterpart.{Counterpart}
 use Rattle.bpf_follows.specs.declared.site.Span.{Span}
 use Rattle.bpf_follows.specs.declared.site.Front.{Front}
 use Rattle.bpf_semantics.specs.Blocks.{head_bytes}
@@ -42,7 +42,7 @@ use Rattle.bpf_follows.proofs.Instruction.{both_true}
 use Rattle.bpf_follows.proofs.Extra.{InFront, Facts, moved_has, given_is, Goes1, fits_at}
 use Rattle.bpf_follows.proofs.Guard.{mod_low, either_true, jump_passes, low_does, natural, le_of, least_fits, guard_passes, most_goes, least_goes, taken_goes, other_goes}
 
-module _ (ends : Order) (notes : List (Option Place)) (turns : ℕ) (passed : Past) where
+module _ (ends : Order) (notes : List (Option Counterpart)) (turns : ℕ) (passed : Past) where
   -- ---- the end of a block's packet
 
   register_does : (order : Order) (t : State) (dst src : Reg) (off : ℤ) (x y : ℕ) → register t dst ≡ Some (Number x) → register t src ≡ Some (Number y) → x ≤ y → does order (JumpIf Gt W64 dst (FromReg src) off) t ≡ Some (at_slot (t.top.slot + 1) t)

@@ -25,7 +25,7 @@ use Rattle.bpf_semantics.specs.declared.value.Region.TheVariants.{Frame as Frame
 use Rattle.bpf_follows.specs.declared.notes.Kind.{Kind}
 use Rattle.bpf_follows.specs.declared.notes.Area.TheVariants.{Own}
 use Rattle.bpf_follows.specs.declared.notes.Kind.TheVariants.{Number, Inner, Fixed, Within}
-use Rattle.bpf_follows.specs.declared.notes.Place.{Place}
+use Rattle.bpf_follows.specs.declared.notes.Counterpart.{Counterpart}
 use Rattle.bpf_follows.specs.Relation.{Past, Kinds, HasOffset, as_offset, FitsKind, register_in}
 use Rattle.bpf_follows.specs.Extras.{is_r10}
 use Rattle.bpf_follows.specs.Inner.{inner_kind, number_bounds, added_bounds, inner_at, inner_copy, inner_sum, inner_made, reach}
@@ -58,7 +58,7 @@ frame_of v = 0
 pub same_frame : (n m : ℕ) → Some (Pointer (FrameAt n) (pos 0)) ≡ Some (Pointer (FrameAt m) (pos 0)) → n ≡ m
 same_frame n m e = ap frame_of (same_Some _ _ e)
 
-module _ (ends : Order) (notes : List (Option Place)) (turns : ℕ) (passed : Past) where
+module _ (ends : Order) (notes : List (Option Counterpart)) (turns : ℕ) (passed : Past) where
   pub kind_points : (kind : Kind) (s : State) (r : Reg) (v : Value) (new : Option Value) → Owns s → FitsKind turns passed (register_in s.top) (register_number r) kind new → register s r ≡ Some v → PointsBy s kind v
   kind_points (Inner least most) s r v new o f ev =
       let here : f.frame ≡ depth s = same_frame f.frame (depth s) (sym f.own_is ∙ o.0) in

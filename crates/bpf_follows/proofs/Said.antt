@@ -8,7 +8,7 @@ use Rattle.std.proofs.lemmas.Option.{same_Some}
 use Rattle.bpf_streams.specs.Words.{behind}
 use Rattle.bpf_follows.specs.declared.notes.Kind.{Kind}
 use Rattle.bpf_follows.specs.declared.notes.Kind.TheVariants.{Nothing}
-use Rattle.bpf_follows.specs.declared.notes.Place.{Place}
+use Rattle.bpf_follows.specs.declared.notes.Counterpart.{Counterpart}
 use Rattle.bpf_follows.specs.declared.error.NotesError.{NotesError}
 use Rattle.bpf_follows.specs.declared.error.NotesError.TheVariants.{Form}
 use Rattle.bpf_follows.specs.NotesText.{SaysAll, note_line}
@@ -34,23 +34,23 @@ kinds_long (suc k) kinds text out e = by_entry (λ kinds text e. kinds_long k ki
     by_entry shorter None e = ap length (sym (same_Some kinds out e))
     by_entry shorter (Some x) e = by_bound shorter (nat_lt x.0 75) x e
 
-place_said : (text : List ℕ) (place : Place) → place_in text ≡ Some place → length place.kinds ≡ 75
+place_said : (text : List ℕ) (place : Counterpart) → place_in text ≡ Some place → length place.kinds ≡ 75
 unfolding place_in
 place_said text place e =
     let first = bound (number_in (codes "first ") text) _ place e in
     let entry = bound (number_in (codes " entry ") first.0.1) _ place first.2 in
     let body = bound (number_in (codes " body ") entry.0.1) _ place entry.2 in
     let kinds = bound (kinds_in 75 nothing_said body.0.1) _ place body.2 in
-    ap (λ (p : Place). length p.kinds) (sym (same_Some _ place kinds.2)) ∙ kinds_long 75 nothing_said body.0.1 kinds.0 kinds.1 ∙ length-replicate 75 Nothing
+    ap (λ (p : Counterpart). length p.kinds) (sym (same_Some _ place kinds.2)) ∙ kinds_long 75 nothing_said body.0.1 kinds.0 kinds.1 ∙ length-replicate 75 Nothing
 
-note_said : (text : List ℕ) (note : Option Place) → note_in text ≡ Some note → SaysAll note
+note_said : (text : List ℕ) (note : Option Counterpart) → note_in text ≡ Some note → SaysAll note
 unfolding note_in
 note_said text note e =
     let slot = bound (number_in [] text) _ note e in
     let rest = bound (behind (codes ": ") slot.0.1) _ note slot.2 in
     by_word rest.0 (behind (codes "none") rest.0) rest.2
   where
-    by_place : (at : List ℕ) (o : Option Place) → place_in at ≡ o → option_map Some o ≡ Some note → SaysAll note
+    by_place : (at : List ℕ) (o : Option Counterpart) → place_in at ≡ o → option_map Some o ≡ Some note → SaysAll note
     by_place at None is e = cc
     by_place at (Some place) is e = subst SaysAll (same_Some (Some place) note e) (place_said at place is)
 
@@ -58,32 +58,32 @@ note_said text note e =
     by_word at (Some r) e = subst SaysAll (same_Some None note e) tt
     by_word at None e = by_place at (place_in at) refl e
 
-taken_said : (slot : ℕ) (text : List ℕ) (x : Option Place × List ℕ) → taken_at slot text ≡ Some x → SaysAll x.0
+taken_said : (slot : ℕ) (text : List ℕ) (x : Option Counterpart × List ℕ) → taken_at slot text ≡ Some x → SaysAll x.0
 unfolding taken_at
 taken_said slot text x e =
     let note = bound (note_in text) _ x e in
     by_left note.0 (note_said text note.0 note.1) (behind (note_line slot note.0) text) note.2
   where
-    by_left : (read : Option Place) → SaysAll read → (o : Option (List ℕ)) → option_map {U = Option Place × List ℕ} (λ rest. (read, rest)) o ≡ Some x → SaysAll x.0
+    by_left : (read : Option Counterpart) → SaysAll read → (o : Option (List ℕ)) → option_map {U = Option Counterpart × List ℕ} (λ rest. (read, rest)) o ≡ Some x → SaysAll x.0
     by_left read said None e = cc
-    by_left read said (Some r) e = subst (λ (p : Option Place × List ℕ). SaysAll p.0) (same_Some {A = Option Place × List ℕ} (read, r) x e) said
+    by_left read said (Some r) e = subst (λ (p : Option Counterpart × List ℕ). SaysAll p.0) (same_Some {A = Option Counterpart × List ℕ} (read, r) x e) said
 
-same_Ok : (a b : List (Option Place)) → ◌≡◌ {A = Result (List (Option Place)) NotesError} (Ok a) (Ok b) → a ≡ b
+same_Ok : (a b : List (Option Counterpart)) → ◌≡◌ {A = Result (List (Option Counterpart)) NotesError} (Ok a) (Ok b) → a ≡ b
 same_Ok a b e = cc
 
-pub lines_said : (k slot : ℕ) (text : List ℕ) (notes : List (Option Place)) → lines_in k slot text ≡ Ok notes → AllByRecursion SaysAll notes
+pub lines_said : (k slot : ℕ) (text : List ℕ) (notes : List (Option Counterpart)) → lines_in k slot text ≡ Ok notes → AllByRecursion SaysAll notes
 unfolding lines_in
 lines_said k slot [] notes e = subst (AllByRecursion SaysAll) (same_Ok [] notes e) tt
 lines_said zero slot (c ∷ cs) notes e = cc
 lines_said (suc k) slot (c ∷ cs) notes e = by_taken (λ text notes e. lines_said k (slot + 1) text notes e) (taken_at slot (c ∷ cs)) refl e
   where
     Behind : Type 0
-    Behind = (text : List ℕ) (notes : List (Option Place)) → lines_in k (slot + 1) text ≡ Ok notes → AllByRecursion SaysAll notes
+    Behind = (text : List ℕ) (notes : List (Option Counterpart)) → lines_in k (slot + 1) text ≡ Ok notes → AllByRecursion SaysAll notes
 
-    by_more : Behind → (x : Option Place × List ℕ) → SaysAll x.0 → (r : Result (List (Option Place)) NotesError) → lines_in k (slot + 1) x.1 ≡ r → with_front x.0 r ≡ Ok notes → AllByRecursion SaysAll notes
+    by_more : Behind → (x : Option Counterpart × List ℕ) → SaysAll x.0 → (r : Result (List (Option Counterpart)) NotesError) → lines_in k (slot + 1) x.1 ≡ r → with_front x.0 r ≡ Ok notes → AllByRecursion SaysAll notes
     by_more behind x said (Ok more) is e = subst (AllByRecursion SaysAll) (same_Ok (x.0 ∷ more) notes e) (said, behind x.1 more is)
     by_more behind x said (Err error) is e = cc
 
-    by_taken : Behind → (o : Option (Option Place × List ℕ)) → taken_at slot (c ∷ cs) ≡ o → option_map_or (λ x. with_front x.0 (lines_in k (slot + 1) x.1)) o (Err (Form (slot + 2))) ≡ Ok notes → AllByRecursion SaysAll notes
+    by_taken : Behind → (o : Option (Option Counterpart × List ℕ)) → taken_at slot (c ∷ cs) ≡ o → option_map_or (λ x. with_front x.0 (lines_in k (slot + 1) x.1)) o (Err (Form (slot + 2))) ≡ Ok notes → AllByRecursion SaysAll notes
     by_taken behind None is e = cc
     by_taken behind (Some x) is e = by_more behind x (taken_said slot (c ∷ cs) x is) (lines_in k (slot + 1) x.1) refl e

@@ -6,7 +6,7 @@ use Rattle.std.proofs.lemmas.Option.{same_Some}
 use Rattle.bpf_insn.specs.Instruction.{Instructions, insn_at}
 use Rattle.bpf_insn.specs.declared.instruction.Insn.{Insn}
 use Rattle.bpf_follows.specs.declared.notes.Kind.{Kind}
-use Rattle.bpf_follows.specs.declared.notes.Place.{Place}
+use Rattle.bpf_follows.specs.declared.notes.Counterpart.{Counterpart}
 use Rattle.bpf_follows.specs.declared.site.Front.{Front}
 use Rattle.bpf_follows.specs.declared.site.Site.{Site}
 use Rattle.bpf_follows.specs.declared.notes.Bounds.{Bounds}
@@ -22,7 +22,7 @@ use Rattle.bpf_follows.specs.declared.mismatch.Mismatch.TheVariants.{Order, Star
 abbrev site : ℕ → Insn → ℕ → Insn → List Kind → Site
 site slot insn new_slot moved kinds = record { slot = slot; insn = insn; new_slot = new_slot; moved = moved; kinds = kinds }
 
-pub one_site : (new : Instructions) (place : Place) (front : Front) (a b : Site) → IsSite new place front a → IsSite new place front b → a ≡ b
+pub one_site : (new : Instructions) (place : Counterpart) (front : Front) (a b : Site) → IsSite new place front a → IsSite new place front b → a ≡ b
 one_site new place front a b h k =
     let same_slot : a.slot ≡ b.slot = h.slot_is ∙ sym k.slot_is in
     let same_insn : a.insn ≡ b.insn = h.insn_is ∙ sym k.insn_is in
@@ -38,7 +38,7 @@ unless_stuck b e (inl stuck) = absurd (false≢true (sym e ∙ stuck))
 unless_stuck b e (inr stands) = stands
 
 -- what stands pairs with none, and why
-pub no_site : (new : Instructions) (place : Place) (front : Front) (kinds : List Kind) (moved : Insn) (fault : Fault) → extras new (Some front) place.first place.body place.kinds ≡ Some kinds → insn_at new.list place.body ≡ Some moved
+pub no_site : (new : Instructions) (place : Counterpart) (front : Front) (kinds : List Kind) (moved : Insn) (fault : Fault) → extras new (Some front) place.first place.body place.kinds ≡ Some kinds → insn_at new.list place.body ≡ Some moved
     → (Pairs (known front.slot kinds) front.insn moved → ⊥) → IsUnpaired (site front.slot front.insn place.body moved kinds) fault → IsNoSite new place front fault
 no_site new place front kinds moved AnyFront reaches stands other why = absurd why
 no_site new place front kinds moved AnyInsn reaches stands other why = record {
@@ -51,7 +51,7 @@ no_site new place front kinds moved Next reaches stands other why = absurd why
 no_site new place front kinds moved Target reaches stands other why = absurd why
 
 -- what fails at a slot fails behind what was looked at first
-pub in_order : {T : Type 0} (old new : Instructions) (notes : List (Option Place)) (bounds : Bounds) (r : Result T Mismatch) → new.order ≡ old.order → Starts notes new bounds → IfErr r (IsAt (IsLowest old new notes bounds)) → IfErr r (IsMismatch old new notes bounds)
+pub in_order : {T : Type 0} (old new : Instructions) (notes : List (Option Counterpart)) (bounds : Bounds) (r : Result T Mismatch) → new.order ≡ old.order → Starts notes new bounds → IfErr r (IsAt (IsLowest old new notes bounds)) → IfErr r (IsMismatch old new notes bounds)
 unfolding IsMismatch
 in_order old new notes bounds (Ok v) order starts h = tt
 in_order old new notes bounds (Err Order) order starts h = absurd h

@@ -23,7 +23,7 @@ use Rattle.bpf_semantics.specs.Step.{does, next, store, atomic_result, fetched}
 use Rattle.bpf_semantics.specs.declared.value.Value.{Value}
 use Rattle.bpf_semantics.specs.declared.value.Value.TheVariants.{Number, Pointer}
 use Rattle.bpf_follows.specs.declared.notes.Kind.{Kind}
-use Rattle.bpf_follows.specs.declared.notes.Place.{Place}
+use Rattle.bpf_follows.specs.declared.notes.Counterpart.{Counterpart}
 use Rattle.bpf_follows.specs.Meaning.{LeavesLowest}
 use Rattle.bpf_follows.specs.Relation.{Past, Kinds, FitsKind, FitsSlot, FrameFits, IsRead, register_in, is_alone}
 use Rattle.bpf_follows.specs.Returned.{is_call}
@@ -167,7 +167,7 @@ far_store i kinds far = absurd (false≢true far)
 abbrev pub kinds_spared : ℕ → Insn → Kind → Kinds → Kinds
 kinds_spared untouched i kind kinds r = if is_lowest untouched i r then held i (kinds r) else kinds_around i kind kinds r
 
-module _ (ends : Order) (notes : List (Option Place)) (turns : ℕ) (passed : Past) where
+module _ (ends : Order) (notes : List (Option Counterpart)) (turns : ℕ) (passed : Past) where
   -- both machines leave the lowest slots
   spared_goes : (untouched : ℕ) (order : Order) (i moved : Insn) (kind : Kind) (kinds : Kinds) (x y : ℕ) (s t u : State) → Between ends notes turns passed kinds s t → is_straight i ≡ true → is_call i ≡ false → stores i ≡ true → stores moved ≡ true
       → AllAbove untouched s i → AllAbove untouched t moved → does order i s ≡ Some u → Goes ends notes turns passed (kinds_around i kind kinds) x y u (does order moved t) → Goes ends notes turns passed (kinds_spared untouched i kind kinds) x y u (does order moved t)

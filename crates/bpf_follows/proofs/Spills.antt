@@ -24,7 +24,7 @@ use Rattle.bpf_semantics.specs.declared.value.Region.TheVariants.{Context}
 use Rattle.bpf_follows.specs.declared.notes.Area.TheVariants.{Given, Own}
 use Rattle.bpf_follows.specs.declared.notes.Kind.{Kind}
 use Rattle.bpf_follows.specs.declared.notes.Kind.TheVariants.{Nothing, Number as NumberKind, Offset, Fixed, Within}
-use Rattle.bpf_follows.specs.declared.notes.Place.{Place}
+use Rattle.bpf_follows.specs.declared.notes.Counterpart.{Counterpart}
 use Rattle.bpf_follows.specs.Relation.{Past, Kinds, HasOffset, as_number, as_offset, IsRead, EachPair, Holds, FitsKind, FitsSlot, register_in}
 use Rattle.bpf_follows.specs.Extras.{is_same, is_r10, slot_of}
 use Rattle.bpf_follows.specs.Exact.{exact_kind}
@@ -39,7 +39,7 @@ use Rattle.bpf_follows.proofs.Between.{Between, Goes, goes_as, same_depth, stand
 use Rattle.bpf_follows.proofs.Instruction.{both_true, plus_zero, same_kept, put_as, behind_store, Arrived, arrived, FallArrives, JumpArrives, redirect}
 use Rattle.bpf_follows.proofs.OffsetInsn.{cond_is, fits_in, alu_arrives, moved_by, computed_by, offsets_tested}
 
-module _ (ends : Order) (notes : List (Option Place)) (turns : ℕ) (passed : Past) where
+module _ (ends : Order) (notes : List (Option Counterpart)) (turns : ℕ) (passed : Past) where
   -- r10 in both
   own_base : (kinds : Kinds) (s t : State) (r : Reg) (base : Value) → Between ends notes turns passed kinds s t → is_r10 r ≡ true → is_same (kinds 10) ≡ true → register s r ≡ Some base → register t r ≡ Some base
   own_base kinds s t r base b r10 same eb =

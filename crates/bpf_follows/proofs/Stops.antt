@@ -32,7 +32,7 @@ use Rattle.bpf_follows.specs.declared.notes.Area.{Area}
 use Rattle.bpf_follows.specs.declared.notes.Area.TheVariants.{Given, Own}
 use Rattle.bpf_follows.specs.declared.notes.Kind.{Kind}
 use Rattle.bpf_follows.specs.declared.notes.Kind.TheVariants.{Inner, Head, Start, Address, Fixed, Within}
-use Rattle.bpf_follows.specs.declared.notes.Place.{Place}
+use Rattle.bpf_follows.specs.declared.notes.Counterpart.{Counterpart}
 use Rattle.bpf_follows.specs.Areas.{origin, size_of, IsInto, is_homed_by}
 use Rattle.bpf_follows.specs.Relation.{Past, Kinds, FitsKind, register_in}
 use Rattle.bpf_follows.specs.Extras.{is_r10, slot_of}
@@ -102,7 +102,7 @@ inside_of area own s k off z region at into el = by_area area into (access_in s 
         let last = l.last in
         record { low = omega (arith, ints); high = omega (arith, ints) }
 
-module _ (ends : Order) (notes : List (Option Place)) (turns : ℕ) (passed : Past) where
+module _ (ends : Order) (notes : List (Option Counterpart)) (turns : ℕ) (passed : Past) where
   kind_points : (kind : Kind) (old : ℕ → Option Value) (r : ℕ) (v : Value) (new : Option Value) → is_homed_by r kind ≡ true → FitsKind turns passed old r kind new → old r ≡ Some v → IsPointer v
   kind_points (Inner least most) old r v new e f ev = record { region = FrameAt f.frame; offset = f.offset; is = same_Some _ _ (sym ev ∙ f.old_is) }
   kind_points Head old r v new e f ev = record { region = Context; offset = pos head_bytes; is = same_Some _ _ (sym ev ∙ f.0) }

@@ -7,7 +7,7 @@ use Rattle.bpf_semantics.specs.State.{StackFrame, State}
 use Rattle.bpf_semantics.specs.declared.value.Value.{Value}
 use Rattle.bpf_follows.specs.declared.notes.Kind.{Kind}
 use Rattle.bpf_follows.specs.declared.notes.Kind.TheVariants.{Nothing, Unset, Same, Number as NumberKind, Natural, Inner, Length, Closing, Ending, Head, Offset, Fixed, Within, Start, Base, Moved, Address, Constant, Counter, Turn, Alone, Returns, Both, Saved, Kept}
-use Rattle.bpf_follows.specs.declared.notes.Place.{Place}
+use Rattle.bpf_follows.specs.declared.notes.Counterpart.{Counterpart}
 use Rattle.bpf_follows.specs.Relation.{Past, OfPacket, kind_in, FitsKind, FrameFits, FrameWaits, FitsSlot, register_in, settled, known}
 use Rattle.bpf_follows.proofs.Lists.{pairs_weaker, Cells}
 use Rattle.bpf_follows.proofs.Between.{Between}
@@ -86,7 +86,7 @@ slot_more ends turns passed more registers xs ys k (Returns least most) le f = f
 fits_more : (ends : Order) (turns : ℕ) (passed more : Past) (old new : StackFrame) (kinds : ℕ → Kind) → IsMore passed more → FrameFits ends turns passed kinds old new → FrameFits ends turns more kinds old new
 fits_more ends turns passed more old new kinds le f = record { eleven_old = f.eleven_old; eleven = f.eleven; registers = λ r lt. kind_more turns passed more (register_in old) r (kinds r) _ le (f.registers r lt); long = f.long; stack = f.stack; slots = λ k lt. slot_more ends turns passed more (register_in old) old.stack new.stack k (kinds (11 + k)) le (f.slots k lt) }
 
-waits_more : (ends : Order) (notes : List (Option Place)) (turns : ℕ) (passed more : Past) (a b : StackFrame) → IsMore passed more → FrameWaits ends notes turns passed a b → FrameWaits ends notes turns more a b
+waits_more : (ends : Order) (notes : List (Option Counterpart)) (turns : ℕ) (passed more : Past) (a b : StackFrame) → IsMore passed more → FrameWaits ends notes turns passed a b → FrameWaits ends notes turns more a b
 waits_more ends notes turns passed more a b le w = record {
   follows = record { place = w.follows.place; noted = w.follows.noted; slot_is = w.follows.slot_is; fits = fits_more ends turns passed more a b _ le w.follows.fits };
   result = w.result;
@@ -95,7 +95,7 @@ waits_more ends notes turns passed more a b le w = record {
   slots = w.slots;
 }
 
-pub between_more : (ends : Order) (notes : List (Option Place)) (turns : ℕ) (passed more : Past) (kinds : ℕ → Kind) (s t : State) → IsMore passed more → Between ends notes turns passed kinds s t → Between ends notes turns more kinds s t
+pub between_more : (ends : Order) (notes : List (Option Counterpart)) (turns : ℕ) (passed more : Past) (kinds : ℕ → Kind) (s t : State) → IsMore passed more → Between ends notes turns passed kinds s t → Between ends notes turns more kinds s t
 between_more ends notes turns passed more kinds s t le b = record {
   top = fits_more ends turns passed more s.top t.top kinds le b.top;
   waiting = pairs_weaker (FrameWaits ends notes turns passed) (FrameWaits ends notes turns more) (λ a b. waits_more ends notes turns passed more a b le) s.waiting t.waiting b.waiting;
@@ -167,7 +167,7 @@ slot_settled ends turns passed slot registers xs ys k (Counter head) f = record 
 slot_settled ends turns passed slot registers xs ys k Alone f = f
 slot_settled ends turns passed slot registers xs ys k (Returns least most) f = f
 
-pub settles : (ends : Order) (notes : List (Option Place)) (turns : ℕ) (passed : Past) (slot : ℕ) (kinds : List Kind) (s t : State) → Between ends notes turns passed (kind_in kinds) s t → Between ends notes turns (counted passed slot) (known slot kinds) s t
+pub settles : (ends : Order) (notes : List (Option Counterpart)) (turns : ℕ) (passed : Past) (slot : ℕ) (kinds : List Kind) (s t : State) → Between ends notes turns passed (kind_in kinds) s t → Between ends notes turns (counted passed slot) (known slot kinds) s t
 settles ends notes turns passed slot kinds s t b =
     let more = between_more ends notes turns passed (counted passed slot) (kind_in kinds) s t (record { visits = λ h. omega arith; packet = refl }) b in
     record {

@@ -26,7 +26,7 @@ use Rattle.bpf_semantics.specs.declared.value.Value.TheVariants.{Number, Pointer
 use Rattle.bpf_semantics.specs.declared.value.Region.{Region}
 use Rattle.bpf_follows.specs.declared.notes.Kind.{Kind}
 use Rattle.bpf_follows.specs.declared.notes.Kind.TheVariants.{Number as NumberKind, Fixed}
-use Rattle.bpf_follows.specs.declared.notes.Place.{Place}
+use Rattle.bpf_follows.specs.declared.notes.Counterpart.{Counterpart}
 use Rattle.bpf_follows.specs.Areas.{origin, same_area}
 use Rattle.bpf_follows.specs.Relation.{Past, Kinds, IsFixed, FitsKind, register_in}
 use Rattle.bpf_follows.specs.Numbers.{may_answer}
@@ -37,7 +37,7 @@ use Rattle.bpf_follows.proofs.Arrivals.{both_true}
 use Rattle.bpf_follows.proofs.Between.{Between}
 use Rattle.bpf_follows.proofs.Known.{answers_by}
 
-module _ (ends : Order) (notes : List (Option Place)) (turns : ℕ) (passed : Past) where
+module _ (ends : Order) (notes : List (Option Counterpart)) (turns : ℕ) (passed : Past) where
   fits_at : (kinds : Kinds) (s t : State) (r : Reg) → Between ends notes turns passed kinds s t → FitsKind turns passed (register_in s.top) (register_number r) (kinds (register_number r)) (register t r)
   fits_at kinds s t r b = b.top.registers (register_number r) (reg_below r)
 

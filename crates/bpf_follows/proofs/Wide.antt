@@ -23,7 +23,7 @@ use Rattle.bpf_semantics.specs.declared.value.Value.{Value}
 use Rattle.bpf_semantics.specs.declared.value.Value.TheVariants.{Number as ANumber}
 use Rattle.bpf_follows.specs.declared.notes.Kind.{Kind}
 use Rattle.bpf_follows.specs.declared.notes.Kind.TheVariants.{Number, Length}
-use Rattle.bpf_follows.specs.declared.notes.Place.{Place}
+use Rattle.bpf_follows.specs.declared.notes.Counterpart.{Counterpart}
 use Rattle.bpf_follows.specs.Relation.{Past, Kinds, FitsKind, register_in}
 use Rattle.bpf_follows.specs.Numbers.{is_bounded, number_kind}
 use Rattle.bpf_follows.specs.Extras.{is_same}
@@ -56,10 +56,10 @@ low_same x small = let e : x ≡ x % 2 ^ 32 = omega arith in ap (λ x. Some (ANu
 low_natural : (n : ℕ) → n < 2 ^ 32 → Some (ANumber (extended (pos n))) ≡ Some (ANumber (low W32 (extended (pos n))))
 low_natural n small = let e : n % 2 ^ 64 ≡ n % 2 ^ 64 % 2 ^ 32 = omega arith in ap (λ x. Some (ANumber x)) e
 
-tame : (notes : List (Option Place)) (op : AluOp) (dst : Reg) (src : Operand) (kinds : Kinds) → Tame notes kinds (Alu op W32 dst src)
+tame : (notes : List (Option Counterpart)) (op : AluOp) (dst : Reg) (src : Operand) (kinds : Kinds) → Tame notes kinds (Alu op W32 dst src)
 tame notes op dst src kinds = record { far = λ e reads. absurd (false≢true e); near = λ k e. absurd (none-some _ e) }
 
-module _ (ends : Order) (notes : List (Option Place)) (turns : ℕ) (passed : Past) where
+module _ (ends : Order) (notes : List (Option Counterpart)) (turns : ℕ) (passed : Past) where
   -- what both widths make of the new machine's registers
   record IsAlike (kinds : Kinds) (op : AluOp) (dst : Reg) (src : Operand) (t : State) : Type 0 where
     same : AreSame kinds (registers_read (Alu op W32 dst src))

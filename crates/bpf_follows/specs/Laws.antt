@@ -6,13 +6,13 @@ use Rattle.bpf_insn.specs.Laws.{AreBytes}
 use Rattle.bpf_semantics.specs.State.{start}
 use Rattle.bpf_semantics.specs.Run.{IsDone}
 use Rattle.bpf_follows.specs.declared.notes.Bounds.{Bounds}
-use Rattle.bpf_follows.specs.declared.notes.Place.{Place}
+use Rattle.bpf_follows.specs.declared.notes.Counterpart.{Counterpart}
 use Rattle.bpf_follows.specs.Meaning.{AreGiven, KeepsMeaning, visits}
 use Rattle.bpf_follows.specs.Matching.{Matches}
 
 -- Where notes match, whatever they say, the new program keeps the meaning of the old one.
 abbrev pub MatchingKeepsMeaning : Type 0
-MatchingKeepsMeaning = (old new : Instructions) (notes : List (Option Place)) (bounds : Bounds) → IsProgram old.list → Matches old new notes bounds → KeepsMeaning old new bounds
+MatchingKeepsMeaning = (old new : Instructions) (notes : List (Option Counterpart)) (bounds : Bounds) → IsProgram old.list → Matches old new notes bounds → KeepsMeaning old new bounds
 
 -- Where no byte is left to r10, each run does so: of the old one nothing is asked but that it ends, and comes to no slot too often.
 abbrev pub LeavingNoneAsksNothing : Type 0

@@ -27,7 +27,7 @@ use Rattle.bpf_follows.specs.declared.notes.Area.TheVariants.{Given, Own}
 use Rattle.bpf_follows.specs.declared.notes.Kind.{Kind}
 use Rattle.bpf_follows.specs.declared.notes.Kind.TheVariants.{Nothing, Unset, Same, Both, Number, Inner, Length, Closing, Head, Offset, Fixed, Within, Start, Moved, Address, Saved, Kept}
 use Rattle.bpf_follows.specs.declared.notes.Bounds.{Bounds}
-use Rattle.bpf_follows.specs.declared.notes.Place.{Place}
+use Rattle.bpf_follows.specs.declared.notes.Counterpart.{Counterpart}
 use Rattle.bpf_follows.specs.declared.site.Front.{Front}
 use Rattle.bpf_follows.specs.declared.site.Site.{Site}
 use Rattle.bpf_follows.specs.Areas.{origin, is_own, same_area, is_offset, are_alike, unbounded, is_homed_by}
@@ -375,7 +375,7 @@ kinds_beyond alone taken i moved kinds r =
     if is_spared kinds i r || (is_call i && (alone && nat_le 11 r)) then held i (kinds r) else if is_blurred kinds i r then Nothing else kinds_behind taken i moved kinds r
 
 -- behind a call r0 is what the function gives back
-abbrev pub kinds_back : List (Option Place) → ℕ → Bool → Insn → Insn → Kinds → Kinds
+abbrev pub kinds_back : List (Option Counterpart) → ℕ → Bool → Insn → Insn → Kinds → Kinds
 kinds_back notes slot taken i moved kinds r =
     if is_call i then received (called_back notes slot i) (kinds_beyond (is_alone notes) taken i moved kinds) r else kinds_beyond (is_alone notes) taken i moved kinds r
 
@@ -388,7 +388,7 @@ abbrev pub is_lowest : ℕ → Insn → ℕ → Bool
 is_lowest untouched i r = is_far_store i && (nat_le 11 r && nat_le (8 * (r - 11) + 8) untouched)
 
 -- those hold what they held
-abbrev pub kinds_along : List (Option Place) → ℕ → ℕ → Bool → Insn → Insn → Kinds → Kinds
+abbrev pub kinds_along : List (Option Counterpart) → ℕ → ℕ → Bool → Insn → Insn → Kinds → Kinds
 kinds_along notes untouched slot taken i moved kinds r = if is_lowest untouched i r then held i (kinds r) else kinds_back notes slot taken i moved kinds r
 
 abbrev pub handed : Kind → Kind
@@ -408,15 +408,15 @@ abbrev pub listed : Kinds → List Kind
 listed kinds = in_new_frame (kinds 0 ∷ kinds 1 ∷ kinds 2 ∷ kinds 3 ∷ kinds 4 ∷ kinds 5 ∷ kinds 6 ∷ kinds 7 ∷ kinds 8 ∷ kinds 9 ∷ kinds 10 ∷ [])
 
 -- an edge leads to what stands for the slot, with kinds that are enough for it
-pub record Arrives (notes : List (Option Place)) (turns slot new_slot : ℕ) (kinds : Kinds) : Type 0 where
-  pub place : Place
+pub record Arrives (notes : List (Option Counterpart)) (turns slot new_slot : ℕ) (kinds : Kinds) : Type 0 where
+  pub place : Counterpart
   pub noted : place_at notes slot ≡ Some place
   pub slot_is : new_slot ≡ place.first
   pub gives : (r : ℕ) → r < places → Gives turns r (kinds r) (kinds_of place r)
 
 -- a call, or the start, leads to the entry, behind which extra instructions make of what is given what is wanted
-pub record Enters (notes : List (Option Place)) (new : Instructions) (turns slot new_slot : ℕ) (kinds : List Kind) : Type 0 where
-  pub place : Place
+pub record Enters (notes : List (Option Counterpart)) (new : Instructions) (turns slot new_slot : ℕ) (kinds : List Kind) : Type 0 where
+  pub place : Counterpart
   pub noted : place_at notes slot ≡ Some place
   pub slot_is : new_slot ≡ place.entry
   pub made : List Kind
@@ -426,7 +426,7 @@ pub record Enters (notes : List (Option Place)) (new : Instructions) (turns slot
 -- ---- an instruction
 
 -- An instruction of the old program at the slot of a place, what stands for it, and what the registers hold in front of both.
-pub record IsSite (new : Instructions) (place : Place) (front : Front) (site : Site) : Type 0 where
+pub record IsSite (new : Instructions) (place : Counterpart) (front : Front) (site : Site) : Type 0 where
   pub slot_is : site.slot ≡ front.slot
   pub insn_is : site.insn ≡ front.insn
   pub at_body : site.new_slot ≡ place.body
@@ -435,22 +435,22 @@ pub record IsSite (new : Instructions) (place : Place) (front : Front) (site : S
   pub pairs : Pairs (known site.slot site.kinds) site.insn site.moved
 
 -- the next instruction, where it may follow, stands behind
-abbrev pub Falls : List (Option Place) → Bounds → Site → Type 0
+abbrev pub Falls : List (Option Counterpart) → Bounds → Site → Type 0
 Falls notes bounds site = goes_on site.insn ≡ true → may_fall (known site.slot site.kinds) site.insn ≡ true
     → Arrives notes bounds.turns (site.slot + slot_count site.insn) (site.new_slot + slot_count site.insn) (kinds_along notes bounds.untouched site.slot false site.insn site.moved (known site.slot site.kinds))
 
 -- where the old one leads to a slot the new one leads: a call to the entry
-abbrev pub Reaches : Bool → List (Option Place) → Instructions → Bounds → ℕ → ℕ → ℕ → Insn → Insn → Kinds → Type 0
+abbrev pub Reaches : Bool → List (Option Counterpart) → Instructions → Bounds → ℕ → ℕ → ℕ → Insn → Insn → Kinds → Type 0
 Reaches true notes new bounds to new_to slot i moved kinds = Enters notes new bounds.turns to new_to (listed (kinds_called kinds))
 Reaches false notes new bounds to new_to slot i moved kinds = Arrives notes bounds.turns to new_to (kinds_along notes bounds.untouched slot true i moved kinds)
 
-abbrev pub Leads : List (Option Place) → Instructions → Bounds → Site → Type 0
+abbrev pub Leads : List (Option Counterpart) → Instructions → Bounds → Site → Type 0
 Leads notes new bounds site =
     (to : ℕ) → led site.slot site.insn ≡ Some to → may_lead (known site.slot site.kinds) site.insn ≡ true
     → (new_to : ℕ) × (led site.new_slot site.moved ≡ Some new_to) × Reaches (is_call site.insn) notes new bounds to new_to site.slot site.insn site.moved (known site.slot site.kinds)
 
 -- what stands for the old instruction at a slot
-pub record Stands (new : Instructions) (notes : List (Option Place)) (bounds : Bounds) (place : Place) (front : Front) : Type 0 where
+pub record Stands (new : Instructions) (notes : List (Option Counterpart)) (bounds : Bounds) (place : Counterpart) (front : Front) : Type 0 where
   pub site : Site
   pub is_site : IsSite new place front site
   pub lone : IsLone (is_alone notes) (known site.slot site.kinds) site.insn
@@ -464,8 +464,8 @@ abbrev pub front_at : Instructions → Bounds → ℕ → Insn → Front
 front_at old bounds slot i = record { slot = slot; insn = i; length = bounds.length; padded = bounds.padded; untouched = bounds.untouched; spans = spans_ahead old slot; behind = span_behind old slot i }
 
 -- at a slot that is noted, where an instruction of the old program begins at which that isn't surely stuck
-abbrev pub StandsAt : Instructions → Instructions → List (Option Place) → Bounds → ℕ → Type 0
-StandsAt old new notes bounds slot = (place : Place) (i : Insn) → place_at notes slot ≡ Some place → insn_at old.list slot ≡ Some i
+abbrev pub StandsAt : Instructions → Instructions → List (Option Counterpart) → Bounds → ℕ → Type 0
+StandsAt old new notes bounds slot = (place : Counterpart) (i : Insn) → place_at notes slot ≡ Some place → insn_at old.list slot ≡ Some i
     → (is_stuck bounds.length (kinds_of place) i ≡ true) ⊎ Stands new notes bounds place (front_at old bounds slot i)
 
 -- ---- the start
@@ -502,10 +502,10 @@ start_slot false = 0
 start_slot true = 3
 
 -- the new program begins with what stands for the old one's start, in blocks behind that
-abbrev pub Starts : List (Option Place) → Instructions → Bounds → Type 0
+abbrev pub Starts : List (Option Counterpart) → Instructions → Bounds → Type 0
 Starts notes new bounds = (bounds.padded ≡ true → Cuts new bounds.length) × Enters notes new bounds.turns 0 (start_slot bounds.padded) (start_kinds bounds)
 
-pub record Matches (old new : Instructions) (notes : List (Option Place)) (bounds : Bounds) : Type 0 where
+pub record Matches (old new : Instructions) (notes : List (Option Counterpart)) (bounds : Bounds) : Type 0 where
   pub short : bounds.length < 2 ^ 32
   pub order_is : new.order ≡ old.order
   pub start : Starts notes new bounds

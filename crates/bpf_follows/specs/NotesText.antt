@@ -9,7 +9,7 @@ use Rattle.bpf_follows.specs.declared.notes.Area.{Area}
 use Rattle.bpf_follows.specs.declared.notes.Area.TheVariants.{Given, Own}
 use Rattle.bpf_follows.specs.declared.notes.Kind.{Kind}
 use Rattle.bpf_follows.specs.declared.notes.Kind.TheVariants.{Nothing, Unset, Same, Both, Number, Natural, Inner, Length, Ending, Closing, Offset, Fixed, Within, Start, Head, Base, Moved, Address, Saved, Kept, Constant, Counter, Turn, Alone, Returns}
-use Rattle.bpf_follows.specs.declared.notes.Place.{Place}
+use Rattle.bpf_follows.specs.declared.notes.Counterpart.{Counterpart}
 use Rattle.bpf_follows.specs.Relation.{places}
 
 -- ---- what has a text
@@ -47,19 +47,19 @@ KindFits (Turn head) = head < 2 ^ 32
 KindFits Alone = Unit {0}
 KindFits (Returns least most) = (least < 2 ^ 32) × (most < 2 ^ 32)
 
-pub record PlaceFits (place : Place) : Type 0 where
+pub record PlaceFits (place : Counterpart) : Type 0 where
   pub entry : place.entry < 2 ^ 32
   pub first : place.first < 2 ^ 32
   pub body : place.body < 2 ^ 32
   pub all : length place.kinds ≡ places
   pub kinds : AllByRecursion KindFits place.kinds
 
-abbrev pub NoteFits : Option Place → Type 0
+abbrev pub NoteFits : Option Counterpart → Type 0
 NoteFits None = Unit {0}
 NoteFits (Some place) = PlaceFits place
 
 -- it says something of each place, if only that nothing is known
-abbrev pub SaysAll : Option Place → Type 0
+abbrev pub SaysAll : Option Counterpart → Type 0
 SaysAll None = Unit {0}
 SaysAll (Some place) = length place.kinds ≡ places
 
@@ -68,7 +68,7 @@ abbrev pub max_lines : ℕ
 max_lines = max_slots + 1
 
 -- no more than that, and each has a text
-pub record AreNotes (notes : List (Option Place)) : Type 0 where
+pub record AreNotes (notes : List (Option Counterpart)) : Type 0 where
   pub few : length notes ≤ max_lines
   pub each : AllByRecursion NoteFits notes
 
@@ -131,23 +131,23 @@ unfoldable pub kinds_text : ℕ → List Kind → List ℕ
 kinds_text r [] = []
 kinds_text r (kind ∷ kinds) = held_text r kind ++ kinds_text (r + 1) kinds
 
-unfoldable pub place_text : Place → List ℕ
+unfoldable pub place_text : Counterpart → List ℕ
 place_text place = codes "first " ++ (decimal place.first ++ (codes " entry " ++ (decimal place.entry ++ (codes " body " ++ (decimal place.body ++ kinds_text 0 place.kinds)))))
 
-unfoldable pub note_text : Option Place → List ℕ
+unfoldable pub note_text : Option Counterpart → List ℕ
 note_text None = codes "none"
 note_text (Some place) = place_text place
 
-unfoldable pub note_line : ℕ → Option Place → List ℕ
+unfoldable pub note_line : ℕ → Option Counterpart → List ℕ
 note_line slot note = decimal slot ++ (codes ": " ++ (note_text note ++ codes "\n"))
 
 -- the lines from a slot on
-unfoldable pub note_lines : ℕ → List (Option Place) → List ℕ
+unfoldable pub note_lines : ℕ → List (Option Counterpart) → List ℕ
 note_lines slot [] = []
 note_lines slot (note ∷ notes) = note_line slot note ++ note_lines (slot + 1) notes
 
 abbrev pub head_line : List ℕ
 head_line = codes "bpfnotes 1\n"
 
-abbrev pub notes_text : List (Option Place) → List ℕ
+abbrev pub notes_text : List (Option Counterpart) → List ℕ
 notes_text notes = head_line ++ note_lines 0 notes

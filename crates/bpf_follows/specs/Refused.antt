@@ -1,6 +1,6 @@
 -- Why a text is none of notes: the first line that isn't one.
 use Rattle.std.specs.Prelude.{◌≡◌, ◌≢◌, ◌⊎◌, ℕ, ◌+◌, List, [], ◌∷◌, ◌++◌, length, codes, Option}
-use Rattle.bpf_follows.specs.declared.notes.Place.{Place}
+use Rattle.bpf_follows.specs.declared.notes.Counterpart.{Counterpart}
 use Rattle.bpf_follows.specs.declared.error.NotesError.{NotesError}
 use Rattle.bpf_follows.specs.declared.error.NotesError.TheVariants.{Form, Memory}
 use Rattle.bpf_follows.specs.NotesText.{max_lines, NoteFits, note_line, note_lines, head_line}
@@ -15,11 +15,11 @@ refusal_line Memory = 0
 
 -- the text doesn't begin with a line of the slot
 abbrev pub NoLine : ℕ → List ℕ → Type 0
-NoLine slot text = (note : Option Place) (rest : List ℕ) → NoteFits note → text ≢ note_line slot note ++ rest
+NoLine slot text = (note : Option Counterpart) (rest : List ℕ) → NoteFits note → text ≢ note_line slot note ++ rest
 
 -- Behind the lines of some slots, from one on, more stands there: no line of the next slot, or of more slots than a program has.
 pub record StopsAt (slot : ℕ) (text : List ℕ) (line : ℕ) : Type 0 where
-  pub before : List (Option Place)
+  pub before : List (Option Counterpart)
   pub rest : List ℕ
   pub lines : text ≡ note_lines slot before ++ rest
   pub line_is : line ≡ slot + length before + 2

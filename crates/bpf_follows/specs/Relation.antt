@@ -21,7 +21,7 @@ use Rattle.bpf_follows.specs.declared.notes.Area.{Area}
 use Rattle.bpf_follows.specs.declared.notes.Area.TheVariants.{Given, Own}
 use Rattle.bpf_follows.specs.declared.notes.Kind.{Kind}
 use Rattle.bpf_follows.specs.declared.notes.Kind.TheVariants.{Nothing, Unset, Same, Both, Number, Natural, Inner, Length, Ending, Closing, Offset, Fixed, Within, Start, Head, Base, Moved, Address, Saved, Kept, Constant, Counter, Turn, Alone, Returns}
-use Rattle.bpf_follows.specs.declared.notes.Place.{Place}
+use Rattle.bpf_follows.specs.declared.notes.Counterpart.{Counterpart}
 use Rattle.bpf_follows.specs.Areas.{origin, is_own, same_area, IsInto}
 
 -- Notes speak of 75 places: r0 to r10, and the frame's 64 slots of eight bytes, the lowest first.
@@ -35,7 +35,7 @@ Kinds = ℕ → Kind
 abbrev pub kind_in : List Kind → Kinds
 kind_in kinds r = get_or kinds r Nothing
 
-abbrev pub kinds_of : Place → Kinds
+abbrev pub kinds_of : Counterpart → Kinds
 kinds_of place r = kind_in place.kinds r
 
 -- behind what stands in front of the instruction at a slot: there a turn that was taken is the instruction's own
@@ -116,7 +116,7 @@ abbrev pub Gives : ℕ → ℕ → Kind → Kind → Type 0
 Gives turns r have want = (want ≡ Nothing) ⊎ ((want ≡ have) ⊎ (weaker turns r have want ≡ true))
 
 -- what stands for an old slot
-abbrev pub place_at : List (Option Place) → ℕ → Option Place
+abbrev pub place_at : List (Option Counterpart) → ℕ → Option Counterpart
 place_at notes slot = get_or notes slot None
 
 -- what the old machine holds the new one holds; where the old one holds nothing, the new one may hold anything
@@ -320,12 +320,12 @@ abbrev pub received : Kind → Kinds → Kinds
 received back kinds r = if r == 0 then back else kinds r
 
 -- a frame that waits has nothing in r0 yet
-abbrev pub kinds_waiting : Place → Kinds
+abbrev pub kinds_waiting : Counterpart → Kinds
 kinds_waiting place = received Nothing (kinds_of place)
 
 -- and the new frame goes on where the notes say; they say these kinds of it
-pub record FrameFollows (order : Order) (notes : List (Option Place)) (turns : ℕ) (passed : Past) (kinds : Place → Kinds) (old new : StackFrame) : Type 0 where
-  pub place : Place
+pub record FrameFollows (order : Order) (notes : List (Option Counterpart)) (turns : ℕ) (passed : Past) (kinds : Counterpart → Kinds) (old new : StackFrame) : Type 0 where
+  pub place : Counterpart
   pub noted : place_at notes old.slot ≡ Some place
   pub slot_is : new.slot ≡ place.first
   pub fits : FrameFits order turns passed (kinds place) old new
@@ -347,12 +347,12 @@ abbrev pub is_lone : Kind → Bool
 is_lone Alone = true
 is_lone _ = false
 
-abbrev pub is_alone : List (Option Place) → Bool
+abbrev pub is_alone : List (Option Counterpart) → Bool
 is_alone notes = option_map_or (λ place. is_lone (kind_in place.kinds 10)) (place_at notes 0) false
 
 -- A frame that waits for a call. What it loses by it is lost in both; and each cell of its stack is the same, if the functions that are
 -- called may reach it.
-pub record FrameWaits (order : Order) (notes : List (Option Place)) (turns : ℕ) (passed : Past) (old new : StackFrame) : Type 0 where
+pub record FrameWaits (order : Order) (notes : List (Option Counterpart)) (turns : ℕ) (passed : Past) (old new : StackFrame) : Type 0 where
   pub follows : FrameFollows order notes turns passed kinds_waiting old new
   pub result : (r : ℕ) → r < 6 → Gives turns r Same (kinds_waiting follows.place r)
   pub own : (r : ℕ) → r < places → is_of_other (kinds_of follows.place r) ≡ false
@@ -360,7 +360,7 @@ pub record FrameWaits (order : Order) (notes : List (Option Place)) (turns : ℕ
   pub slots : is_alone notes ≡ false → (k : ℕ) → k < 64 → Gives turns (11 + k) Same (kinds_waiting follows.place (11 + k))
 
 -- The new state follows the old one: as many frames are live, each follows, and the context is the same.
-pub record Follows (order : Order) (notes : List (Option Place)) (turns : ℕ) (passed : Past) (old new : State) : Type 0 where
+pub record Follows (order : Order) (notes : List (Option Counterpart)) (turns : ℕ) (passed : Past) (old new : State) : Type 0 where
   pub top : FrameFollows order notes turns passed kinds_of old.top new.top
   pub waiting : EachPair (FrameWaits order notes turns passed) old.waiting new.waiting
   pub context_is : new.context ≡ old.context

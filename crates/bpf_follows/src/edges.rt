@@ -8,7 +8,7 @@ ghost use Rattle.bpf_follows.specs.Matching.{kinds_along, start_slot, start_kind
 use crate::cut::cuts;
 use crate::extras::extras;
 use crate::kinds::{gives, kind_of, place_at, start_kinds};
-use crate::notes::{Bounds, Kinds, PLACES, Place};
+use crate::notes::{Bounds, Counterpart, Kinds, PLACES};
 use crate::returned::kind_along;
 use crate::site::Site;
 use bpf_insn::Code;
@@ -25,7 +25,13 @@ pub struct Edge {
 // ---- jumps, and the ways to the next instruction
 
 /// Whether what places hold behind an instruction is enough for a place.
-fn all_given(notes: &[Option<Place>], bounds: Bounds, site: &Site, taken: bool, to: &Place) -> bool
+fn all_given(
+    notes: &[Option<Counterpart>],
+    bounds: Bounds,
+    site: &Site,
+    taken: bool,
+    to: &Counterpart,
+) -> bool
     requires below { site.now.slot < max_slots }
     ensures { IsTrue result ↔ ((r : ℕ) → r < places → Gives bounds.turns r (kinds_along notes.now bounds.untouched site.now.slot taken site.now.insn site.now.moved (known site.now.slot site.now.kinds) r) (kinds_of to.now r)) }
 {
@@ -43,7 +49,7 @@ fn all_given(notes: &[Option<Place>], bounds: Bounds, site: &Site, taken: bool, 
 }
 
 /// Whether an edge leads where the notes say, and they ask no more there than they give here.
-pub fn arrives(notes: &[Option<Place>], bounds: Bounds, site: &Site, edge: Edge) -> bool
+pub fn arrives(notes: &[Option<Counterpart>], bounds: Bounds, site: &Site, edge: Edge) -> bool
     requires below { site.now.slot < max_slots }
     ensures { IsTrue result ↔ Arrives notes.now bounds.turns edge.slot edge.new_slot (kinds_along notes.now bounds.untouched site.now.slot edge.taken site.now.insn site.now.moved (known site.now.slot site.now.kinds)) }
 {
@@ -56,7 +62,7 @@ pub fn arrives(notes: &[Option<Place>], bounds: Bounds, site: &Site, edge: Edge)
 // ---- calls, and the start
 
 /// Whether what places hold behind an entry is enough for a place.
-fn all_entered(turns: u32, kinds: &Kinds, to: &Place) -> bool
+fn all_entered(turns: u32, kinds: &Kinds, to: &Counterpart) -> bool
     ensures { IsTrue result ↔ ((r : ℕ) → r < places → Gives turns r (kind_in kinds.now r) (kinds_of to.now r)) }
 {
     for r in 0..PLACES as u8 {
@@ -70,7 +76,7 @@ fn all_entered(turns: u32, kinds: &Kinds, to: &Place) -> bool
 /// Whether a call leads to the entry of what stands for the function at the old slot, with registers of these kinds.
 pub fn enters<N: Code>(
     new: &N,
-    notes: &[Option<Place>],
+    notes: &[Option<Counterpart>],
     turns: u32,
     kinds: Kinds,
     edge: Edge,
@@ -97,7 +103,7 @@ fn start_slot(padded: bool) -> u32
 }
 
 /// Whether the new program begins with the entry of what stands for the old one's start, in blocks behind what cuts a packet's length.
-pub fn starts<N: Code>(new: &N, notes: &[Option<Place>], bounds: Bounds) -> bool
+pub fn starts<N: Code>(new: &N, notes: &[Option<Counterpart>], bounds: Bounds) -> bool
     ensures { IsTrue result ↔ Starts notes.now (N.program new.now) bounds }
 {
     if bounds.padded && !cuts(new, bounds.length) {

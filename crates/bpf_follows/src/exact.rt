@@ -9,7 +9,7 @@ ghost use Rattle.bpf_follows.specs.Exact.{exactly, operand_exactly, fixed_at, ex
 use crate::areas::same_area;
 use crate::kinds::known_in;
 use crate::notes::{Area, Kind};
-use crate::numbers::{Test, may_answer};
+use crate::numbers::{EdgeTest, may_answer};
 use crate::site::Site;
 use bpf_insn::{AluOp, Cond, Insn, Operand, Width, extended};
 
@@ -198,7 +198,7 @@ fn decided_fixed(cond: Cond, width: Width, kind: Kind, other: Kind) -> Option<bo
 }
 
 /// Whether a test of numbers that are always the same jumps.
-fn decided_numbers(site: &Site, test: Test) -> Option<bool>
+fn decided_numbers(site: &Site, test: EdgeTest) -> Option<bool>
     ensures { result ≡ decided_numbers (known site.now.slot site.now.kinds) test.cond test.width test.dst test.src }
 {
     let a = exactly(known_in(site, test.dst))?;
@@ -207,7 +207,7 @@ fn decided_numbers(site: &Site, test: Test) -> Option<bool>
 }
 
 /// Whether a test of offsets that are always the same jumps.
-fn decided_offsets(site: &Site, test: Test) -> Option<bool>
+fn decided_offsets(site: &Site, test: EdgeTest) -> Option<bool>
     ensures { result ≡ decided_offsets (known site.now.slot site.now.kinds) test.cond test.width test.dst test.src }
 {
     match test.src {
@@ -222,7 +222,7 @@ fn decided_offsets(site: &Site, test: Test) -> Option<bool>
 }
 
 /// Whether a test jumps, if it always goes one way.
-fn decided(site: &Site, test: Test) -> Option<bool>
+fn decided(site: &Site, test: EdgeTest) -> Option<bool>
     ensures { result ≡ decided (known site.now.slot site.now.kinds) test.cond test.width test.dst test.src }
 {
     match decided_numbers(site, test) {
@@ -245,7 +245,7 @@ fn may_go(site: &Site, taken: bool) -> bool
     else {
         return true;
     };
-    let test = Test {
+    let test = EdgeTest {
         cond,
         width,
         taken,

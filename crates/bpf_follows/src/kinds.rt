@@ -9,7 +9,7 @@ ghost use Rattle.bpf_follows.specs.Matching.{is_changed, is_lost, is_gone, held,
 use crate::areas::{is_own, same_area};
 use crate::frame::{is_far_put, writes_slot};
 use crate::inner::misses;
-use crate::notes::{Area, Bounds, Kind, Kinds, PLACES, Place};
+use crate::notes::{Area, Bounds, Counterpart, Kind, Kinds, PLACES};
 use crate::numbers::{natural_top, told};
 use crate::pairs::written_kind;
 use crate::site::Site;
@@ -18,10 +18,10 @@ use bpf_insn::{Insn, Reg, extended};
 use bpf_semantics::HEAD_BYTES;
 
 /// How many registers there are.
-pub const REGISTERS: u8 = 11;
+pub const REGISTERS: u8 = bpf_insn::REGISTERS as u8;
 
 /// What stands for an old slot.
-pub fn place_at(notes: &[Option<Place>], slot: u32) -> Option<&Place>
+pub fn place_at(notes: &[Option<Counterpart>], slot: u32) -> Option<&Counterpart>
     ensures { option_copied result ≡ place_at notes.now slot }
 {
     match notes.get(slot as usize) {
@@ -31,7 +31,7 @@ pub fn place_at(notes: &[Option<Place>], slot: u32) -> Option<&Place>
 }
 
 /// Whether the notes say that each function leaves the frames of others alone.
-pub fn is_alone(notes: &[Option<Place>]) -> bool
+pub fn is_alone(notes: &[Option<Counterpart>]) -> bool
     ensures { result ≡ is_alone notes.now }
 {
     match place_at(notes, 0) {

@@ -2,7 +2,10 @@
 
 ghost use Rattle.bpf_follows.specs.Laws.{LeavingNoneAsksNothing, MatchingKeepsMeaning};
 
-use bpf_semantics::{accesses_inside, finishes_inside, head_of_block, start_inside, start_is_state, state_inside, step_inside, step_keeps_context, step_keeps_states, steps_are_computed};
+use bpf_semantics::{
+    accesses_inside, finishes_inside, head_of_block, start_inside, start_is_state, state_inside,
+    step_inside, step_keeps_context, step_keeps_states, steps_are_computed,
+};
 
 /// Where notes match, the new program ends with the old one's number, on each context of so many bytes on which the old one ends, or on each block
 /// of so many bytes on whose packet it does so, comes to no slot more often than the counters allow, and leaves the lowest bytes of each frame to

@@ -39,7 +39,7 @@ pub use frame::is_far;
 pub use kinds::is_blurred;
 pub use laws::{leaving_none_asks_nothing, matching_keeps_meaning};
 pub use mismatch::{Fault, Mismatch};
-pub use notes::{Area, Bounds, Kind, Kinds, PLACES, Place};
+pub use notes::{Area, Bounds, Counterpart, Kind, Kinds, PLACES};
 pub use pass::follows;
 pub use reading::read;
 pub use site::{Front, Range, Site, Span};

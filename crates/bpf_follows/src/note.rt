@@ -5,12 +5,12 @@ ghost use Rattle.bpf_follows.specs.Relation.{places};
 ghost use Rattle.bpf_follows.specs.code.Reading.{register_at, plain_in, value_in, bounds_in, behind_in, saved_in, kept_in, closing_in, held_in, numbered_in, offset_in, area_in, kind_in, entry_in, kinds_in, nothing_said, place_in, note_in};
 
 use crate::digits::{int_in, number_in};
-use crate::notes::{Area, Kind, Kinds, PLACES, Place};
+use crate::notes::{Area, Counterpart, Kind, Kinds, PLACES};
 use bpf_insn::Reg;
 use bpf_streams::behind;
 
 /// How many registers there are.
-const REGISTERS: usize = 11;
+const REGISTERS: usize = bpf_insn::REGISTERS;
 
 /// The registers by their numbers.
 const NUMBERED: [Reg; REGISTERS] = [
@@ -252,14 +252,14 @@ fn kinds_in(text: &[u8]) -> Option<Kinds>
 
 /// The place that is said.
 #[tactic(auto, unfolding(crate::specs::code::Reading::place_in))]
-fn place_in(text: &[u8]) -> Option<Place>
+fn place_in(text: &[u8]) -> Option<Counterpart>
     ensures { result ≡ place_in text.now }
 {
     let (first, rest) = number_in(text, b"first ")?;
     let (entry, rest) = number_in(rest, b" entry ")?;
     let (body, rest) = number_in(rest, b" body ")?;
     let kinds = kinds_in(rest)?;
-    Some(Place {
+    Some(Counterpart {
         entry,
         first,
         body,
@@ -269,7 +269,7 @@ fn place_in(text: &[u8]) -> Option<Place>
 
 /// What is said of a slot.
 #[tactic(auto, unfolding(crate::specs::code::Reading::note_in))]
-pub fn note_in(text: &[u8]) -> Option<Option<Place>>
+pub fn note_in(text: &[u8]) -> Option<Option<Counterpart>>
     ensures { result ≡ note_in text.now }
 {
     let (_slot, rest) = number_in(text, b"")?;

@@ -68,14 +68,14 @@ pub enum Kind {
 }
 
 /// How many places notes speak of: r0 to r10, and the 64 slots of eight bytes of the frame.
-pub const PLACES: usize = 75;
+pub const PLACES: usize = bpf_insn::PLACES;
 
 /// What r0 to r10 hold, and then the slots of the frame, the lowest first.
 pub type Kinds = [Kind; PLACES];
 
 /// What stands in the new program for the instruction at a slot of the old one.
 #[derive(Clone, Copy)]
-pub struct Place {
+pub struct Counterpart {
     /// The new slot to which calls lead, if it is a function's first instruction: from there on the context's start is put away and
     /// counters are set.
     pub entry: u32,

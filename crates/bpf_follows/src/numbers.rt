@@ -185,7 +185,7 @@ pub fn number_kind(site: &Site) -> Kind
 
 /// A test, on the edge where it holds (`taken`) or fails.
 #[derive(Clone, Copy)]
-pub(crate) struct Test {
+pub(crate) struct EdgeTest {
     pub(crate) cond: Cond,
     pub(crate) width: Width,
     pub(crate) taken: bool,
@@ -204,7 +204,7 @@ fn is_number_test(width: Width, cond: Cond, src: Operand) -> bool
 }
 
 /// The numbers of both operands.
-fn told_by(site: &Site, test: Test) -> Option<(Num, Num)>
+fn told_by(site: &Site, test: EdgeTest) -> Option<(Num, Num)>
     ensures { result ≡ told_by (known site.now.slot site.now.kinds) test.cond test.width test.taken test.dst test.src }
 {
     let numeric = is_number_test(test.width, test.cond, test.src);
@@ -214,7 +214,7 @@ fn told_by(site: &Site, test: Test) -> Option<(Num, Num)>
 }
 
 /// Whether numbers between the bounds of both operands may answer so.
-pub(crate) fn may_answer(site: &Site, test: Test) -> bool
+pub(crate) fn may_answer(site: &Site, test: EdgeTest) -> bool
     ensures { result ≡ may_answer (known site.now.slot site.now.kinds) test.cond test.width test.taken test.dst test.src }
 {
     let Some(b) = operand_number(site, false, test.src) else {
@@ -252,7 +252,7 @@ pub fn told(site: &Site, taken: bool, r: u8) -> Kind
     else {
         return kind;
     };
-    let test = Test {
+    let test = EdgeTest {
         cond,
         width,
         taken,

@@ -9,7 +9,7 @@ ghost use Rattle.bpf_follows.specs.Mismatches.{IsMismatch, IsAt, IsLowest};
 use crate::edges::starts;
 use crate::laws::matching_keeps_meaning;
 use crate::mismatch::Mismatch;
-use crate::notes::{Bounds, Place};
+use crate::notes::{Bounds, Counterpart};
 use crate::stands::stands_at;
 use bpf_insn::{Code, Order};
 
@@ -17,7 +17,7 @@ use bpf_insn::{Code, Order};
 fn all_stand<O: Code, N: Code>(
     old: &O,
     new: &N,
-    notes: &[Option<Place>],
+    notes: &[Option<Counterpart>],
     bounds: Bounds,
 ) -> Result<(), Mismatch>
     ensures exact { IsOk result ↔ ((slot : ℕ) → StandsAt (O.program old.now) (N.program new.now) notes.now bounds slot) }
@@ -43,7 +43,7 @@ fn same_order(a: Order, b: Order) -> bool
 fn matches<O: Code, N: Code>(
     old: &O,
     new: &N,
-    notes: &[Option<Place>],
+    notes: &[Option<Counterpart>],
     bounds: Bounds,
 ) -> Result<(), Mismatch>
     ensures exact { IsOk result ↔ Matches (O.program old.now) (N.program new.now) notes.now bounds }
@@ -65,7 +65,7 @@ fn matches<O: Code, N: Code>(
 pub fn follows<O: Code, N: Code>(
     old: &O,
     new: &N,
-    notes: &[Option<Place>],
+    notes: &[Option<Counterpart>],
     bounds: Bounds,
 ) -> Result<(), Mismatch>
     ensures keeps { IsOk result → KeepsMeaning (O.program old.now) (N.program new.now) bounds }

@@ -2,7 +2,7 @@
 
 ghost use Rattle.std.specs.Prelude.{◌≡◌, ◌⊎◌, ◌++◌, List, Option, Ok, Err, option_map, IfOk, IfErr, MatchResult};
 ghost use Rattle.std.specs.List.{AllByRecursion};
-ghost use Rattle.bpf_follows.specs.declared.notes.Place.{Place};
+ghost use Rattle.bpf_follows.specs.declared.notes.Counterpart.{Counterpart};
 ghost use Rattle.bpf_follows.specs.declared.error.NotesError.TheVariants.{Memory};
 ghost use Rattle.bpf_follows.specs.NotesText.{max_lines, AreNotes, SaysAll, notes_text};
 ghost use Rattle.bpf_follows.specs.Refused.{IsRefused};
@@ -10,7 +10,7 @@ ghost use Rattle.bpf_follows.specs.code.Reading.{taken_at, lines_in};
 
 use crate::error::NotesError;
 use crate::note::note_in;
-use crate::notes::Place;
+use crate::notes::Counterpart;
 use crate::writing::{HEAD, put_line};
 use bpf_insn::MAX_SLOTS;
 use bpf_streams::behind;
@@ -20,7 +20,7 @@ use std::alloc::{AllocError, Global};
 const MAX_LINES: usize = MAX_SLOTS + 1;
 
 /// A note, and what stands behind its line.
-type Taken<'a> = Option<(Option<Place>, &'a [u8])>;
+type Taken<'a> = Option<(Option<Counterpart>, &'a [u8])>;
 
 /// The note of a slot, if the text begins with its line. The buffer is for the line.
 fn taken_at<'a>(line: &mut Vec<u8>, slot: usize, text: &'a [u8]) -> Result<Taken<'a>, AllocError>
@@ -38,7 +38,7 @@ fn taken_at<'a>(line: &mut Vec<u8>, slot: usize, text: &'a [u8]) -> Result<Taken
 }
 
 /// The notes of all lines.
-fn lines_in(alloc: Global, text: &[u8]) -> Result<Vec<Option<Place>>, NotesError>
+fn lines_in(alloc: Global, text: &[u8]) -> Result<Vec<Option<Counterpart>>, NotesError>
     ensures ok { IfOk result (λ notes. lines_in max_lines 0 text.now ≡ Ok notes.items) }
     ensures err { IfErr result (λ error. (error ≡ Memory) ⊎ (lines_in max_lines 0 text.now ≡ Err error)) }
 {
@@ -69,12 +69,12 @@ fn lines_in(alloc: Global, text: &[u8]) -> Result<Vec<Option<Place>>, NotesError
 }
 
 /// The notes of a text. It is refused at its first line that isn't one of notes.
-pub fn read(alloc: Global, text: &[u8]) -> Result<Vec<Option<Place>>, NotesError>
+pub fn read(alloc: Global, text: &[u8]) -> Result<Vec<Option<Counterpart>>, NotesError>
     // What is read is spelled so.
     ensures found { IfOk result (λ notes. text.now ≡ notes_text notes.items) }
     ensures whole { IfOk result (λ notes. AllByRecursion SaysAll notes.items) }
     // What is spelled so is read, unless memory runs out.
-    ensures only { (notes : List (Option Place)) → AreNotes notes → text.now ≡ notes_text notes → MatchResult result (λ v. v.items ≡ notes) (λ error. error ≡ Memory) }
+    ensures only { (notes : List (Option Counterpart)) → AreNotes notes → text.now ≡ notes_text notes → MatchResult result (λ v. v.items ≡ notes) (λ error. error ≡ Memory) }
     ensures err { IfErr result (IsRefused text.now) }
 {
     let Some(rest) = behind(text, HEAD) else {

@@ -10,8 +10,10 @@ ghost use Rattle.bpf_follows.specs.Returned.{is_call, led, given_back, back_of, 
 ghost use Rattle.bpf_follows.specs.Matching.{kinds_back, kinds_along};
 
 use crate::frame::is_lowest;
-use crate::kinds::{gives, held, is_alone, is_call, is_same, kind_beyond, kind_in, known, place_at};
-use crate::notes::{Kind, Place};
+use crate::kinds::{
+    gives, held, is_alone, is_call, is_same, kind_beyond, kind_in, known, place_at,
+};
+use crate::notes::{Counterpart, Kind};
 use crate::site::Site;
 use bpf_insn::{Insn, Reg, target};
 
@@ -35,14 +37,14 @@ fn given_back(kind: Kind) -> Kind
 }
 
 /// What the function of a place gives back.
-fn back_of(place: &Place) -> Kind
+fn back_of(place: &Counterpart) -> Kind
     ensures { result ≡ back_of place.now }
 {
     given_back(kind_in(&place.kinds, Reg::R10))
 }
 
 /// What the function at an old slot gives back.
-fn back_at(notes: &[Option<Place>], slot: u32) -> Kind
+fn back_at(notes: &[Option<Counterpart>], slot: u32) -> Kind
     ensures { result ≡ back_at notes.now slot }
 {
     match place_at(notes, slot) {
@@ -52,7 +54,7 @@ fn back_at(notes: &[Option<Place>], slot: u32) -> Kind
 }
 
 /// What the function gives back that an instruction calls.
-fn called_back(notes: &[Option<Place>], slot: u32, insn: &Insn) -> Kind
+fn called_back(notes: &[Option<Counterpart>], slot: u32, insn: &Insn) -> Kind
     requires { slot < max_slots }
     ensures { result ≡ called_back notes.now slot insn.now }
 {
@@ -63,7 +65,7 @@ fn called_back(notes: &[Option<Place>], slot: u32, insn: &Insn) -> Kind
 }
 
 /// What a place holds behind an instruction: behind a call r0 is what the function gives back.
-fn kind_back(notes: &[Option<Place>], site: &Site, taken: bool, r: u8) -> Kind
+fn kind_back(notes: &[Option<Counterpart>], site: &Site, taken: bool, r: u8) -> Kind
     requires place { r < places }
     requires below { site.now.slot < max_slots }
     ensures { result ≡ kinds_back notes.now site.now.slot taken site.now.insn site.now.moved (known site.now.slot site.now.kinds) r }
@@ -76,7 +78,13 @@ fn kind_back(notes: &[Option<Place>], site: &Site, taken: bool, r: u8) -> Kind
 }
 
 /// The same, where stores by other registers than r10 leave so many of the lowest bytes of each frame alone.
-pub fn kind_along(notes: &[Option<Place>], untouched: u32, site: &Site, taken: bool, r: u8) -> Kind
+pub fn kind_along(
+    notes: &[Option<Counterpart>],
+    untouched: u32,
+    site: &Site,
+    taken: bool,
+    r: u8,
+) -> Kind
     requires place { r < places }
     requires below { site.now.slot < max_slots }
     ensures { result ≡ kinds_along notes.now untouched site.now.slot taken site.now.insn site.now.moved (known site.now.slot site.now.kinds) r }
@@ -91,7 +99,7 @@ pub fn kind_along(notes: &[Option<Place>], untouched: u32, site: &Site, taken: b
 // ---- what has to hold
 
 /// Whether the notes of a slot, if there are any, say the same of what the function gives back.
-fn keeps_back(notes: &[Option<Place>], place: &Place, to: u32) -> bool
+fn keeps_back(notes: &[Option<Counterpart>], place: &Counterpart, to: u32) -> bool
     ensures { IsTrue result ↔ KeepsBack notes.now place.now to }
 {
     match place_at(notes, to) {
@@ -101,7 +109,7 @@ fn keeps_back(notes: &[Option<Place>], place: &Place, to: u32) -> bool
 }
 
 /// Whether those of the next instruction do, where it may follow.
-fn falls_back(notes: &[Option<Place>], place: &Place, site: &Site) -> bool
+fn falls_back(notes: &[Option<Counterpart>], place: &Counterpart, site: &Site) -> bool
     requires below { site.now.slot < max_slots }
     ensures { IsTrue result ↔ (goes_on site.now.insn ≡ true → KeepsBack notes.now place.now (site.now.slot + slot_count site.now.insn)) }
 {
@@ -112,7 +120,7 @@ fn falls_back(notes: &[Option<Place>], place: &Place, site: &Site) -> bool
 }
 
 /// Whether those do of the slot to which the instruction jumps.
-fn leads_back(notes: &[Option<Place>], place: &Place, site: &Site) -> bool
+fn leads_back(notes: &[Option<Counterpart>], place: &Counterpart, site: &Site) -> bool
     requires below { site.now.slot < max_slots }
     ensures { IsTrue result ↔ (is_call site.now.insn ≡ false → (to : ℕ) → led site.now.slot site.now.insn ≡ Some to → KeepsBack notes.now place.now to) }
 {
@@ -126,7 +134,7 @@ fn leads_back(notes: &[Option<Place>], place: &Place, site: &Site) -> bool
 }
 
 /// Whether the instruction, if it is an EXIT, gives that back.
-fn ends_back(turns: u32, place: &Place, site: &Site) -> bool
+fn ends_back(turns: u32, place: &Counterpart, site: &Site) -> bool
     ensures { IsTrue result ↔ (site.now.insn ≡ Exit → (back_of place.now ≡ Same) ⊎ Gives turns 0 (known site.now.slot site.now.kinds 0) (back_of place.now)) }
 {
     if !matches!(site.insn, Insn::Exit) {
@@ -137,7 +145,12 @@ fn ends_back(turns: u32, place: &Place, site: &Site) -> bool
 }
 
 /// Whether the function gives back what the notes say.
-pub fn gives_back(notes: &[Option<Place>], turns: u32, place: &Place, site: &Site) -> bool
+pub fn gives_back(
+    notes: &[Option<Counterpart>],
+    turns: u32,
+    place: &Counterpart,
+    site: &Site,
+) -> bool
     requires below { site.now.slot < max_slots }
     ensures { IsTrue result ↔ GivesBack notes.now turns place.now site.now }
 {

@@ -14,7 +14,7 @@ use crate::exact::{may_fall, may_lead};
 use crate::extras::extras;
 use crate::kinds::{all_called, is_call, place_at};
 use crate::mismatch::Fault;
-use crate::notes::{Bounds, Place};
+use crate::notes::{Bounds, Counterpart};
 use crate::pairs::pairs;
 use crate::returned::{gives_back, led};
 use crate::site::{Front, Site};
@@ -31,7 +31,7 @@ fn is_inside<C: Code>(code: &C, slot: u32) -> bool
 }
 
 /// What stands for the instruction of a place, if all in front of it is known.
-fn site_of<N: Code>(new: &N, place: &Place, front: Front) -> Result<Site, Fault>
+fn site_of<N: Code>(new: &N, place: &Counterpart, front: Front) -> Result<Site, Fault>
     ensures ok { IfOk result (λ site. IsSite (N.program new.now) place.now front site × (site.new_slot < max_slots)) }
     ensures err { IfErr result (λ fault. (site : Site) → IsSite (N.program new.now) place.now front site → ⊥) }
     ensures why { IfErr result (IsNoSite (N.program new.now) place.now front) }
@@ -59,7 +59,7 @@ fn site_of<N: Code>(new: &N, place: &Place, front: Front) -> Result<Site, Fault>
 }
 
 /// Whether the next instruction, where it may follow, stands behind.
-fn falls(notes: &[Option<Place>], bounds: Bounds, site: &Site) -> bool
+fn falls(notes: &[Option<Counterpart>], bounds: Bounds, site: &Site) -> bool
     requires below { site.now.slot < max_slots }
     requires new_below { site.now.new_slot < max_slots }
     ensures { IsTrue result ↔ Falls notes.now bounds site.now }
@@ -77,7 +77,7 @@ fn falls(notes: &[Option<Place>], bounds: Bounds, site: &Site) -> bool
 }
 
 /// Whether the new instruction leads where the notes say, if the old one leads to a slot.
-fn leads<N: Code>(new: &N, notes: &[Option<Place>], bounds: Bounds, site: &Site) -> bool
+fn leads<N: Code>(new: &N, notes: &[Option<Counterpart>], bounds: Bounds, site: &Site) -> bool
     requires below { site.now.slot < max_slots }
     requires new_below { site.now.new_slot < max_slots }
     ensures { IsTrue result ↔ Leads notes.now (N.program new.now) bounds site.now }
@@ -123,7 +123,7 @@ fn front_at<O: Code>(old: &O, bounds: Bounds, slot: u32, insn: Insn) -> Front
 pub fn stands_at<O: Code, N: Code>(
     old: &O,
     new: &N,
-    notes: &[Option<Place>],
+    notes: &[Option<Counterpart>],
     bounds: Bounds,
     slot: u32,
 ) -> Result<(), Fault>

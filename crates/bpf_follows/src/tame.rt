@@ -8,7 +8,7 @@ use crate::areas::is_homed_by;
 use crate::frame::{is_far, is_far_put, whole_slot};
 use crate::inner::misses;
 use crate::kinds::{REGISTERS, is_alone, is_call, known, known_in};
-use crate::notes::{Kind, PLACES, Place};
+use crate::notes::{Counterpart, Kind, PLACES};
 use crate::site::Site;
 
 /// Whether each cell of a slot of this kind is the same, wherever the old program has something there.
@@ -84,7 +84,7 @@ pub fn is_homed(site: &Site) -> bool
 }
 
 /// Whether it leaves the frames of others alone, if the notes say that all do; else, if it is a call, whether those may reach this one.
-pub fn is_lone(notes: &[Option<Place>], site: &Site) -> bool
+pub fn is_lone(notes: &[Option<Counterpart>], site: &Site) -> bool
     ensures { IsTrue result ↔ IsLone (is_alone notes.now) (known site.now.slot site.now.kinds) site.now.insn }
 {
     if is_alone(notes) {

@@ -5,7 +5,7 @@ ghost use Rattle.std.specs.Fmt.{signed_decimal};
 ghost use Rattle.bpf_insn.specs.Instruction.{register_number};
 ghost use Rattle.bpf_follows.specs.NotesText.{entry_text, behind_text, bounds_text, kept_text, beside_text, area_text, held_text, kinds_text, place_text, note_line, notes_text};
 
-use crate::notes::{Area, Kind, Kinds, PLACES, Place};
+use crate::notes::{Area, Counterpart, Kind, Kinds, PLACES};
 use bpf_insn::Reg;
 use itoa::{Buffer, Integer};
 use std::alloc::{AllocError, Global};
@@ -205,7 +205,7 @@ fn put_kinds(text: &mut Vec<u8>, kinds: &Kinds) -> Result<(), AllocError>
 
 /// Puts what stands for a slot.
 #[tactic(auto, using(crate::proofs::Spelled::texts), unfolding(crate::specs::NotesText::place_text))]
-fn put_place(text: &mut Vec<u8>, place: &Place) -> Result<(), AllocError>
+fn put_place(text: &mut Vec<u8>, place: &Counterpart) -> Result<(), AllocError>
     ensures { OnOk result (text.new.items ≡ text.old.items ++ place_text place.now) }
 {
     put_number(text, b"first ", place.first)?;
@@ -216,7 +216,11 @@ fn put_place(text: &mut Vec<u8>, place: &Place) -> Result<(), AllocError>
 
 /// Puts the line of a slot.
 #[tactic(auto, using(crate::proofs::Spelled::texts), unfolding(crate::specs::NotesText::note_line, crate::specs::NotesText::note_text))]
-pub fn put_line(text: &mut Vec<u8>, slot: usize, note: Option<&Place>) -> Result<(), AllocError>
+pub fn put_line(
+    text: &mut Vec<u8>,
+    slot: usize,
+    note: Option<&Counterpart>,
+) -> Result<(), AllocError>
     ensures { OnOk result (text.new.items ≡ text.old.items ++ note_line slot (option_copied note.entry)) }
 {
     put_number(text, b"", slot)?;
@@ -229,7 +233,7 @@ pub fn put_line(text: &mut Vec<u8>, slot: usize, note: Option<&Place>) -> Result
 }
 
 /// The one text of notes, a line for each slot of the old program.
-pub fn write(alloc: Global, notes: &[Option<Place>]) -> Result<Vec<u8>, AllocError>
+pub fn write(alloc: Global, notes: &[Option<Counterpart>]) -> Result<Vec<u8>, AllocError>
     ensures { IfOk result (λ text. text.items ≡ notes_text notes.now) }
 {
     let mut text = Vec::from_slice(alloc, HEAD)?;

@@ -5,7 +5,7 @@ ghost use Rattle.bpf_insn.specs.Instruction.{slots};
 ghost use Rattle.bpf_insn.specs.Limits.{max_context};
 ghost use Rattle.bpf_changes.specs.RefusalNumbers.{harden_slot};
 
-use crate::judge::{Verdict, verdict_of};
+use crate::judge::{LoopVerdict, verdict_of};
 use crate::rounds::{certified, guard_all, guarded_everywhere};
 use bpf_cert::Certificate;
 use bpf_changes::{HardenError, Hardened, Options};
@@ -63,8 +63,8 @@ fn found_for<W: Watch>(
 {
     let draft = old.survey.draft.take();
     match verdict_of(Task::whole(alloc, quest, &old.cfg), draft, meter)? {
-        Verdict::Yes(certificate) => Ok(Some(certificate)),
-        Verdict::Faults | Verdict::Uncounted(_) | Verdict::TooGreat => Ok(None),
+        LoopVerdict::Yes(certificate) => Ok(Some(certificate)),
+        LoopVerdict::Faults | LoopVerdict::Uncounted(_) | LoopVerdict::TooGreat => Ok(None),
     }
 }
 

@@ -12,7 +12,7 @@ use std::alloc::Global;
 
 /// What the deep search says of a program's loops.
 #[derive(Drop)]
-pub enum Verdict {
+pub enum LoopVerdict {
     /// This is a certificate.
     Yes(Certificate),
     /// Instructions are refused.
@@ -25,11 +25,11 @@ pub enum Verdict {
 
 /// The text of a program under a plan, and what the deep search says of it.
 #[derive(Drop)]
-pub struct Trial {
+pub struct JudgedText {
     pub draft: Draft,
     pub rooms: Rooms,
     pub survey: Survey,
-    pub verdict: Verdict,
+    pub verdict: LoopVerdict,
 }
 
 /// What the loops of a draft come to.
@@ -37,48 +37,48 @@ pub fn verdict_of<W: Watch>(
     task: Task,
     draft: Option<Vec<Function>>,
     meter: &mut Meter<'_, W>,
-) -> Result<Verdict, HardenError>
+) -> Result<LoopVerdict, HardenError>
     requires { task.least ≤ task.most }
 {
     let Some(functions) = draft else {
-        return Ok(Verdict::Faults);
+        return Ok(LoopVerdict::Faults);
     };
     let loops = uncounted(task, &functions, meter).map_err(refusal)?;
     if !loops.is_empty() {
-        return Ok(Verdict::Uncounted(loops));
+        return Ok(LoopVerdict::Uncounted(loops));
     }
     match ranked(task, functions, meter) {
         Ok(found) => {
             match Certificate::new(2, task.least, task.most, found.steps, found.functions) {
-                Ok(certificate) => Ok(Verdict::Yes(certificate)),
-                Err(_) => Ok(Verdict::TooGreat),
+                Ok(certificate) => Ok(LoopVerdict::Yes(certificate)),
+                Err(_) => Ok(LoopVerdict::TooGreat),
             }
         }
         Err(stop) => match stop.error {
-            InferError::NoBudget { .. } => Ok(Verdict::TooGreat),
+            InferError::NoBudget { .. } => Ok(LoopVerdict::TooGreat),
             error => Err(refusal(error)),
         },
     }
 }
 
-impl Verdict {
+impl LoopVerdict {
     /// The greatest number of steps of a run, if there is a certificate.
     pub fn bound(&self) -> Option<u32> {
         match self {
-            Verdict::Yes(certificate) => Some(certificate.steps()),
-            Verdict::Faults | Verdict::Uncounted(_) | Verdict::TooGreat => None,
+            LoopVerdict::Yes(certificate) => Some(certificate.steps()),
+            LoopVerdict::Faults | LoopVerdict::Uncounted(_) | LoopVerdict::TooGreat => None,
         }
     }
 }
 
-impl Trial {
+impl JudgedText {
     /// The text of a program under a plan, judged.
     pub fn of<W: Watch>(
         alloc: Global,
         old: &Old,
         plan: &Plan,
         meter: &mut Meter<'_, W>,
-    ) -> Result<Trial, HardenError> {
+    ) -> Result<JudgedText, HardenError> {
         let rooms = Rooms::of(alloc, old, plan)?;
         let draft = emitted(alloc, old, plan, &rooms)?;
         let quest = Quest {
@@ -90,7 +90,7 @@ impl Trial {
         let task = Task::whole(alloc, quest, &cfg);
         let mut survey = surveyed(task, meter).map_err(refusal)?;
         let verdict = verdict_of(task, survey.draft.take(), meter)?;
-        Ok(Trial {
+        Ok(JudgedText {
             draft,
             rooms,
             survey,

@@ -1,10 +1,10 @@
 //! What is changed where the new text is refused: all faults of a round together.
 
-use crate::judge::Trial;
-use crate::sums::Sums;
+use crate::judge::JudgedText;
+use crate::sums::GuardedSum;
 use bpf_changes::{Change, HardenError};
-use bpf_harden_text::{Guard, Kind, Old, Plan, Span};
-use bpf_infer_base::Condition;
+use bpf_harden_text::{ByteSpan, Guard, Old, Plan, RegisterKind};
+use bpf_infer_base::ForeseenCondition;
 use bpf_insn::{Access, Insn, Reg};
 use bpf_state::{RegState, StateFault};
 
@@ -26,13 +26,13 @@ const LONGEST_SPAN: u32 = 32;
 #[derive(Clone, Copy)]
 pub struct Mender<'a> {
     pub old: &'a Old<'a>,
-    pub trial: &'a Trial,
+    pub trial: &'a JudgedText,
 }
 
 impl<'a> Mender<'a> {
     /// The fault at a slot of the new text.
     fn flaw(&self, new: u32) -> Option<Flaw> {
-        let Condition::State(fault) = self.trial.survey.fault(new)? else {
+        let ForeseenCondition::State(fault) = self.trial.survey.fault(new)? else {
             return None;
         };
         let slot = self.trial.draft.owner(new).old;
@@ -44,7 +44,7 @@ impl<'a> Mender<'a> {
     }
 
     /// Whether a fault asks for pointers of a kind as offsets.
-    fn asks_for(&self, flaw: &Flaw, kind: Kind) -> bool {
+    fn asks_for(&self, flaw: &Flaw, kind: RegisterKind) -> bool {
         if !matches!(flaw.fault, StateFault::WrongKinds | StateFault::OutOfBounds) {
             return false;
         }
@@ -57,14 +57,14 @@ impl<'a> Mender<'a> {
     }
 
     /// Whether some fault asks for pointers of a kind as offsets.
-    fn is_asked_for(&self, kind: Kind) -> bool {
+    fn is_asked_for(&self, kind: RegisterKind) -> bool {
         let mut flaws = (0..self.trial.draft.program.slots()).filter_map(|new| self.flaw(new));
         flaws.any(|flaw| self.asks_for(&flaw, kind))
     }
 
     /// Changes the plan so that faults may go away. Whether something was changed.
     pub fn mend(&self, plan: &mut Plan) -> bool {
-        if !plan.offsets && self.is_asked_for(Kind::Context) {
+        if !plan.offsets && self.is_asked_for(RegisterKind::Context) {
             plan.offsets = true;
             return true;
         }
@@ -74,7 +74,7 @@ impl<'a> Mender<'a> {
                 is_changed = self.mend_flaw(plan, &flaw) || is_changed;
             }
         }
-        if !is_changed && !plan.frames && self.is_asked_for(Kind::Frame) {
+        if !is_changed && !plan.frames && self.is_asked_for(RegisterKind::Frame) {
             plan.frames = true;
             return true;
         }
@@ -104,12 +104,12 @@ impl<'a> Mender<'a> {
             return false;
         }
         let span = if plan.options.padded {
-            Span::of(access)
+            ByteSpan::of(access)
         } else {
             self.span(flaw.slot, access)
         };
         let is_exact = self.may_wrap(flaw.slot, access.base, span.from);
-        let sum = Sums {
+        let sum = GuardedSum {
             mender: *self,
             access: flaw.slot,
             base: access.base,
@@ -133,8 +133,8 @@ impl<'a> Mender<'a> {
 
     /// The bytes of an access and of those by the same base that surely follow it: where one of them leaves its region, the run
     /// has done nothing in between that could be seen, so all are tested at once.
-    fn span(&self, slot: u32, access: Access) -> Span {
-        let mut span = Span::of(access);
+    fn span(&self, slot: u32, access: Access) -> ByteSpan {
+        let mut span = ByteSpan::of(access);
         let mut last = slot;
         for _ in 0..LONGEST_SPAN {
             if self.writes(last, access.base) {
@@ -145,7 +145,7 @@ impl<'a> Mender<'a> {
             };
             last = next;
             span = match self.old.access(last) {
-                Some(other) if other.base == access.base => span.with(Span::of(other)),
+                Some(other) if other.base == access.base => span.with(ByteSpan::of(other)),
                 _ => span,
             };
         }
@@ -254,12 +254,14 @@ impl<'a> Mender<'a> {
         };
         let slot = self.trial.draft.owner(new).old;
         if let Some(access) = self.old.program.at(slot).and_then(|insn| insn.access()) {
-            if self.old.kind(slot, access.base) == Kind::Unknown {
+            if self.old.kind(slot, access.base) == RegisterKind::Unknown {
                 return self.old.unknown_base(slot);
             }
         }
         match self.trial.survey.fault(new) {
-            Some(Condition::State(StateFault::UnsetRegister)) => HardenError::MixedKinds { slot },
+            Some(ForeseenCondition::State(StateFault::UnsetRegister)) => HardenError::MixedKinds {
+                slot,
+            },
             Some(condition) => HardenError::Fault { slot, condition },
             None => HardenError::Unstable { slot },
         }

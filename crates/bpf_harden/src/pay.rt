@@ -1,6 +1,6 @@
 //! Loops that are counted by a number of the program's own, though a counter of turns would give them a smaller budget.
 
-use crate::judge::{Trial, Verdict};
+use crate::judge::{JudgedText, LoopVerdict};
 use bpf_cert::{Label, Measure, Term};
 use bpf_harden_text::{Old, Plan, Rooms};
 use bpf_infer_base::{Flow, PlaceSet};
@@ -12,7 +12,7 @@ use std::alloc::{AllocError, Global};
 pub struct Payer<'a> {
     pub old: &'a Old<'a>,
     pub plan: &'a Plan,
-    pub trial: &'a Trial,
+    pub trial: &'a JudgedText,
 }
 
 /// What a term measures by.
@@ -55,7 +55,7 @@ fn counts_in(rooms: &Rooms, first: u32, end: u32, place: Place) -> bool {
 impl<'a> Payer<'a> {
     /// The label of the certificate at a slot of the new program.
     fn label(&self, new: u32) -> Option<&'a Label> {
-        let Verdict::Yes(certificate) = &self.trial.verdict else {
+        let LoopVerdict::Yes(certificate) = &self.trial.verdict else {
             return None;
         };
         let mut functions = certificate.functions().iter().rev();

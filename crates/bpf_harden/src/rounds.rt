@@ -1,14 +1,14 @@
 //! Rounds: the new text is written and judged, and the plan mended by what is said of it, until it has a certificate.
 
 use crate::heads::heads_of;
-use crate::judge::{Trial, Verdict};
+use crate::judge::{JudgedText, LoopVerdict};
 use crate::mend::Mender;
 use crate::pay::Payer;
 use crate::record::recorded;
 use crate::slim::slim;
 use crate::wide::widen_all;
 use bpf_changes::{HardenError, Hardened};
-use bpf_harden_text::{Guard, Kind, Old, Plan, Rooms, Span, emitted};
+use bpf_harden_text::{ByteSpan, Guard, Old, Plan, RegisterKind, Rooms, emitted};
 use bpf_infer_base::{Flow, Meter, Watch, get_or, put};
 use std::alloc::{AllocError, Global};
 
@@ -26,7 +26,7 @@ const NARROWINGS: u32 = 32;
 
 /// A plan, and whether its operations were made wider.
 #[derive(Drop)]
-struct Rounds<'a> {
+struct WidenedPlan<'a> {
     alloc: Global,
     old: &'a Old<'a>,
     plan: Plan,
@@ -35,21 +35,21 @@ struct Rounds<'a> {
     heads: Vec<Option<u32>>,
 }
 
-impl<'a> Rounds<'a> {
+impl<'a> WidenedPlan<'a> {
     /// Changes the plan by what is said of its text. The refusal where nothing helps.
-    fn change(&mut self, trial: &Trial) -> Result<(), HardenError> {
+    fn change(&mut self, trial: &JudgedText) -> Result<(), HardenError> {
         let is_changed = match &trial.verdict {
-            Verdict::Yes(_) => true,
-            Verdict::Faults => self.mend(trial)?,
-            Verdict::Uncounted(loops) => self.count(trial, loops)? || self.share(trial, loops),
-            Verdict::TooGreat => count_all(self.old, &mut self.plan),
+            LoopVerdict::Yes(_) => true,
+            LoopVerdict::Faults => self.mend(trial)?,
+            LoopVerdict::Uncounted(loops) => self.count(trial, loops)? || self.share(trial, loops),
+            LoopVerdict::TooGreat => count_all(self.old, &mut self.plan),
         };
         if is_changed {
             return Ok(());
         }
         // At the first loop that isn't counted though it has a counter of turns.
         let label = match &trial.verdict {
-            Verdict::Uncounted(loops) => loops.first(),
+            LoopVerdict::Uncounted(loops) => loops.first(),
             _ => None,
         };
         let slot = label.map_or(0, |label| trial.draft.owner(*label).old);
@@ -57,7 +57,7 @@ impl<'a> Rounds<'a> {
     }
 
     /// Mends all faults.
-    fn mend(&mut self, trial: &Trial) -> Result<bool, HardenError> {
+    fn mend(&mut self, trial: &JudgedText) -> Result<bool, HardenError> {
         let old = self.old;
         let mender = Mender { old, trial };
         let is_dead = trial.survey.lowest_fault().is_none();
@@ -69,7 +69,7 @@ impl<'a> Rounds<'a> {
     }
 
     /// Makes operations wider, or else counts the turns of loops. Whether something was changed.
-    fn count(&mut self, trial: &Trial, loops: &[u32]) -> Result<bool, HardenError> {
+    fn count(&mut self, trial: &JudgedText, loops: &[u32]) -> Result<bool, HardenError> {
         if !self.is_widened {
             self.is_widened = true;
             if widen_all(self.old, &mut self.plan, &trial.draft, &trial.survey) {
@@ -100,7 +100,7 @@ impl<'a> Rounds<'a> {
     }
 
     /// Counts the turns of all loops of a function together, where they jump into one another. Whether something was changed.
-    fn share(&mut self, trial: &Trial, loops: &[u32]) -> bool {
+    fn share(&mut self, trial: &JudgedText, loops: &[u32]) -> bool {
         let mut is_changed = false;
         for label in loops {
             let function = self.old.function(trial.draft.owner(*label).old);
@@ -113,9 +113,9 @@ impl<'a> Rounds<'a> {
     }
 
     /// The first text that has a certificate.
-    fn run<W: Watch>(&mut self, meter: &mut Meter<'_, W>) -> Result<Trial, HardenError> {
+    fn run<W: Watch>(&mut self, meter: &mut Meter<'_, W>) -> Result<JudgedText, HardenError> {
         for _ in 0..ROUNDS {
-            let trial = Trial::of(self.alloc, self.old, &self.plan, meter)?;
+            let trial = JudgedText::of(self.alloc, self.old, &self.plan, meter)?;
             if trial.verdict.bound().is_some() {
                 return Ok(trial);
             }
@@ -126,7 +126,7 @@ impl<'a> Rounds<'a> {
 
     /// Takes the tests away that never hold, and folds offsets that are always the same; where there is nothing of these, loosens
     /// guards. Whether there was something.
-    fn trim(&mut self, trial: &Trial) -> bool {
+    fn trim(&mut self, trial: &JudgedText) -> bool {
         let old = self.old;
         let mender = Mender { old, trial };
         let is_slimmer = slim(&mut self.plan, trial);
@@ -137,14 +137,14 @@ impl<'a> Rounds<'a> {
     /// The last of the trimmed texts that has a certificate.
     fn trimmed<W: Watch>(
         &mut self,
-        mut trial: Trial,
+        mut trial: JudgedText,
         meter: &mut Meter<'_, W>,
-    ) -> Result<Trial, HardenError> {
+    ) -> Result<JudgedText, HardenError> {
         for _ in 0..TRIMS {
             if !self.trim(&trial) {
                 break;
             }
-            match Trial::of(self.alloc, self.old, &self.plan, meter) {
+            match JudgedText::of(self.alloc, self.old, &self.plan, meter) {
                 Ok(slimmer) if slimmer.verdict.bound().is_some() => trial = slimmer,
                 _ => break,
             }
@@ -153,10 +153,10 @@ impl<'a> Rounds<'a> {
     }
 }
 
-impl<'a> Rounds<'a> {
+impl<'a> WidenedPlan<'a> {
     /// The text of the plan, if it has a certificate with a bound of at most so much.
-    fn within<W: Watch>(&self, most: u32, meter: &mut Meter<'_, W>) -> Option<Trial> {
-        let trial = Trial::of(self.alloc, self.old, &self.plan, meter).ok()?;
+    fn within<W: Watch>(&self, most: u32, meter: &mut Meter<'_, W>) -> Option<JudgedText> {
+        let trial = JudgedText::of(self.alloc, self.old, &self.plan, meter).ok()?;
         (trial.verdict.bound()? <= most).then_some(trial)
     }
 
@@ -164,9 +164,9 @@ impl<'a> Rounds<'a> {
     /// is smaller; or else of each for which that gives a smaller bound.
     fn paid<W: Watch>(
         &mut self,
-        mut trial: Trial,
+        mut trial: JudgedText,
         meter: &mut Meter<'_, W>,
-    ) -> Result<Trial, HardenError> {
+    ) -> Result<JudgedText, HardenError> {
         let payer = Payer {
             old: self.old,
             plan: &self.plan,
@@ -205,11 +205,11 @@ impl<'a> Rounds<'a> {
     /// The text with counters at these slots, or without them, if it has a smaller bound; else the plan stays.
     fn counted<W: Watch>(
         &mut self,
-        trial: &Trial,
+        trial: &JudgedText,
         slots: &[u32],
         are_there: bool,
         meter: &mut Meter<'_, W>,
-    ) -> Option<Trial> {
+    ) -> Option<JudgedText> {
         let less = trial.verdict.bound()?.checked_sub(1)?;
         self.put_counters(slots, are_there);
         let cheaper = self.within(less, meter);
@@ -230,9 +230,9 @@ impl<'a> Rounds<'a> {
     /// has a certificate whose bound is no greater.
     fn narrowed<W: Watch>(
         &mut self,
-        mut trial: Trial,
+        mut trial: JudgedText,
         meter: &mut Meter<'_, W>,
-    ) -> Result<Trial, HardenError> {
+    ) -> Result<JudgedText, HardenError> {
         let wide = self.widened()?;
         let mut halves = vec![in self.alloc; Half::all(&wide)]?;
         for _ in 0..NARROWINGS {
@@ -296,7 +296,7 @@ impl Half {
 }
 
 /// The old slots that labels of the new text belong to.
-fn old_slots(alloc: Global, trial: &Trial, labels: &[u32]) -> Result<Vec<u32>, AllocError> {
+fn old_slots(alloc: Global, trial: &JudgedText, labels: &[u32]) -> Result<Vec<u32>, AllocError> {
     labels
         .iter()
         .map(|label| trial.draft.owner(*label).old)
@@ -310,7 +310,7 @@ pub fn certified<W: Watch>(
     plan: Plan,
     meter: &mut Meter<'_, W>,
 ) -> Result<Hardened, HardenError> {
-    let mut rounds = Rounds {
+    let mut rounds = WidenedPlan {
         alloc,
         old,
         plan,
@@ -321,15 +321,15 @@ pub fn certified<W: Watch>(
     let trial = rounds.paid(trial, meter)?;
     let trial = rounds.trimmed(trial, meter)?;
     let trial = rounds.narrowed(trial, meter)?;
-    let Trial {
+    let JudgedText {
         draft,
         rooms,
         verdict,
         ..
     } = trial;
     let certificate = match verdict {
-        Verdict::Yes(certificate) => Some(certificate),
-        Verdict::Faults | Verdict::Uncounted(_) | Verdict::TooGreat => None,
+        LoopVerdict::Yes(certificate) => Some(certificate),
+        LoopVerdict::Faults | LoopVerdict::Uncounted(_) | LoopVerdict::TooGreat => None,
     };
     recorded(alloc, old, &rooms, draft, certificate)
 }
@@ -362,7 +362,10 @@ pub fn guard_all(old: &Old, plan: &mut Plan) {
     for slot in 0..old.program.slots() {
         if let Some(access) = old.access(slot) {
             if plan.is_offset(old.kind(slot, access.base), access.base) {
-                plan.set_guard(slot, Some(Guard::both(Span::of(access), access.off != 0)));
+                plan.set_guard(
+                    slot,
+                    Some(Guard::both(ByteSpan::of(access), access.off != 0)),
+                );
             }
         }
     }
@@ -373,7 +376,10 @@ pub fn guard_all(old: &Old, plan: &mut Plan) {
 fn first_unknown(old: &Old) -> Result<(), HardenError> {
     for slot in 0..old.program.slots() {
         if let Some(access) = old.access(slot) {
-            if matches!(old.kind(slot, access.base), Kind::Unknown | Kind::Number) {
+            if matches!(
+                old.kind(slot, access.base),
+                RegisterKind::Unknown | RegisterKind::Number
+            ) {
                 return Err(old.unknown_base(slot));
             }
         }

@@ -1,13 +1,13 @@
 //! Tests that never lead to the trap are taken away again: all at once, since what holds behind a test that never fails holds in
 //! front of it.
 
-use crate::judge::Trial;
+use crate::judge::JudgedText;
 use bpf_changes::Change;
 use bpf_harden_text::{Guard, Plan};
 use bpf_insn::{Cond, Insn, Operand};
 
 /// The bounds of what is compared with.
-fn bounds(trial: &Trial, new: u32, src: Operand) -> (u64, u64) {
+fn bounds(trial: &JudgedText, new: u32, src: Operand) -> (u64, u64) {
     match src {
         Operand::Imm(imm) => {
             let number = i64::from(imm).cast_unsigned();
@@ -18,7 +18,7 @@ fn bounds(trial: &Trial, new: u32, src: Operand) -> (u64, u64) {
 }
 
 /// Whether the lower end is tested behind the test of the upper one. It isn't where no offset lies below it.
-fn tests_low_behind(trial: &Trial, new: u32) -> bool {
+fn tests_low_behind(trial: &JudgedText, new: u32) -> bool {
     let next = new.saturating_add(1);
     let owner = trial.draft.owner(next);
     let is_same = owner.change == Some(Change::Guard) && owner.old == trial.draft.owner(new).old;
@@ -29,7 +29,7 @@ fn tests_low_behind(trial: &Trial, new: u32) -> bool {
 }
 
 /// The guard without a test at a slot of the new text, if that never holds.
-fn without(trial: &Trial, new: u32, guard: Guard) -> Guard {
+fn without(trial: &JudgedText, new: u32, guard: Guard) -> Guard {
     let Some(Insn::JumpIf { cond, dst, src, .. }) = trial.draft.program.at(new) else {
         return guard;
     };
@@ -51,7 +51,7 @@ fn without(trial: &Trial, new: u32, guard: Guard) -> Guard {
 }
 
 /// Takes away the tests of guards that never hold. Whether there was one.
-pub fn slim(plan: &mut Plan, trial: &Trial) -> bool {
+pub fn slim(plan: &mut Plan, trial: &JudgedText) -> bool {
     let mut is_changed = false;
     for new in 0..trial.draft.program.slots() {
         let owner = trial.draft.owner(new);

@@ -1,7 +1,7 @@
 //! Where the base of an access gets its offset: by a sum in front of it, of what is always the same and a number that isn't.
 
 use crate::mend::Mender;
-use bpf_harden_text::{Early, Kind, Plan, Span};
+use bpf_harden_text::{ByteSpan, Early, Plan, RegisterKind};
 use bpf_insn::{AluOp, FRAME_BYTES, Insn, Operand, Reg, Width};
 
 /// How many instructions may lie between a sum and the access.
@@ -12,14 +12,14 @@ const MOST_OFFSET: u64 = 8192;
 
 /// An access that is to be guarded, and what of it is tested.
 #[derive(Clone, Copy)]
-pub struct Sums<'a> {
+pub struct GuardedSum<'a> {
     pub mender: Mender<'a>,
     pub access: u32,
     pub base: Reg,
-    pub span: Span,
+    pub span: ByteSpan,
 }
 
-impl<'a> Sums<'a> {
+impl<'a> GuardedSum<'a> {
     /// The early test of the access, and the slot of the sum in front of which it stands, if what is added tells as much as the
     /// sum: then a loop may be counted by it. Nothing leads out of the way from there to the access.
     pub fn early(&self, plan: &Plan) -> Option<(u32, Early)> {
@@ -53,8 +53,10 @@ impl<'a> Sums<'a> {
     /// The offset at which the region ends.
     fn end(&self, plan: &Plan) -> i64 {
         match self.mender.old.kind(self.access, self.base) {
-            Kind::Frame => FRAME_BYTES as i64,
-            Kind::Context | Kind::Number | Kind::Unknown => i64::from(plan.length),
+            RegisterKind::Frame => FRAME_BYTES as i64,
+            RegisterKind::Context | RegisterKind::Number | RegisterKind::Unknown => i64::from(
+                plan.length,
+            ),
         }
     }
 

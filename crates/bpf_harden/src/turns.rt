@@ -55,7 +55,7 @@ struct Fitting<'a> {
 
 /// A number of turns, and the bound with them. None where that isn't known to be within the limits of a certificate.
 #[derive(Clone, Copy)]
-struct Dear {
+struct PricedTurns {
     turns: u32,
     bound: Option<u32>,
 }
@@ -64,7 +64,7 @@ struct Dear {
 #[derive(Drop)]
 enum Tried {
     Fits(Fitted),
-    Dear(Dear),
+    PricedTurns(PricedTurns),
 }
 
 /// The bound of a hardened program.
@@ -96,7 +96,7 @@ impl<'a> Fitting<'a> {
         let hardened = match self.hardened(turns, meter) {
             Ok(hardened) => hardened,
             Err(HardenError::NoBudget { .. } | HardenError::Unstable { .. }) => {
-                return Ok(Tried::Dear(Dear { turns, bound: None }));
+                return Ok(Tried::Dear(PricedTurns { turns, bound: None }));
             }
             Err(error) => return Err(error),
         };
@@ -104,7 +104,7 @@ impl<'a> Fitting<'a> {
         if bound.is_some_and(|bound| bound <= self.bound) {
             Ok(Tried::Fits(Fitted { hardened, turns }))
         } else {
-            Ok(Tried::Dear(Dear { turns, bound }))
+            Ok(Tried::Dear(PricedTurns { turns, bound }))
         }
     }
 
@@ -119,7 +119,7 @@ impl<'a> Fitting<'a> {
 
     /// The number of turns to be tried between one that fits and one that is too dear: where the line through both bounds comes to the greatest,
     /// or else half way between their digits.
-    fn between(&self, fits: &Fitted, dear: Dear, is_halved: bool) -> Option<u32> {
+    fn between(&self, fits: &Fitted, dear: PricedTurns, is_halved: bool) -> Option<u32> {
         let low = u64::from(fits.turns);
         let high = u64::from(dear.turns);
         let room = high.checked_sub(low)?.checked_sub(1)?;
@@ -144,7 +144,7 @@ impl<'a> Fitting<'a> {
     fn greatest<W: Watch>(
         &self,
         mut fits: Fitted,
-        mut dear: Dear,
+        mut dear: PricedTurns,
         meter: &mut Meter<'_, W>,
     ) -> Result<Fitted, Unfit> {
         for count in 0..TRIES {

@@ -1,9 +1,9 @@
 //! What registers hold behind an old instruction and what stands for it.
 
 use crate::facts::{Facts, REGISTERS, offset_area, offset_bounds, slot_at};
-use bpf_follows::{Area, Kind, Site, by_exact, is_blurred};
 use bpf_follows::inner::misses;
 use bpf_follows::numbers::{number_kind, told};
+use bpf_follows::{Area, Kind, Site, by_exact, is_blurred};
 use bpf_insn::{Access, AluOp, FRAME_BYTES, Insn, Operand, Reg, Size, Width};
 
 /// What a copy of a register holds.
@@ -124,7 +124,7 @@ fn stored(facts: &Facts, insn: &Insn) -> Kind {
 }
 
 /// How many slots the frame has.
-const SLOTS: u8 = 64;
+const SLOTS: u8 = bpf_insn::FRAME_SLOTS as u8;
 
 /// Whether an access by r10 goes to a slot.
 fn touches(access: Access, slot: u8) -> bool {
@@ -242,7 +242,7 @@ fn tell(facts: &mut Facts, site: &Site, taken: bool) {
 
 /// What frames are left alone.
 #[derive(Clone, Copy)]
-pub struct Frames {
+pub struct UntouchedFrames {
     /// Whether each function of the old program leaves the frames of others alone.
     pub are_alone: bool,
     /// How many of the lowest bytes of each frame it accesses by r10 alone.
@@ -251,7 +251,7 @@ pub struct Frames {
 
 /// The instruction was done in both programs, and led away (`taken`) or went on. A call may write to the frame, unless functions leave the
 /// frames of others alone.
-pub fn step(facts: &mut Facts, site: &Site, taken: bool, frames: Frames) {
+pub fn step(facts: &mut Facts, site: &Site, taken: bool, frames: UntouchedFrames) {
     tell(facts, site, taken);
     facts.forget_saved();
     write_frame(facts, site, frames.untouched);

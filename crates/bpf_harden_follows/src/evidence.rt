@@ -7,14 +7,14 @@ ghost use Rattle.bpf_follows.specs.Mismatches.{IsMismatch};
 
 use crate::places::{MOST_LOOKS, places_within};
 use bpf_changes::Hardened;
-use bpf_follows::{Bounds, Mismatch, Place, follows};
+use bpf_follows::{Bounds, Counterpart, Mismatch, follows};
 use bpf_insn::{FRAME_BYTES, Program};
 use std::alloc::{AllocError, Global};
 
 /// Notes of a hardened program, and what of them fails, if something does.
 #[derive(Drop)]
 pub struct Evidence {
-    pub notes: Vec<Option<Place>>,
+    pub notes: Vec<Option<Counterpart>>,
     /// How many of the lowest bytes of each frame runs of the old program have to leave to r10.
     pub untouched: u32,
     pub mismatch: Option<Mismatch>,

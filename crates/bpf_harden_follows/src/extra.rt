@@ -1,8 +1,8 @@
 //! Extra instructions: what they leave in the new program's registers, while the old one stands still.
 
 use crate::facts::{Facts, between, ends_of, is_free, offset_area, slot_at};
-use bpf_follows::{Area, Kind};
 use bpf_follows::keeps::restored;
+use bpf_follows::{Area, Kind};
 use bpf_insn::{AluOp, Cond, Insn, Operand, Reg, Size, Width};
 use bpf_semantics::HEAD_BYTES;
 

@@ -5,7 +5,7 @@ use bpf_insn::{FRAME_BYTES, Reg};
 use bpf_semantics::HEAD_BYTES;
 
 /// How many registers there are. Behind them come the frame's slots, the lowest first.
-pub const REGISTERS: usize = 11;
+pub const REGISTERS: usize = bpf_insn::REGISTERS;
 
 /// What r0 to r10 of the new program hold, and the slots of its frame.
 #[derive(Clone, Copy)]

@@ -1,12 +1,14 @@
 //! The places of a hardened program, by the slots of the old one: an abstract interpretation of both, with widening (Cousot and Cousot,
 //! 1977). The lowest slot is looked at first, so that a loop is settled before what stands behind it.
 
-use crate::behind::{Frames, step};
+use crate::behind::{UntouchedFrames, step};
 use crate::extra::{pass, taken, tested};
 use crate::facts::Facts;
 use crate::returns::Returns;
 use bpf_changes::{Change, Hardened};
-use bpf_follows::{Bounds, Kind, PLACES, Place, Site, is_far, is_homed, is_stuck, may_fall, may_lead};
+use bpf_follows::{
+    Bounds, Counterpart, Kind, PLACES, Site, is_far, is_homed, is_stuck, may_fall, may_lead,
+};
 use bpf_infer_base::{Call, SlotSet, calls_of, get_or, held, put};
 use bpf_insn::{AluOp, Insn, MAX_SLOTS, Operand, Program, Reg, Width, target};
 use std::alloc::{AllocError, Global};
@@ -48,7 +50,7 @@ struct Finder<'a> {
     looks: u32,
     /// The bytes of a context.
     length: u32,
-    frames: Frames,
+    frames: UntouchedFrames,
     /// By old slots, how often that was changed.
     times: Vec<u32>,
     /// What the functions give back.
@@ -110,7 +112,7 @@ impl<'a> Finder<'a> {
         old: &'a Program,
         new: &'a Hardened,
         length: u32,
-        frames: Frames,
+        frames: UntouchedFrames,
         left: u32,
     ) -> Result<Finder<'a>, AllocError> {
         let mut changes = vec![in alloc; None; new.program.slots() as usize]?;
@@ -388,12 +390,12 @@ impl<'a> Finder<'a> {
     }
 
     /// What stands for an old slot, if a way leads there.
-    fn place(&self, slot: u32) -> Option<Place> {
+    fn place(&self, slot: u32) -> Option<Counterpart> {
         let mut facts = get_or(&self.facts, slot as usize, None)?;
         if let Some(Kind::Number { least, most }) = self.returns.of(slot) {
             facts.set(Reg::R10, Kind::Returns { least, most });
         }
-        Some(Place {
+        Some(Counterpart {
             entry: self.entry(slot)?,
             first: self.first(slot)?,
             body: self.body(slot)?,
@@ -402,7 +404,7 @@ impl<'a> Finder<'a> {
     }
 
     /// Where a program falls behind its last instruction, which has nothing there.
-    fn beyond(&self) -> Option<Place> {
+    fn beyond(&self) -> Option<Counterpart> {
         let mut last = None;
         for slot in 0..self.old.slots() {
             if let Some(insn) = self.old.at(slot) {
@@ -413,7 +415,7 @@ impl<'a> Finder<'a> {
         let behind = self.behind(place.body);
         let mut kinds = [Kind::Nothing; PLACES];
         kinds[Reg::R10 as usize] = place.kinds[Reg::R10 as usize];
-        Some(Place {
+        Some(Counterpart {
             entry: behind,
             first: behind,
             body: behind,
@@ -432,7 +434,7 @@ fn found<'a>(
     left: &mut u32,
 ) -> Result<Finder<'a>, AllocError> {
     let untouched = bounds.untouched;
-    let frames = Frames {
+    let frames = UntouchedFrames {
         are_alone,
         untouched,
     };
@@ -457,7 +459,7 @@ pub(crate) fn places_within(
     new: &Hardened,
     bounds: Bounds,
     left: &mut u32,
-) -> Result<Vec<Option<Place>>, AllocError> {
+) -> Result<Vec<Option<Counterpart>>, AllocError> {
     let mut finder = found(alloc, old, new, bounds, true, left)?;
     if finder.is_reaching() {
         finder = found(alloc, old, new, bounds, false, left)?;
@@ -480,7 +482,7 @@ pub fn places_of(
     old: &Program,
     new: &Hardened,
     bounds: Bounds,
-) -> Result<Vec<Option<Place>>, AllocError> {
+) -> Result<Vec<Option<Counterpart>>, AllocError> {
     let mut left = MOST_LOOKS;
     places_within(alloc, old, new, bounds, &mut left)
 }

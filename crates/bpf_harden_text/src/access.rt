@@ -2,11 +2,11 @@
 
 use crate::edits::{loaded, with_base};
 use crate::parts::{add, add_constant, alu, constant, copy, displacement, fetch, is_near};
-use crate::plan::{Guard, Span};
-use crate::region::Region;
-use crate::share::{Made, Share, stores};
+use crate::plan::{ByteSpan, Guard};
+use crate::region::AccessRegion;
+use crate::share::{Share, SharedPointer, stores};
 use crate::temps::{Temp, Way, first_of};
-use crate::writer::Writer;
+use crate::writer::TextWriter;
 use bpf_changes::{Change, HardenError};
 use bpf_infer_base::PlaceSet;
 use bpf_insn::{Access, AluOp, Cond, Insn, Operand, Reg};
@@ -15,15 +15,15 @@ use std::alloc::AllocError;
 
 /// An access by an offset.
 #[derive(Clone, Copy)]
-pub struct Site {
+pub struct AccessSite {
     pub slot: u32,
     pub insn: Insn,
     pub access: Access,
-    pub region: Region,
+    pub region: AccessRegion,
     pub guard: Option<Guard>,
 }
 
-impl Site {
+impl AccessSite {
     /// How many bytes it accesses.
     fn bytes(&self) -> i64 {
         i64::from(self.access.size.bytes())
@@ -53,8 +53,9 @@ impl Site {
     }
 
     /// The bytes that its guard tests: its own, and those of further accesses that surely follow.
-    fn span(&self) -> Span {
-        self.guard.map_or(Span::of(self.access), |guard| guard.span)
+    fn span(&self) -> ByteSpan {
+        self.guard
+            .map_or(ByteSpan::of(self.access), |guard| guard.span)
     }
 
     /// How many bytes its guard tests.
@@ -101,9 +102,9 @@ impl Site {
     }
 }
 
-impl<'a> Writer<'a> {
+impl<'a> TextWriter<'a> {
     /// Puts an access by an offset. Whether the next instruction may follow.
-    pub fn access(&mut self, site: &Site) -> Result<bool, HardenError> {
+    pub fn access(&mut self, site: &AccessSite) -> Result<bool, HardenError> {
         let constant = self.plan.at(site.slot).constant;
         if self.always_leaves(site, constant) {
             self.trap(site.slot)?;
@@ -123,7 +124,7 @@ impl<'a> Writer<'a> {
     }
 
     /// Whether a guard leads to the trap whenever it is reached.
-    fn always_leaves(&self, site: &Site, constant: Option<i64>) -> bool {
+    fn always_leaves(&self, site: &AccessSite, constant: Option<i64>) -> bool {
         if site.guard.is_none() {
             return false;
         }
@@ -138,7 +139,7 @@ impl<'a> Writer<'a> {
     }
 
     /// Puts an access at an offset that is always the same, if it can be put so.
-    fn access_at(&mut self, site: &Site, at: i64) -> Result<bool, AllocError> {
+    fn access_at(&mut self, site: &AccessSite, at: i64) -> Result<bool, AllocError> {
         let from_origin = at.saturating_sub(site.region.origin);
         let Some(pointer) = site.register_for(site.region.base) else {
             return Ok(false);
@@ -157,7 +158,7 @@ impl<'a> Writer<'a> {
 
     /// Leads to the trap if a region ends in front of an offset, where that is known as the program runs. False if there is no
     /// register for it.
-    fn test_end_at(&mut self, site: &Site, offset: i64) -> Result<bool, AllocError> {
+    fn test_end_at(&mut self, site: &AccessSite, offset: i64) -> Result<bool, AllocError> {
         let (Some(_), Some(end)) = (site.guard, site.region.end) else {
             return Ok(true);
         };
@@ -172,7 +173,7 @@ impl<'a> Writer<'a> {
     }
 
     /// Puts an access at an offset that a register holds.
-    fn access_moved(&mut self, site: &Site) -> Result<(), HardenError> {
+    fn access_moved(&mut self, site: &AccessSite) -> Result<(), HardenError> {
         let share = self.share(site);
         let temp = self.temp(site, share)?;
         let pointer = temp.register;
@@ -190,7 +191,7 @@ impl<'a> Writer<'a> {
             self.take_back(site)?;
         }
         if let Share::Base | Share::By(_) = share {
-            self.made = Some(Made {
+            self.made = Some(SharedPointer {
                 base: site.access.base,
                 pointer,
                 moved: site.moved_by(),
@@ -202,7 +203,7 @@ impl<'a> Writer<'a> {
     // ---- tests
 
     /// Tests the base itself, where the guard does that.
-    fn test_base(&mut self, site: &Site) -> Result<(), AllocError> {
+    fn test_base(&mut self, site: &AccessSite) -> Result<(), AllocError> {
         let Some(guard) = site.guard else {
             return Ok(());
         };
@@ -215,7 +216,7 @@ impl<'a> Writer<'a> {
     }
 
     /// Begins to make a pointer of the base: copies and moves it. Whether it is one already.
-    fn begin_pointer(&mut self, site: &Site, pointer: Reg) -> Result<bool, AllocError> {
+    fn begin_pointer(&mut self, site: &AccessSite, pointer: Reg) -> Result<bool, AllocError> {
         let base = site.access.base;
         let is_tested = site.guard.is_some_and(|guard| guard.exact) || site.region.end.is_some();
         if pointer != base {
@@ -235,7 +236,7 @@ impl<'a> Writer<'a> {
     }
 
     /// Tests the moved base, where the guard does that.
-    fn test_moved(&mut self, site: &Site, moved: Reg) -> Result<(), HardenError> {
+    fn test_moved(&mut self, site: &AccessSite, moved: Reg) -> Result<(), HardenError> {
         let Some(guard) = site.guard else {
             return Ok(());
         };
@@ -255,7 +256,7 @@ impl<'a> Writer<'a> {
     }
 
     /// Leads to the trap if an access ends behind a place's offset.
-    fn test_end(&mut self, site: &Site, moved: Reg, end: Place) -> Result<(), HardenError> {
+    fn test_end(&mut self, site: &AccessSite, moved: Reg, end: Place) -> Result<(), HardenError> {
         let other = self.fetched(site, moved, end, Change::Guard)?;
         let src = Operand::Reg(other.register);
         self.trap_if(site.slot, Cond::Gt, moved, src, Change::Guard)?;
@@ -263,7 +264,7 @@ impl<'a> Writer<'a> {
     }
 
     /// Adds the region's base to an offset.
-    fn add_base(&mut self, site: &Site, pointer: Reg) -> Result<(), HardenError> {
+    fn add_base(&mut self, site: &AccessSite, pointer: Reg) -> Result<(), HardenError> {
         let other = self.fetched(site, pointer, site.region.base, Change::Address)?;
         let insn = add(pointer, other.register);
         self.add(site.slot, insn, Change::Address)?;
@@ -273,7 +274,7 @@ impl<'a> Writer<'a> {
     /// The register that keeps what a place does, or one but the pointer's into which it is fetched.
     fn fetched(
         &mut self,
-        site: &Site,
+        site: &AccessSite,
         pointer: Reg,
         place: Place,
         change: Change,
@@ -288,7 +289,7 @@ impl<'a> Writer<'a> {
     }
 
     /// Gives the base its offset back.
-    fn take_back(&mut self, site: &Site) -> Result<(), AllocError> {
+    fn take_back(&mut self, site: &AccessSite) -> Result<(), AllocError> {
         let base = site.access.base;
         if let Place::Register(r) = site.region.base {
             let insn = alu(AluOp::Sub, base, Operand::Reg(r));
@@ -305,7 +306,7 @@ impl<'a> Writer<'a> {
     // ---- registers
 
     /// The register in which the pointer of an access is made.
-    fn temp(&self, site: &Site, share: Share) -> Result<Temp, HardenError> {
+    fn temp(&self, site: &AccessSite, share: Share) -> Result<Temp, HardenError> {
         let base = site.access.base;
         let shared = match share {
             Share::By(r) => Some(r),
@@ -327,7 +328,7 @@ impl<'a> Writer<'a> {
     }
 
     /// Whether an access needs its base no more than for this, and what is added to it is kept in a register.
-    fn is_last_use(&self, site: &Site) -> bool {
+    fn is_last_use(&self, site: &AccessSite) -> bool {
         let base = site.access.base;
         let live = self.old.live.after(site.slot, &site.insn);
         let is_kept = matches!(site.region.base, Place::Register(_));
@@ -335,20 +336,20 @@ impl<'a> Writer<'a> {
     }
 
     /// The registers that an access needs meanwhile, or its function: what is read or filled or kept, and one more.
-    fn needed(&self, site: &Site, more: Reg) -> PlaceSet {
+    fn needed(&self, site: &AccessSite, more: Reg) -> PlaceSet {
         let needed = site.registers().union(self.kept_in(site.slot));
         needed.union(PlaceSet::of(Place::Register(more)))
     }
 
     /// The registers but one that hold nothing that is read behind an access, and that it doesn't fill.
-    pub fn free_after(&self, site: &Site, but: Reg) -> PlaceSet {
+    pub fn free_after(&self, site: &AccessSite, but: Reg) -> PlaceSet {
         let live = self.old.live.after(site.slot, &site.insn);
         PlaceSet::ALL.without(self.needed(site, but).union(live))
     }
 
     /// A register but this one: one that holds nothing which is read at an access or later, or else one that is saved
     /// meanwhile. H3 if the frame has no room for it.
-    fn other(&self, site: &Site, but: Reg) -> Result<Temp, HardenError> {
+    fn other(&self, site: &AccessSite, but: Reg) -> Result<Temp, HardenError> {
         match first_of(self.free_after(site, but)) {
             Some(register) => Ok(Temp::free(register)),
             None => self.borrowed(site.slot, self.needed(site, but)),

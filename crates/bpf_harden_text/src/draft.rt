@@ -2,7 +2,7 @@
 
 use crate::parts::displacement;
 use crate::piece::{Goal, Piece};
-use crate::writer::Writer;
+use crate::writer::TextWriter;
 use bpf_changes::{Change, HardenError};
 use bpf_infer_base::get_or;
 use bpf_insn::{Insn, MAX_SLOTS, Order, Program};
@@ -31,7 +31,7 @@ pub struct Owner {
 
 impl Draft {
     /// The program that was written. H4 if it is too long, H9 if a jump would lead too far.
-    pub fn of(alloc: Global, writer: Writer) -> Result<Draft, HardenError> {
+    pub fn of(alloc: Global, writer: TextWriter) -> Result<Draft, HardenError> {
         let last = writer.old.program.slots().saturating_sub(1);
         if writer.at as usize > MAX_SLOTS {
             return Err(HardenError::TooLong { slot: last });
@@ -79,7 +79,7 @@ fn owners_of(alloc: Global, pieces: &[Piece]) -> Result<Vec<Owner>, AllocError> 
 }
 
 /// The slot that a goal stands for.
-fn slot_of(writer: &Writer, goal: Goal) -> Option<u32> {
+fn slot_of(writer: &TextWriter, goal: Goal) -> Option<u32> {
     match goal {
         Goal::Next => None,
         Goal::Old(slot) => get_or(&writer.starts, slot as usize, None),
@@ -89,7 +89,7 @@ fn slot_of(writer: &Writer, goal: Goal) -> Option<u32> {
 }
 
 /// The program of what was written, with the distances of its jumps.
-fn resolved(alloc: Global, writer: &Writer, order: Order) -> Result<Program, HardenError> {
+fn resolved(alloc: Global, writer: &TextWriter, order: Order) -> Result<Program, HardenError> {
     let mut list = Vec::with_capacity(alloc, writer.pieces.len())?;
     let mut at = 0u32;
     for piece in &writer.pieces {

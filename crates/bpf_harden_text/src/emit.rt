@@ -1,23 +1,23 @@
 //! The text of a program under a plan.
 
-use crate::access::Site;
+use crate::access::AccessSite;
 use crate::draft::Draft;
 use crate::edits::{widened, with_offset};
 use crate::old::Old;
 use crate::parts::{add_constant, fetch, keep};
 use crate::piece::Goal;
 use crate::plan::Plan;
-use crate::region::Region;
+use crate::region::AccessRegion;
 use crate::rooms::Rooms;
 use crate::temps::{Temp, first_of};
-use crate::writer::Writer;
+use crate::writer::TextWriter;
 use bpf_changes::{Change, HardenError};
 use bpf_infer_base::{Flow, PlaceSet, put};
 use bpf_insn::{Access, Cond, Insn, Operand, Reg};
 use bpf_state::Place;
 use std::alloc::Global;
 
-impl<'a> Writer<'a> {
+impl<'a> TextWriter<'a> {
     /// The old instruction at a slot, if it is kept.
     fn kept(&self, slot: u32) -> Option<&'a Insn> {
         self.plan.kept(self.old, slot)
@@ -129,9 +129,9 @@ impl<'a> Writer<'a> {
         let edited = self.edited(insn);
         let kind = self.old.kind(slot, access.base);
         let room = self.rooms.room(self.old.function(slot));
-        match Region::of(self.plan, &room, kind) {
+        match AccessRegion::of(self.plan, &room, kind) {
             Some(region) if access.base != Reg::R10 => {
-                let site = Site {
+                let site = AccessSite {
                     slot,
                     insn: edited,
                     access,
@@ -191,7 +191,7 @@ impl<'a> Writer<'a> {
 /// The text of a program under a plan. H3 where the frame has no room, H4 where it would be too long, H9 where a jump would
 /// lead too far.
 pub fn emitted(alloc: Global, old: &Old, plan: &Plan, rooms: &Rooms) -> Result<Draft, HardenError> {
-    let mut writer = Writer::new(alloc, old, plan, rooms)?;
+    let mut writer = TextWriter::new(alloc, old, plan, rooms)?;
     writer.put_all()?;
     Draft::of(alloc, writer)
 }

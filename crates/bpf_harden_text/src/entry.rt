@@ -3,15 +3,15 @@
 use crate::parts::{add_constant, constant, copy, fetch, keep, keep_constant, load, set, skip_if};
 use crate::piece::Goal;
 use crate::rooms::Room;
-use crate::uses::Uses;
-use crate::writer::Writer;
+use crate::uses::FunctionUses;
+use crate::writer::TextWriter;
 use bpf_changes::{Change, HardenError};
 use bpf_infer_base::{get_or, put};
 use bpf_insn::{Cond, Insn, Operand, Reg};
 use bpf_state::Place;
 use std::alloc::AllocError;
 
-impl<'a> Writer<'a> {
+impl<'a> TextWriter<'a> {
     /// Puts what stands at the entry of a function.
     pub fn enter(&mut self, function: usize) -> Result<(), AllocError> {
         let uses = self.old.uses(function);
@@ -35,7 +35,7 @@ impl<'a> Writer<'a> {
     }
 
     /// Keeps the context's start, and the end of a block's packet, whose length is in r2, and makes r1 an offset.
-    fn enter_first(&mut self, uses: Uses) -> Result<(), AllocError> {
+    fn enter_first(&mut self, uses: FunctionUses) -> Result<(), AllocError> {
         if !self.plan.offsets {
             return Ok(());
         }
@@ -49,7 +49,7 @@ impl<'a> Writer<'a> {
     }
 
     /// Keeps the context's start that a function is handed, and the end of a block's packet, which it reads where it isn't handed that.
-    fn enter_called(&mut self, function: usize, uses: Uses) -> Result<(), AllocError> {
+    fn enter_called(&mut self, function: usize, uses: FunctionUses) -> Result<(), AllocError> {
         let room = self.rooms.room(function);
         let Some(handed) = room.handed else {
             return Ok(());
@@ -109,7 +109,7 @@ impl<'a> Writer<'a> {
     }
 
     /// Sets the counters of a function's loops.
-    fn set_turns(&mut self, function: usize, uses: Uses) -> Result<(), AllocError> {
+    fn set_turns(&mut self, function: usize, uses: FunctionUses) -> Result<(), AllocError> {
         let sharing = self.rooms.room(function).sharing;
         let each = i64::from(self.plan.options.turns);
         let turns = constant(each.saturating_mul(i64::from(sharing.max(1))));
@@ -125,7 +125,7 @@ impl<'a> Writer<'a> {
     }
 
     /// Sets the bytes of the frame to zero that a function uses.
-    fn set_zeros(&mut self, uses: Uses, room: Room) -> Result<(), AllocError> {
+    fn set_zeros(&mut self, uses: FunctionUses, room: Room) -> Result<(), AllocError> {
         for number in 1..65u8 {
             if u32::from(number) <= room.frame / 8 {
                 let insn = keep_constant(Place::Slot(number), 0);

@@ -4,7 +4,7 @@ use bpf_state::RegState;
 
 /// What a register of the old program holds.
 #[derive(Clone, Copy, PartialEq)]
-pub enum Kind {
+pub enum RegisterKind {
     Number,
     /// A pointer into the context.
     Context,
@@ -14,16 +14,16 @@ pub enum Kind {
     Unknown,
 }
 
-impl Kind {
+impl RegisterKind {
     /// The kind of what is known of a register.
-    pub fn of(held: RegState) -> Kind {
+    pub fn of(held: RegState) -> RegisterKind {
         match held {
-            RegState::Any => Kind::Unknown,
-            RegState::Num(_) => Kind::Number,
+            RegState::Any => RegisterKind::Unknown,
+            RegState::Num(_) => RegisterKind::Number,
             RegState::Ptr(pointer) => if pointer.area.is_frame() {
-                Kind::Frame
+                RegisterKind::Frame
             } else {
-                Kind::Context
+                RegisterKind::Context
             },
         }
     }

@@ -24,9 +24,9 @@ mod writer;
 
 pub use draft::Draft;
 pub use emit::emitted;
-pub use kinds::Kind;
+pub use kinds::RegisterKind;
 pub use live::Liveness;
 pub use old::{Old, refusal};
-pub use plan::{Early, Guard, Plan, Span};
+pub use plan::{ByteSpan, Early, Guard, Plan};
 pub use rooms::{Room, Rooms};
-pub use uses::{BY_CHOICE, Uses};
+pub use uses::{BY_CHOICE, FunctionUses};

@@ -2,9 +2,9 @@
 
 ghost use Rattle.std.specs.Prelude.{◌≤◌};
 
-use crate::kinds::Kind;
+use crate::kinds::RegisterKind;
 use crate::live::Liveness;
-use crate::uses::Uses;
+use crate::uses::FunctionUses;
 use bpf_changes::HardenError;
 use bpf_infer_base::{Cfg, Flow, InferError, Meter, PlaceSet, Quest, Task, Watch, get_or};
 use bpf_infer_states::{Survey, surveyed};
@@ -20,7 +20,7 @@ pub struct Old<'a> {
     pub survey: Survey,
     pub live: Liveness,
     /// By the functions' numbers.
-    pub uses: Vec<Uses>,
+    pub uses: Vec<FunctionUses>,
 }
 
 /// What the search holds against a program as a whole.
@@ -89,8 +89,12 @@ impl<'a> Old<'a> {
     }
 
     /// What a function uses.
-    pub fn uses(&self, function: usize) -> Uses {
-        get_or(&self.uses, function, Uses::new(0, 0, PlaceSet::NONE))
+    pub fn uses(&self, function: usize) -> FunctionUses {
+        get_or(
+            &self.uses,
+            function,
+            FunctionUses::new(0, 0, PlaceSet::NONE),
+        )
     }
 
     /// Takes note of what each function uses.
@@ -103,10 +107,10 @@ impl<'a> Old<'a> {
     }
 
     /// What a function uses by itself.
-    fn uses_of(&self, function: usize) -> Uses {
+    fn uses_of(&self, function: usize) -> FunctionUses {
         let first = self.first(function);
         let end = self.first(function.saturating_add(1));
-        let mut uses = Uses::new(first, end, self.live.arguments(first));
+        let mut uses = FunctionUses::new(first, end, self.live.arguments(first));
         for slot in first..end {
             if let Some(insn) = self.kept(slot) {
                 let registers = PlaceSet::read_by(insn).union(PlaceSet::written_by(insn));
@@ -185,12 +189,12 @@ impl<'a> Old<'a> {
     }
 
     /// The kind of what a register holds before the instruction at a slot.
-    pub fn kind(&self, slot: u32, r: Reg) -> Kind {
-        Kind::of(self.survey.register(slot, r))
+    pub fn kind(&self, slot: u32, r: Reg) -> RegisterKind {
+        RegisterKind::of(self.survey.register(slot, r))
     }
 
     /// Whether the instruction at a slot reads a register of a kind.
-    pub fn reads_kind(&self, slot: u32, insn: &Insn, kind: Kind) -> bool {
+    pub fn reads_kind(&self, slot: u32, insn: &Insn, kind: RegisterKind) -> bool {
         let mut read = insn.registers_read().into_iter().flatten();
         read.any(|r| self.kind(slot, r) == kind)
     }
@@ -214,7 +218,8 @@ impl<'a> Old<'a> {
     /// Whether the call at a slot hands a frame pointer to a function that reads it.
     fn hands_frame(&self, slot: u32, function: usize) -> bool {
         let arguments = self.uses(function).arguments;
-        let is_frame = |r| arguments.has(Place::Register(r)) && self.kind(slot, r) == Kind::Frame;
+        let is_frame = |r| arguments.has(Place::Register(r))
+            && self.kind(slot, r) == RegisterKind::Frame;
         [Reg::R1, Reg::R2, Reg::R3, Reg::R4, Reg::R5]
             .into_iter()
             .any(is_frame)

@@ -1,6 +1,6 @@
 //! What is planned for a program.
 
-use crate::kinds::Kind;
+use crate::kinds::RegisterKind;
 use crate::old::Old;
 use bpf_changes::Options;
 use bpf_infer_base::get_or;
@@ -9,24 +9,24 @@ use std::alloc::{AllocError, Global};
 
 /// Bytes beside a base, by displacements: from the first one to before the end.
 #[derive(Clone, Copy)]
-pub struct Span {
+pub struct ByteSpan {
     pub from: i64,
     pub to: i64,
 }
 
-impl Span {
+impl ByteSpan {
     /// The bytes that an access touches.
-    pub fn of(access: Access) -> Span {
+    pub fn of(access: Access) -> ByteSpan {
         let from = i64::from(access.off);
-        Span {
+        ByteSpan {
             from,
             to: from.saturating_add(i64::from(access.size.bytes())),
         }
     }
 
     /// The bytes from the first of either on.
-    pub fn with(self, other: Span) -> Span {
-        Span {
+    pub fn with(self, other: ByteSpan) -> ByteSpan {
+        ByteSpan {
             from: self.from.min(other.from),
             to: self.to.max(other.to),
         }
@@ -37,7 +37,7 @@ impl Span {
 #[derive(Clone, Copy)]
 pub struct Guard {
     /// The bytes that must lie in the region: those of the access, and of further ones that surely follow.
-    pub span: Span,
+    pub span: ByteSpan,
     /// Where the access begins is computed first, modulo 2^64, and tested: also right where the register holds an offset before
     /// the region.
     pub exact: bool,
@@ -61,7 +61,7 @@ pub struct Early {
 
 impl Guard {
     /// A test of both ends.
-    pub fn both(span: Span, exact: bool) -> Guard {
+    pub fn both(span: ByteSpan, exact: bool) -> Guard {
         Guard {
             span,
             exact,
@@ -155,11 +155,11 @@ impl Plan {
     }
 
     /// Whether a register of a kind holds offsets, where it is the base of an access.
-    pub fn is_offset(&self, kind: Kind, base: Reg) -> bool {
+    pub fn is_offset(&self, kind: RegisterKind, base: Reg) -> bool {
         match kind {
-            Kind::Context => self.offsets,
-            Kind::Frame => self.frames && base != Reg::R10,
-            Kind::Number | Kind::Unknown => false,
+            RegisterKind::Context => self.offsets,
+            RegisterKind::Frame => self.frames && base != Reg::R10,
+            RegisterKind::Number | RegisterKind::Unknown => false,
         }
     }
 

@@ -1,7 +1,7 @@
 //! The regions of memory that accesses by offsets go to.
 
 use crate::edits::FRAME_END;
-use crate::kinds::Kind;
+use crate::kinds::RegisterKind;
 use crate::plan::Plan;
 use crate::rooms::Room;
 use bpf_insn::Reg;
@@ -9,7 +9,7 @@ use bpf_state::Place;
 
 /// What an access by an offset goes to.
 #[derive(Clone, Copy)]
-pub struct Region {
+pub struct AccessRegion {
     /// The first offset that may be accessed, and how many bytes there are from there on.
     pub start: i64,
     pub bytes: i64,
@@ -20,12 +20,12 @@ pub struct Region {
     pub end: Option<Place>,
 }
 
-impl Region {
+impl AccessRegion {
     /// The region that a function reaches by registers of a kind, if these hold offsets.
-    pub fn of(plan: &Plan, room: &Room, kind: Kind) -> Option<Region> {
+    pub fn of(plan: &Plan, room: &Room, kind: RegisterKind) -> Option<AccessRegion> {
         match kind {
-            Kind::Context if plan.offsets => {
-                Some(Region {
+            RegisterKind::Context if plan.offsets => {
+                Some(AccessRegion {
                     start: plan.start(),
                     bytes: i64::from(plan.length).saturating_sub(plan.start()),
                     base: room.base?,
@@ -33,10 +33,10 @@ impl Region {
                     end: room.end,
                 })
             }
-            Kind::Frame if plan.frames => {
+            RegisterKind::Frame if plan.frames => {
                 let end = i64::from(FRAME_END);
                 let depth = i64::from(room.reach).min(end);
-                Some(Region {
+                Some(AccessRegion {
                     start: end.saturating_sub(depth),
                     bytes: depth,
                     base: Place::Register(Reg::R10),

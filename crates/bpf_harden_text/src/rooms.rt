@@ -2,7 +2,7 @@
 
 use crate::old::Old;
 use crate::plan::Plan;
-use crate::uses::{BY_CHOICE, FRAME_SLOTS, Uses};
+use crate::uses::{BY_CHOICE, FRAME_SLOTS, FunctionUses};
 use bpf_changes::HardenError;
 use bpf_infer_base::{Flow, PlaceSet, get_or, put};
 use bpf_insn::{FRAME_BYTES, Reg};
@@ -63,7 +63,7 @@ pub struct Rooms {
 /// What is still free in a function.
 #[derive(Clone, Copy)]
 struct Space {
-    uses: Uses,
+    uses: FunctionUses,
     taken: PlaceSet,
     /// How many slots of the frame are taken: below those that the function uses, or from the frame's start on where nothing
     /// bounds these.
@@ -155,7 +155,7 @@ fn spare_of(ret: Num) -> Option<i32> {
 
 /// The register in which a function is given what it keeps in a place: that itself where it is an argument, else one that isn't read. In
 /// neither case the one in which it is given something else.
-fn handed_to(uses: Uses, place: Option<Place>, other: Option<Reg>) -> Option<Reg> {
+fn handed_to(uses: FunctionUses, place: Option<Place>, other: Option<Reg>) -> Option<Reg> {
     let arguments = [Reg::R5, Reg::R4, Reg::R3, Reg::R2, Reg::R1];
     let is_open = |r: &Reg| Some(*r) != other && !uses.arguments.has(Place::Register(*r));
     match place {
@@ -316,7 +316,7 @@ fn counting_slot(old: &Old, space: &Space, head: u32, place: Place) -> u32 {
 }
 
 /// A place that was found. H3 if there is none.
-fn taken(found: Option<Place>, uses: Uses) -> Result<Place, HardenError> {
+fn taken(found: Option<Place>, uses: FunctionUses) -> Result<Place, HardenError> {
     found.ok_or(HardenError::FullFrame { slot: uses.first })
 }
 

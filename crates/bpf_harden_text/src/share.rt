@@ -1,9 +1,9 @@
 //! Pointers that several accesses go by: those by one base that follow one another, with nothing that is tested in between.
 
-use crate::access::Site;
+use crate::access::AccessSite;
 use crate::edits::with_base;
 use crate::temps::first_of;
-use crate::writer::Writer;
+use crate::writer::TextWriter;
 use bpf_changes::Change;
 use bpf_infer_base::PlaceSet;
 use bpf_insn::{Insn, Reg};
@@ -15,7 +15,7 @@ const LONGEST_SHARE: u32 = 32;
 
 /// A pointer that was made of a base, and is there until one of both registers is written, or another instruction needs one.
 #[derive(Clone, Copy)]
-pub struct Made {
+pub struct SharedPointer {
     pub base: Reg,
     pub pointer: Reg,
     /// By how much the base was moved for it.
@@ -35,7 +35,7 @@ pub enum Share {
 
 /// What is found of the accesses by a base that follow one.
 #[derive(Clone, Copy)]
-struct Search {
+struct ShareSearch {
     /// The registers that nothing needs so far.
     free: PlaceSet,
     /// The one that the pointer may be in.
@@ -46,7 +46,7 @@ struct Search {
     is_read: bool,
 }
 
-impl<'a> Writer<'a> {
+impl<'a> TextWriter<'a> {
     /// A pointer that was made is gone where its register, or its base, is written.
     pub fn forget(&mut self, written: Reg) {
         if let Some(made) = self.made {
@@ -57,12 +57,12 @@ impl<'a> Writer<'a> {
     }
 
     /// The pointer of an access, where one was made already.
-    pub fn made_for(&self, site: &Site) -> Option<Made> {
+    pub fn made_for(&self, site: &AccessSite) -> Option<SharedPointer> {
         self.made.filter(|made| made.base == site.access.base && site.guard.is_none())
     }
 
     /// Puts an access by a pointer that was made already.
-    pub fn access_by(&mut self, site: &Site, made: Made) -> Result<(), AllocError> {
+    pub fn access_by(&mut self, site: &AccessSite, made: SharedPointer) -> Result<(), AllocError> {
         let insn = with_base(&site.insn, made.pointer, site.displacement_from(made.moved));
         self.add(site.slot, insn, Change::Access)?;
         self.made = Some(made);
@@ -70,9 +70,9 @@ impl<'a> Writer<'a> {
     }
 
     /// Which register is to hold the pointer of an access.
-    pub fn share(&self, site: &Site) -> Share {
+    pub fn share(&self, site: &AccessSite) -> Share {
         let base = site.access.base;
-        let mut search = Search {
+        let mut search = ShareSearch {
             free: self.free_after(site, base),
             found: None,
             is_shared: false,
@@ -102,7 +102,7 @@ impl<'a> Writer<'a> {
     }
 
     /// Takes note of an instruction that follows.
-    fn look_at(&self, search: &mut Search, base: Reg, slot: u32, insn: &Insn) {
+    fn look_at(&self, search: &mut ShareSearch, base: Reg, slot: u32, insn: &Insn) {
         let by_base = insn.access().is_some_and(|access| access.base == base);
         let planned = self.plan.at(slot);
         if by_base && planned.guard.is_none() && planned.constant.is_none() {

@@ -1,9 +1,9 @@
 //! Registers that are taken for a while.
 
-use crate::kinds::Kind;
+use crate::kinds::RegisterKind;
 use crate::parts::{fetch, keep};
 use crate::uses::BY_CHOICE;
-use crate::writer::Writer;
+use crate::writer::TextWriter;
 use bpf_changes::{Change, HardenError};
 use bpf_infer_base::PlaceSet;
 use bpf_insn::Reg;
@@ -45,7 +45,7 @@ pub fn first_of(registers: PlaceSet) -> Option<Reg> {
         .find(|r| registers.has(Place::Register(*r)))
 }
 
-impl<'a> Writer<'a> {
+impl<'a> TextWriter<'a> {
     /// The registers that hold what the function at a slot keeps.
     pub fn kept_in(&self, slot: u32) -> PlaceSet {
         self.rooms.room(self.old.function(slot)).taken
@@ -55,7 +55,7 @@ impl<'a> Writer<'a> {
     pub fn borrowed(&self, slot: u32, needed: PlaceSet) -> Result<Temp, HardenError> {
         let function = self.old.function(slot);
         let may_save = |r: &Reg| {
-            !needed.has(Place::Register(*r)) && self.old.kind(slot, *r) != Kind::Unknown
+            !needed.has(Place::Register(*r)) && self.old.kind(slot, *r) != RegisterKind::Unknown
         };
         let found = BY_CHOICE.into_iter().find(may_save);
         match (self.rooms.room(function).scratch, found) {

@@ -31,7 +31,7 @@ fn bytes_from(offset: i64) -> u32 {
 
 /// What a function uses by itself.
 #[derive(Clone, Copy)]
-pub struct Uses {
+pub struct FunctionUses {
     /// Its first slot, and the one behind its last.
     pub first: u32,
     pub end: u32,
@@ -54,10 +54,10 @@ pub struct Uses {
     pub needs_context: bool,
 }
 
-impl Uses {
+impl FunctionUses {
     /// A function of which nothing is known but its slots and arguments.
-    pub fn new(first: u32, end: u32, arguments: PlaceSet) -> Uses {
-        Uses {
+    pub fn new(first: u32, end: u32, arguments: PlaceSet) -> FunctionUses {
+        FunctionUses {
             first,
             end,
             registers: arguments,

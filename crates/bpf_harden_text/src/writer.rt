@@ -5,7 +5,7 @@ use crate::parts::{JUMP, constant, jump_if};
 use crate::piece::{Goal, Piece};
 use crate::plan::{Guard, Plan};
 use crate::rooms::Rooms;
-use crate::share::Made;
+use crate::share::SharedPointer;
 use bpf_changes::Change;
 use bpf_infer_base::put;
 use bpf_insn::{Cond, Insn, Operand, Reg};
@@ -13,7 +13,7 @@ use std::alloc::{AllocError, Global};
 
 /// A new program that is being written.
 #[derive(Drop)]
-pub struct Writer<'a> {
+pub struct TextWriter<'a> {
     pub old: &'a Old<'a>,
     pub plan: &'a Plan,
     pub rooms: &'a Rooms,
@@ -29,18 +29,18 @@ pub struct Writer<'a> {
     /// By functions' numbers, whether something leads to the trap.
     pub is_trapped: Vec<bool>,
     /// The pointer that the next access may go by.
-    pub made: Option<Made>,
+    pub made: Option<SharedPointer>,
 }
 
-impl<'a> Writer<'a> {
+impl<'a> TextWriter<'a> {
     /// Nothing is written.
     pub fn new(
         alloc: Global,
         old: &'a Old<'a>,
         plan: &'a Plan,
         rooms: &'a Rooms,
-    ) -> Result<Writer<'a>, AllocError> {
-        Ok(Writer {
+    ) -> Result<TextWriter<'a>, AllocError> {
+        Ok(TextWriter {
             old,
             plan,
             rooms,

@@ -18,15 +18,15 @@ use Rattle.bpf_host_calls.specs.Told.{TellsCertificate, TellsCheck}
 use Rattle.bpf_host_calls.specs.Answers.{IsRefusedAsTold}
 use Rattle.bpf_host_calls.specs.Explained.{IsRefusedImage, IsCheckedAs, IsCertifiedBySome, IsJudgedBy, IsSearchedAs}
 use Rattle.bpf_host_calls.specs.declared.answers.BpfRefusal.{BpfRefusal}
-use Rattle.bpf_host_calls.specs.declared.explanation.Judged.{Judged}
-use Rattle.bpf_host_calls.specs.declared.explanation.Judged.TheVariants.{Accepted, Refused}
+use Rattle.bpf_host_calls.specs.declared.explanation.HowJudged.{HowJudged}
+use Rattle.bpf_host_calls.specs.declared.explanation.HowJudged.TheVariants.{Accepted, Refused}
 
 -- a program is its list in its order
 in_order : (order : Order) (p : Instructions) → p.order ≡ order → p ≡ program_in order p.list
 in_order order p same = ap (λ o. program_in o p.list) same
 
 -- bytes that are no image
-pub by_image : (order : Order) (image text : List ℕ) (o : Option Judged) → IfSome o (λ j. (told : BpfRefusal) × (j ≡ Refused told) × IsRefusedImage order image told) → IfSome o (IsCheckedAs order image text)
+pub by_image : (order : Order) (image text : List ℕ) (o : Option HowJudged) → IfSome o (λ j. (told : BpfRefusal) × (j ≡ Refused told) × IsRefusedImage order image told) → IfSome o (IsCheckedAs order image text)
 by_image order image text None h = h
 by_image order image text (Some j) h =
     subst (λ k. IsCheckedAs order image text k) (sym h.1) (record { error = InImage h.2.0; refused = h.2.1; read = λ unread. unread; tells = h.2.2 })
@@ -35,7 +35,7 @@ image_of : (order : Order) (image : List ℕ) (p : Instructions) → IsImage ord
 image_of order image p im program = record { program = program; bytes_are = im.bytes_are }
 
 -- a text that is no certificate
-pub by_text : (order : Order) (image text : List ℕ) (p : Instructions) (e : CertError) (o : Option Judged) → IsImage order p.list image → IsProgram p.list → IsFaultOf text e → IfSome o (λ j. (told : BpfRefusal) × (j ≡ Refused told) × TellsCertificate e told × ¬ (IsFromOutside e)) → IfSome o (IsCheckedAs order image text)
+pub by_text : (order : Order) (image text : List ℕ) (p : Instructions) (e : CertError) (o : Option HowJudged) → IsImage order p.list image → IsProgram p.list → IsFaultOf text e → IfSome o (λ j. (told : BpfRefusal) × (j ≡ Refused told) × TellsCertificate e told × ¬ (IsFromOutside e)) → IfSome o (IsCheckedAs order image text)
 by_text order image text p e None im program fault h = h
 by_text order image text p e (Some j) im program fault h =
     subst (λ k. IsCheckedAs order image text k) (sym h.1) (record { error = InCert e; refused = ((p.list, image_of order image p im program), fault); read = h.3; tells = h.2 })
@@ -56,7 +56,7 @@ by_flaw order image text p c r told im same program spelled flaw tells =
     }
 
 -- a certificate that is found is judged
-pub by_found : (order : Order) (image : List ℕ) (p : Instructions) (c : CertificateView) (least most : ℕ) (j : Judged) → IsImage order p.list image → p.order ≡ order → IsProgram p.list → c.least ≡ least → c.most ≡ most → IsJudgedBy p c j → IsSearchedAs order image least most j
+pub by_found : (order : Order) (image : List ℕ) (p : Instructions) (c : CertificateView) (least most : ℕ) (j : HowJudged) → IsImage order p.list image → p.order ≡ order → IsProgram p.list → c.least ≡ least → c.most ≡ most → IsJudgedBy p c j → IsSearchedAs order image least most j
 by_found order image p c least most Accepted im same program low high by =
     record { program = p.list; is_image = image_of order image p im program; certificate = c; least_is = low; most_is = high; certified = subst (λ q. Certified q c) (in_order order p same) by }
 by_found order image p c least most (Refused told) im same program low high by =
@@ -73,6 +73,6 @@ by_found order image p c least most (Refused told) im same program low high by =
     })
 
 -- a certificate is judged as the checker's refusal is told
-pub by_refusal : (p : Instructions) (c : CertificateView) (o : Option Refusal) (j : Judged) → IfNone o (IsCertifiedBy p c) → IfSome o (λ r. IsLeastFlaw p c (refusal_slot r) (refusal_number r)) → IfNone o (j ≡ Accepted) → IfSome o (λ r. (told : BpfRefusal) × (j ≡ Refused told) × TellsCheck r told) → IsJudgedBy p c j
+pub by_refusal : (p : Instructions) (c : CertificateView) (o : Option Refusal) (j : HowJudged) → IfNone o (IsCertifiedBy p c) → IfSome o (λ r. IsLeastFlaw p c (refusal_slot r) (refusal_number r)) → IfNone o (j ≡ Accepted) → IfSome o (λ r. (told : BpfRefusal) × (j ≡ Refused told) × TellsCheck r told) → IsJudgedBy p c j
 by_refusal p c None j certifies flaw accepted refused = subst (λ k. IsJudgedBy p c k) (sym accepted) certifies.certified
 by_refusal p c (Some r) j certifies flaw accepted refused = subst (λ k. IsJudgedBy p c k) (sym refused.1) (r, flaw, refused.2)

@@ -5,7 +5,7 @@ use Rattle.bpf_insn.specs.Image.{IsImage, IsProgram, image}
 use Rattle.bpf_insn.specs.declared.order.Order.{Order}
 use Rattle.bpf_check.specs.Verdicts.{program_in}
 use Rattle.bpf_follows.specs.declared.notes.Bounds.{Bounds}
-use Rattle.bpf_follows.specs.declared.notes.Place.{Place}
+use Rattle.bpf_follows.specs.declared.notes.Counterpart.{Counterpart}
 use Rattle.bpf_follows.specs.Mismatches.{IsMismatch}
 use Rattle.bpf_follows.specs.declared.mismatch.Mismatch.{Mismatch}
 use Rattle.bpf_follows.specs.NotesText.{notes_text}
@@ -18,7 +18,7 @@ use Rattle.bpf_host_calls.specs.Hardened.{Keeps, IsHardenedAs}
 in_order : (order : Order) (p : Instructions) → p.order ≡ order → p ≡ program_in order p.list
 in_order order p same = ap (λ o. program_in o p.list) same
 
-pub mismatched : (order : Order) (old new text : List ℕ) (bounds : Bounds) (p q : Instructions) (notes : List (Option Place)) (m : Mismatch) (told : BpfRefusal) → IsImage order p.list old → p.order ≡ order → IsProgram p.list → IsImage order q.list new → q.order ≡ order → IsProgram q.list → text ≡ notes_text notes → IsMismatch p q notes bounds m → TellsMatch m told → IsMismatched order old new text bounds told
+pub mismatched : (order : Order) (old new text : List ℕ) (bounds : Bounds) (p q : Instructions) (notes : List (Option Counterpart)) (m : Mismatch) (told : BpfRefusal) → IsImage order p.list old → p.order ≡ order → IsProgram p.list → IsImage order q.list new → q.order ≡ order → IsProgram q.list → text ≡ notes_text notes → IsMismatch p q notes bounds m → TellsMatch m told → IsMismatched order old new text bounds told
 mismatched order old new text bounds p q notes m told is_old old_order old_program is_new new_order new_program text_is fails tells =
     record {
       program = p.list;

@@ -19,8 +19,8 @@ use Rattle.bpf_explain_program.specs.declared.shown.Shown.{Shown}
 use Rattle.bpf_explain_program.specs.declared.shown.Shown.TheVariants.{Listing, Slot, Graph}
 use Rattle.bpf_host_calls.specs.declared.answers.BpfRefusal.{BpfRefusal}
 use Rattle.bpf_host_calls.specs.declared.host_advice_asked.RangeAsked.{RangeAsked}
-use Rattle.bpf_host_calls.specs.declared.explanation.Judged.{Judged}
-use Rattle.bpf_host_calls.specs.declared.explanation.Judged.TheVariants.{Accepted, Refused}
+use Rattle.bpf_host_calls.specs.declared.explanation.HowJudged.{HowJudged}
+use Rattle.bpf_host_calls.specs.declared.explanation.HowJudged.TheVariants.{Accepted, Refused}
 
 -- ---- what is asked for
 
@@ -44,7 +44,7 @@ IsSomeImage order image = (is : List Insn) × IsImageOfProgram order image is
 abbrev pub IsRefusedImage : Order → List ℕ → BpfRefusal → Type 0
 IsRefusedImage order image told = (e : DecodeError) × IsRefused order image e × TellsImage e told
 
-abbrev pub IsReadAs : Order → List ℕ → Judged → Type 0
+abbrev pub IsReadAs : Order → List ℕ → HowJudged → Type 0
 IsReadAs order image Accepted = IsSomeImage order image
 IsReadAs order image (Refused told) = IsRefusedImage order image told
 
@@ -53,13 +53,13 @@ IsReadAs order image (Refused told) = IsRefusedImage order image told
 abbrev pub IsCertifiedBySome : Order → List ℕ → List ℕ → Type 0
 IsCertifiedBySome order image text = (c : CertificateView) × Certifies order image text c
 
-abbrev pub IsCheckedAs : Order → List ℕ → List ℕ → Judged → Type 0
+abbrev pub IsCheckedAs : Order → List ℕ → List ℕ → HowJudged → Type 0
 IsCheckedAs order image text Accepted = IsCertifiedBySome order image text
 IsCheckedAs order image text (Refused told) = IsRefusedAsTold order image text told
 
 -- ---- by a certificate
 
-abbrev pub IsJudgedBy : Instructions → CertificateView → Judged → Type 0
+abbrev pub IsJudgedBy : Instructions → CertificateView → HowJudged → Type 0
 IsJudgedBy p c Accepted = Certified p c
 IsJudgedBy p c (Refused told) = (r : Refusal) × IsLeastFlaw p c (refusal_slot r) (refusal_number r) × TellsCheck r told
 
@@ -89,7 +89,7 @@ pub record IsFoundFlawed (order : Order) (image : List ℕ) (least most : ℕ) (
 abbrev pub IsNotFound : Order → List ℕ → ℕ → ℕ → BpfRefusal → Type 0
 IsNotFound order image least most told = IsNotProposed order image told ⊎ IsFoundFlawed order image least most told
 
-abbrev pub IsSearchedAs : Order → List ℕ → ℕ → ℕ → Judged → Type 0
+abbrev pub IsSearchedAs : Order → List ℕ → ℕ → ℕ → HowJudged → Type 0
 IsSearchedAs order image least most Accepted = IsFound order image least most
 IsSearchedAs order image least most (Refused told) = IsNotFound order image least most told
 

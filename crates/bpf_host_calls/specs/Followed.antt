@@ -7,7 +7,7 @@ use Rattle.bpf_insn.specs.declared.instruction.Insn.{Insn}
 use Rattle.bpf_insn.specs.declared.refusal.DecodeError.{DecodeError}
 use Rattle.bpf_check.specs.Verdicts.{program_in}
 use Rattle.bpf_follows.specs.declared.notes.Bounds.{Bounds}
-use Rattle.bpf_follows.specs.declared.notes.Place.{Place}
+use Rattle.bpf_follows.specs.declared.notes.Counterpart.{Counterpart}
 use Rattle.bpf_follows.specs.Meaning.{KeepsMeaning}
 use Rattle.bpf_follows.specs.Mismatches.{IsMismatch}
 use Rattle.bpf_follows.specs.declared.mismatch.Mismatch.{Mismatch}
@@ -43,7 +43,7 @@ pub record IsMismatched (order : Order) (old new text : List ℕ) (bounds : Boun
   pub is_old : IsImageOfProgram order old program
   pub made : List Insn
   pub is_new : IsImageOfProgram order new made
-  pub notes : List (Option Place)
+  pub notes : List (Option Counterpart)
   pub text_is : text ≡ notes_text notes
   pub mismatch : Mismatch
   pub fails : IsMismatch (program_in order program) (program_in order made) notes bounds mismatch

@@ -8,7 +8,7 @@ use Rattle.bpf_insn.specs.declared.instruction.Insn.{Insn}
 use Rattle.bpf_insn.specs.declared.refusal.DecodeError.{DecodeError}
 use Rattle.bpf_check.specs.Verdicts.{program_in}
 use Rattle.bpf_follows.specs.declared.notes.Bounds.{Bounds}
-use Rattle.bpf_follows.specs.declared.notes.Place.{Place}
+use Rattle.bpf_follows.specs.declared.notes.Counterpart.{Counterpart}
 use Rattle.bpf_follows.specs.Meaning.{KeepsMeaning}
 use Rattle.bpf_follows.specs.Mismatches.{IsMismatch}
 use Rattle.bpf_follows.specs.declared.mismatch.Mismatch.{Mismatch}
@@ -63,7 +63,7 @@ pub record IsUnhardened (order : Order) (image : List ℕ) (told : BpfRefusal) :
 -- what it became isn't shown to keep its meaning, though that was asked for: what fails first of notes is told
 pub record IsUnshown (old made : Instructions) (bounds : Bounds) (unproved : Bool) (told : BpfRefusal) : Type 0 where
   pub asked : unproved ≡ false
-  pub notes : List (Option Place)
+  pub notes : List (Option Counterpart)
   pub mismatch : Mismatch
   pub fails : IsMismatch old made notes bounds mismatch
   pub tells : TellsUnshown mismatch told

@@ -18,7 +18,7 @@ use crate::proposal::{give, proposal};
 use crate::refusals::Unmade;
 use crate::texts::{answer_words, give_beginning, text_of};
 use bpf_follows::Bounds;
-use bpf_infer::Wanted;
+use bpf_infer::WantedCertificate;
 use bpf_insn::{FRAME_BYTES, MAX_CONTEXT};
 use std::alloc::Global;
 
@@ -51,7 +51,7 @@ pub fn infer(
     if range.least > range.most || range.most > MAX_CONTEXT as u32 || range.deep > 1 {
         return BAD_CALL;
     }
-    let wanted_of = Wanted {
+    let wanted_of = WantedCertificate {
         least: range.least,
         most: range.most,
         deep: range.deep == 1,

@@ -53,7 +53,7 @@ pub struct BpfCertified {
 
 /// An image and its certificate, and what is told of them.
 #[derive(Drop)]
-pub(crate) struct Made {
+pub(crate) struct MadeWithin {
     pub(crate) image: Vec<u8>,
     pub(crate) text: Vec<u8>,
     pub(crate) told: BpfCertified,
@@ -115,7 +115,7 @@ pub(crate) fn certification(
     given: Given<'_>,
     size: u32,
     wish: BpfWish,
-) -> Result<Made, Unmade>
+) -> Result<MadeWithin, Unmade>
     requires { size ≤ max_context }
     ensures ok { IfOk result (λ made. IsCertifiedAs given.entry.order given.entry.image.now size wish made.told made.image.items made.text.items) }
     ensures err { IfErr result (IsTold (IsNotCertified given.entry.order given.entry.image.now size wish)) }
@@ -136,11 +136,11 @@ pub(crate) fn certification(
         return Err(Unmade::Memory);
     };
     let told = told_of(&certified, image.len(), text.len());
-    Ok(Made { image, text, told })
+    Ok(MadeWithin { image, text, told })
 }
 
 /// Gives both where there is room for each.
-pub(crate) fn give_both(made: &Made, image: &mut [u8], text: &mut [u8]) -> i32
+pub(crate) fn give_both(made: &MadeWithin, image: &mut [u8], text: &mut [u8]) -> i32
     ensures image { result ≡ YES → image.new ≡ made.now.image.items ++ drop (length made.now.image.items) image.old }
     ensures text { result ≡ YES → text.new ≡ made.now.text.items ++ drop (length made.now.text.items) text.old }
     ensures small { result ≡ TOO_SMALL → (length image.old < length made.now.image.items) ⊎ (length text.old < length made.now.text.items) }

@@ -37,7 +37,7 @@ pub struct BpfConverted {
 
 /// An image and its certificate, and what is told of them.
 #[derive(Drop)]
-pub(crate) struct Made {
+pub(crate) struct MadeOfFilter {
     pub(crate) image: Vec<u8>,
     pub(crate) text: Vec<u8>,
     pub(crate) told: BpfConverted,
@@ -68,7 +68,11 @@ fn text_of(alloc: Global, certificate: &Certificate) -> Option<Vec<u8>>
 }
 
 /// The image and the certificate of what a filter becomes.
-pub(crate) fn conversion(alloc: Global, given: Given<'_>, wanted: Wanted) -> Result<Made, Unmade>
+pub(crate) fn conversion(
+    alloc: Global,
+    given: Given<'_>,
+    wanted: Wanted,
+) -> Result<MadeOfFilter, Unmade>
     requires { wanted.length ≤ max_context }
     ensures ok { IfOk result (λ made. IsConvertedAs given.entry.order given.entry.filter.now wanted made.told made.image.items made.text.items) }
     ensures err { IfErr result (IsTold (IsNotConverted given.entry.order given.entry.filter.now wanted.form)) }
@@ -97,11 +101,11 @@ pub(crate) fn conversion(alloc: Global, given: Given<'_>, wanted: Wanted) -> Res
         certificate_len: text.len(),
         bound: made.certificate.steps(),
     };
-    Ok(Made { image, text, told })
+    Ok(MadeOfFilter { image, text, told })
 }
 
 /// Gives both where there is room for each.
-pub(crate) fn give_both(made: &Made, image: &mut [u8], text: &mut [u8]) -> i32
+pub(crate) fn give_both(made: &MadeOfFilter, image: &mut [u8], text: &mut [u8]) -> i32
     ensures image { result ≡ YES → image.new ≡ made.now.image.items ++ drop (length made.now.image.items) image.old }
     ensures text { result ≡ YES → text.new ≡ made.now.text.items ++ drop (length made.now.text.items) text.old }
     ensures small { result ≡ TOO_SMALL → (length image.old < length made.now.image.items) ⊎ (length text.old < length made.now.text.items) }

@@ -4,21 +4,21 @@ ghost use Rattle.std.specs.Prelude.{◌≡◌, ◌⊎◌, ◌↔◌, ◌<◌, So
 ghost use Rattle.bpf_host_calls.specs.Told.{order_named};
 ghost use Rattle.bpf_host_calls.specs.Answers.{IsRefusedAsTold};
 ghost use Rattle.bpf_host_calls.specs.Explained.{IsNoRange, IsSomeImage, IsRefusedImage, IsCertifiedBySome, IsFound, IsNotFound, GivesWords};
-ghost use Rattle.bpf_host_calls.specs.declared.explanation.Judged.TheVariants.{Accepted, Refused};
+ghost use Rattle.bpf_host_calls.specs.declared.explanation.HowJudged.TheVariants.{Accepted, Refused};
 ghost use Rattle.bpf_host_calls.specs.declared.answers.TheConstants.{YES, NO, NO_MEMORY, BAD_CALL, TOO_SMALL};
 
 use crate::answers::{BAD_CALL, BpfRefusal, NO, NO_MEMORY, YES, order_of};
-use crate::explanation::{Given, Judged, checked, read_alone, searched, shown_of};
+use crate::explanation::{Given, HowJudged, checked, read_alone, searched, shown_of};
 use crate::host_advice_asked::{ExplainAsked, RangeAsked};
 use crate::proposal::give;
-use bpf_explain::Search;
-use bpf_infer::Wanted;
+use bpf_explain::CertificateSearch;
+use bpf_infer::WantedCertificate;
 use bpf_insn::MAX_CONTEXT;
 use std::alloc::Global;
 
 /// Gives the words of an explanation where there is room for them, and says how the image was judged; None where memory ran out.
 fn answer(
-    judged: Option<Judged>,
+    judged: Option<HowJudged>,
     words: &[u8],
     text: &mut [u8],
     wanted: &mut usize,
@@ -42,8 +42,8 @@ fn answer(
         return given;
     }
     match judged {
-        Judged::Accepted => YES,
-        Judged::Refused(told) => {
+        HowJudged::Accepted => YES,
+        HowJudged::Refused(told) => {
             *refusal = told;
             NO
         }
@@ -125,8 +125,8 @@ pub fn explain_search(
     let Some(shown) = shown_of(asked.shown, asked.slot, asked.lines) else {
         return BAD_CALL;
     };
-    let search = Search {
-        wanted: Wanted {
+    let search = CertificateSearch {
+        wanted: WantedCertificate {
             least: range.least,
             most: range.most,
             deep: range.deep == 1,

@@ -12,19 +12,22 @@ ghost use Rattle.bpf_infer_base.specs.RefusalNumbers.{infer_slot};
 ghost use Rattle.bpf_host_calls.specs.Told.{TellsCertificate, TellsCheck};
 ghost use Rattle.bpf_host_calls.specs.Explained.{Asks, IsReadAs, IsCheckedAs, IsSearchedAs, IsRefusedImage};
 ghost use Rattle.bpf_host_calls.specs.declared.answers.BpfRefusal.{BpfRefusal as Told};
-ghost use Rattle.bpf_host_calls.specs.declared.explanation.Judged.TheVariants.{Accepted, Refused};
+ghost use Rattle.bpf_host_calls.specs.declared.explanation.HowJudged.TheVariants.{Accepted, Refused};
 
 use crate::answers::{BpfRefusal, of_verify, refusal_of};
 use bpf_cert::{CertError, read};
 use bpf_check::{Refusal, VerifyError};
-use bpf_explain::{Search, Shown, explain, explain_search, is_table, write_alone, write_fault, write_refusal};
+use bpf_explain::{
+    CertificateSearch, Shown, explain, explain_search, is_table, write_alone, write_fault,
+    write_refusal,
+};
 use bpf_infer::{InferError, Unwatched};
 use bpf_insn::{DecodeError, Order, ProgramView, decode};
 use std::alloc::Global;
 
 /// How an image is judged while it is explained.
 #[derive(Clone, Copy)]
-pub(crate) enum Judged {
+pub(crate) enum HowJudged {
     Accepted,
     Refused(BpfRefusal),
 }
@@ -54,18 +57,18 @@ pub(crate) fn shown_of(aspect: u32, slot: u32, lines: &[u8]) -> Option<Shown<'_>
 }
 
 /// Explains why bytes are refused as an image; None where memory ran out.
-fn refused_image(out: &mut Vec<u8>, given: Given<'_>, error: DecodeError) -> Option<Judged>
+fn refused_image(out: &mut Vec<u8>, given: Given<'_>, error: DecodeError) -> Option<HowJudged>
     requires { IsRefused given.order given.image.now error }
     ensures { IfSome result (λ j. (told : Told) × (j ≡ Refused told) × IsRefusedImage given.entry.order given.entry.image.now told) }
 {
     match write_refusal(given.image, given.order, error, out) {
-        Ok(()) => Some(Judged::Refused(refusal_of(&error))),
+        Ok(()) => Some(HowJudged::Refused(refusal_of(&error))),
         Err(_) => None,
     }
 }
 
 /// Explains an image by itself, or draws the graph of its program; None where memory ran out.
-pub(crate) fn read_alone(out: &mut Vec<u8>, given: Given<'_>, is_graph: bool) -> Option<Judged>
+pub(crate) fn read_alone(out: &mut Vec<u8>, given: Given<'_>, is_graph: bool) -> Option<HowJudged>
     ensures { IfSome result (IsReadAs given.entry.order given.entry.image.now) }
 {
     let program = match ProgramView::of(given.image, given.order) {
@@ -73,20 +76,20 @@ pub(crate) fn read_alone(out: &mut Vec<u8>, given: Given<'_>, is_graph: bool) ->
         Err(error) => return refused_image(out, given, error),
     };
     match write_alone(&program, is_graph, out) {
-        Ok(()) => Some(Judged::Accepted),
+        Ok(()) => Some(HowJudged::Accepted),
         Err(_) => None,
     }
 }
 
 /// Explains why a text is refused as a certificate; None where memory ran out.
-fn refused_text(out: &mut Vec<u8>, text: &[u8], error: CertError) -> Option<Judged>
+fn refused_text(out: &mut Vec<u8>, text: &[u8], error: CertError) -> Option<HowJudged>
     ensures { IfSome result (λ j. (told : Told) × (j ≡ Refused told) × TellsCertificate error told × ¬ (IsFromOutside error)) }
 {
     let Some(told) = of_verify(VerifyError::Cert(error)) else {
         return None;
     };
     match write_fault(text, error, out) {
-        Ok(()) => Some(Judged::Refused(told)),
+        Ok(()) => Some(HowJudged::Refused(told)),
         Err(_) => None,
     }
 }
@@ -98,7 +101,7 @@ pub(crate) fn checked(
     given: Given<'_>,
     certificate: &[u8],
     shown: Shown<'_>,
-) -> Option<Judged>
+) -> Option<HowJudged>
     ensures { IfSome result (IsCheckedAs given.entry.order given.entry.image.now certificate.now) }
 {
     let program = match ProgramView::of(given.image, given.order) {
@@ -110,20 +113,20 @@ pub(crate) fn checked(
         Err(error) => return refused_text(out, certificate, error),
     };
     match explain(&program, &certificate, shown, out) {
-        Ok(None) => Some(Judged::Accepted),
-        Ok(Some(refusal)) => Some(Judged::Refused(refusal_of(&refusal))),
+        Ok(None) => Some(HowJudged::Accepted),
+        Ok(Some(refusal)) => Some(HowJudged::Refused(refusal_of(&refusal))),
         Err(_) => None,
     }
 }
 
 /// What is told of a program and a certificate, by the checker's refusal.
-fn told_of(refusal: Option<Refusal>) -> Judged
+fn told_of(refusal: Option<Refusal>) -> HowJudged
     ensures accepted { IfNone refusal (result ≡ Accepted) }
     ensures refused { IfSome refusal (λ r. (told : Told) × (result ≡ Refused told) × TellsCheck r told) }
 {
     match refusal {
-        None => Judged::Accepted,
-        Some(refusal) => Judged::Refused(refusal_of(&refusal)),
+        None => HowJudged::Accepted,
+        Some(refusal) => HowJudged::Refused(refusal_of(&refusal)),
     }
 }
 
@@ -132,8 +135,8 @@ pub(crate) fn searched(
     alloc: Global,
     out: &mut Vec<u8>,
     given: Given<'_>,
-    asked: Search<'_>,
-) -> Option<Judged>
+    asked: CertificateSearch<'_>,
+) -> Option<HowJudged>
     requires order { asked.wanted.least ≤ asked.wanted.most }
     requires short { asked.wanted.most ≤ max_context }
     ensures { IfSome result (IsSearchedAs given.entry.order given.entry.image.now asked.entry.wanted.least asked.entry.wanted.most) }
@@ -146,7 +149,7 @@ pub(crate) fn searched(
     match explain_search(alloc, &program, asked, &mut Unwatched, out) {
         Ok(Ok(found)) => Some(told_of(found.refusal)),
         Ok(Err(InferError::Memory)) => None,
-        Ok(Err(error)) => Some(Judged::Refused(refusal_of(&error))),
+        Ok(Err(error)) => Some(HowJudged::Refused(refusal_of(&error))),
         Err(_) => None,
     }
 }

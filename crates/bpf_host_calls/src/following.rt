@@ -16,7 +16,7 @@ use std::alloc::Global;
 
 /// An old image and a new one, and their byte order.
 #[derive(Clone, Copy)]
-struct Pair<'a> {
+struct ImagePair<'a> {
     old: &'a [u8],
     new: &'a [u8],
     order: Order,
@@ -43,7 +43,7 @@ fn of_notes(error: NotesError) -> Unmade
 }
 
 /// Whether the notes of a text show it, for these contexts and runs.
-fn followed(alloc: Global, pair: Pair<'_>, notes: &[u8], bounds: Bounds) -> Result<(), Unmade>
+fn followed(alloc: Global, pair: ImagePair<'_>, notes: &[u8], bounds: Bounds) -> Result<(), Unmade>
     ensures ok { IsOk result → IsFollowed pair.entry.order pair.entry.old.now pair.entry.new.now bounds }
     ensures err { IfErr result (IsTold (IsNotFollowed pair.entry.order pair.entry.old.now pair.entry.new.now notes.now bounds)) }
 {
@@ -97,7 +97,7 @@ pub fn follows(
         turns: runs.turns,
         untouched: runs.untouched,
     };
-    match followed(alloc, Pair { old, new, order }, notes, bounds) {
+    match followed(alloc, ImagePair { old, new, order }, notes, bounds) {
         Ok(()) => YES,
         Err(Unmade::Memory) => NO_MEMORY,
         Err(Unmade::Refused(told)) => {

@@ -30,7 +30,10 @@ mod texts;
 mod unconverted;
 
 pub use advising::{answer_text, harden, infer, refusal_text};
-pub use answers::{BAD_CALL, BAD_LENGTH, BAD_WORDS, BpfOutcome, BpfRefusal, BpfVerdict, NO, NO_MEMORY, TOO_LONG, TOO_SMALL, YES};
+pub use answers::{
+    BAD_CALL, BAD_LENGTH, BAD_WORDS, BpfOutcome, BpfRefusal, BpfVerdict, NO, NO_MEMORY, TOO_LONG,
+    TOO_SMALL, YES,
+};
 pub use asked::ConvertAsked;
 pub use certification::{BpfCertified, BpfWish};
 pub use certifying::certify;
@@ -40,5 +43,8 @@ pub use converting::convert;
 pub use explaining::{explain, explain_image, explain_search};
 pub use following::follows;
 pub use host_advice_asked::{BpfFollowing, CertifyAsked, ExplainAsked, HardenAsked, RangeAsked};
-pub use running::{LoadAsked, load, loaded_size, prepare, prepared_size, run, run_checked, run_loaded, run_prepared, verify, version};
+pub use running::{
+    LoadAsked, load, loaded_size, prepare, prepared_size, run, run_checked, run_loaded,
+    run_prepared, verify, version,
+};
 pub use sizes::{explain_size, infer_size};

@@ -7,7 +7,7 @@ ghost use Rattle.bpf_host_calls.specs.Prepared.{IsPrepared, prepared_head};
 ghost use Rattle.bpf_host_calls.specs.Loaded.{handle_head, IsLoaded, IsMarkedHandle, IsWholeHandle, HasRange, loaded_least, loaded_most};
 
 use crate::answers::BpfVerdict;
-use crate::prepared::{Found, found_in, put};
+use crate::prepared::{OrderedImage, found_in, put};
 use bpf_insn::Order;
 use byteorder::{ByteOrder, LittleEndian};
 
@@ -62,7 +62,7 @@ pub(crate) fn takes(memory: &[u8], len: usize) -> bool
 }
 
 /// What stands prepared in a handle; None where another version wrote it, or words of it aren't there.
-pub(crate) fn found_loaded(memory: &[u8]) -> Option<Found<'_>>
+pub(crate) fn found_loaded(memory: &[u8]) -> Option<OrderedImage<'_>>
     requires { handle_head ≤ length memory.now }
     ensures found { IfSome result (λ f. (order : ByteOrderOf) (image : List ℕ) → IsPrepared order image (drop 24 memory.now) → (f.image.now ≡ image) × (f.order ≡ order)) }
     ensures known { IsSome result ↔ (IsMarkedHandle memory.now × IsWholeHandle memory.now) }

@@ -11,7 +11,7 @@ ghost use Rattle.bpf_host_calls.specs.declared.answers.TheConstants.{YES, TOO_SM
 use crate::answers::{TOO_SMALL, YES, refusal_of};
 use crate::refusals::{Unmade, of_search};
 use bpf_cert::{Certificate, write};
-use bpf_infer::{Unwatched, Wanted, propose};
+use bpf_infer::{Unwatched, WantedCertificate, propose};
 use bpf_insn::{DecodeError, Order, decode};
 use std::alloc::Global;
 
@@ -31,7 +31,7 @@ pub(crate) fn proposal(
     alloc: Global,
     image: &[u8],
     order: Order,
-    wanted: Wanted,
+    wanted: WantedCertificate,
 ) -> Result<Vec<u8>, Unmade>
     requires order { wanted.least ≤ wanted.most }
     requires short { wanted.most ≤ max_context }

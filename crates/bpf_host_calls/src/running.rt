@@ -13,7 +13,10 @@ ghost use Rattle.bpf_host_calls.specs.Loaded.{handle_head, IsLoaded, LoadsEach, 
 ghost use Rattle.bpf_host_calls.specs.Answers.{IsRefusedAsTold, IsNoImage, RanImage, RanPrepared, IsUnrun, HoldsProgram, MayRun, EndsAsPrepared};
 ghost use Rattle.bpf_host_calls.specs.declared.answers.TheConstants.{YES, NO, NO_MEMORY, BAD_CALL, TOO_SMALL, TOO_LONG, BAD_LENGTH, BAD_WORDS};
 
-use crate::answers::{BAD_CALL, BAD_LENGTH, BAD_WORDS, BpfOutcome, BpfRefusal, BpfVerdict, NO, NO_MEMORY, TOO_LONG, TOO_SMALL, YES, of_outcome, order_of, unrun};
+use crate::answers::{
+    BAD_CALL, BAD_LENGTH, BAD_WORDS, BpfOutcome, BpfRefusal, BpfVerdict, NO, NO_MEMORY, TOO_LONG,
+    TOO_SMALL, YES, of_outcome, order_of, unrun,
+};
 use crate::checked::{end_of, end_of_image};
 use crate::judged::{Given, kept, told};
 use crate::loaded::{found_loaded, handle_size, takes};

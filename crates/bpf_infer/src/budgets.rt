@@ -1,9 +1,12 @@
 //! Budgets: how many instructions may still be done from each label on.
 
-use crate::loops::{Loop, Loops, loops_of};
+use crate::loops::{LoopBlocks, Loops, loops_of};
 use crate::rounds::Rounds;
 use bpf_cert::{MAX_BASE, MAX_WEIGHT};
-use bpf_infer_base::{Callee, Counter, Edge, InferError, Line, Span, Visitor, get_or, load_at, place, put};
+use bpf_infer_base::{
+    BlockEdge, CalledFunction, Counter, InferError, LinearTerm, NumberSpan, Visitor, get_or,
+    load_at, place, put,
+};
 use bpf_insn::Insn;
 use bpf_state::{State, Tag};
 use std::alloc::AllocError;
@@ -11,39 +14,39 @@ use std::alloc::AllocError;
 /// What the place of an edge's target holds: an offset more than the place of the label before did, or any number of
 /// some.
 #[derive(Clone, Copy)]
-enum Counted {
+enum PlaceChange {
     Moved(i64),
-    Within(Span),
+    Within(NumberSpan),
 }
 
 /// An edge into a label, or an exit, with its cost since the label before.
 #[derive(Clone, Copy)]
-struct Path {
+struct PricedEdge {
     from: usize,
     to: Option<usize>,
     cost: i128,
-    held: Counted,
+    held: PlaceChange,
 }
 
 /// The budget at a label.
 #[derive(Clone, Copy)]
-struct Plan {
+struct LabelBudget {
     /// At most 2^40, where no limit is passed.
     base: i128,
     /// At a loop's head the weight of its counter, from 1 to 2^20.
     weight: i128,
     /// What the counter's place holds.
-    span: Span,
+    span: NumberSpan,
     /// The numbers of the paths from here on.
     paths_from: usize,
     paths_to: usize,
 }
 
-impl Plan {
-    const NONE: Plan = Plan {
+impl LabelBudget {
+    const NONE: LabelBudget = LabelBudget {
         base: 0,
         weight: 1,
-        span: Span::ALL,
+        span: NumberSpan::ALL,
         paths_from: 0,
         paths_to: 0,
     };
@@ -53,8 +56,8 @@ impl Plan {
 #[derive(Drop)]
 pub struct Budgets {
     loops: Loops,
-    plans: Vec<Plan>,
-    paths: Vec<Path>,
+    plans: Vec<LabelBudget>,
+    paths: Vec<PricedEdge>,
     /// The cost since the label: its instructions, and what calls may cost.
     cost: i128,
 }
@@ -67,8 +70,8 @@ impl Visitor for Budgets {
         Ok(())
     }
 
-    fn edge(&mut self, edge: Edge, state: &State) -> Result<(), AllocError> {
-        let path = Path {
+    fn edge(&mut self, edge: BlockEdge, state: &State) -> Result<(), AllocError> {
+        let path = PricedEdge {
             from: edge.from,
             to: Some(edge.to),
             cost: self.cost,
@@ -78,17 +81,17 @@ impl Visitor for Budgets {
         Ok(())
     }
 
-    fn call(&mut self, callee: Callee, state: &State) -> Result<(), AllocError> {
+    fn call(&mut self, callee: CalledFunction, state: &State) -> Result<(), AllocError> {
         self.cost = self.cost.saturating_add(self.greatest(callee.block, state));
         Ok(())
     }
 
     fn exit(&mut self, from: usize, _state: &State) -> Result<(), AllocError> {
-        let path = Path {
+        let path = PricedEdge {
             from,
             to: None,
             cost: self.cost,
-            held: Counted::Moved(0),
+            held: PlaceChange::Moved(0),
         };
         self.paths.push(path)?;
         Ok(())
@@ -97,8 +100,8 @@ impl Visitor for Budgets {
 
 impl Budgets {
     /// What is planned at a label.
-    fn plan(&self, block: usize) -> Plan {
-        get_or(&self.plans, block, Plan::NONE)
+    fn plan(&self, block: usize) -> LabelBudget {
+        get_or(&self.plans, block, LabelBudget::NONE)
     }
 
     /// The base of a label's budget.
@@ -113,26 +116,32 @@ impl Budgets {
     }
 
     /// The term of a label's budget, as a line over what its place holds.
-    fn line_at(&self, block: usize) -> Line {
+    fn line_at(&self, block: usize) -> LinearTerm {
         let counted = self.counted(block);
-        counted.map_or(Line::ZERO, |(counter, weight)| Line::of(counter, weight))
+        counted.map_or(
+            LinearTerm::ZERO,
+            |(counter, weight)| LinearTerm::of(counter, weight),
+        )
     }
 
     /// What the place of a label's counter holds in a state on the way to it.
-    fn held_at(&self, block: usize, state: &State) -> Counted {
+    fn held_at(&self, block: usize, state: &State) -> PlaceChange {
         let Some(counter) = self.loops.counter_at(block) else {
-            return Counted::Moved(0);
+            return PlaceChange::Moved(0);
         };
         match state.tag(place(counter.number())) {
-            Some(tag) => Counted::Moved(tag.offset),
-            None => Counted::Within(Span::of(state, counter.number())),
+            Some(tag) => PlaceChange::Moved(tag.offset),
+            None => PlaceChange::Within(NumberSpan::of(state, counter.number())),
         }
     }
 
     /// What the place of a label's counter holds in a state.
-    fn span_in(&self, block: usize, state: &State) -> Span {
+    fn span_in(&self, block: usize, state: &State) -> NumberSpan {
         let counter = self.loops.counter_at(block);
-        counter.map_or(Span::ALL, |counter| Span::of(state, counter.number()))
+        counter.map_or(
+            NumberSpan::ALL,
+            |counter| NumberSpan::of(state, counter.number()),
+        )
     }
 
     /// The greatest budget of a label over a state.
@@ -167,7 +176,7 @@ impl Budgets {
         if let Err(fault) = rounds.task.walk(block, room, self)? {
             return Err(fault.refusal());
         }
-        let plan = Plan {
+        let plan = LabelBudget {
             span,
             paths_from,
             paths_to: self.paths.len(),
@@ -189,7 +198,7 @@ impl Budgets {
     // ---- weights
 
     /// The greatest cost of a path from the head of a loop to itself.
-    fn cost_around(&self, rounds: &Rounds, found: Loop) -> Result<i128, AllocError> {
+    fn cost_around(&self, rounds: &Rounds, found: LoopBlocks) -> Result<i128, AllocError> {
         let count = found.last.saturating_sub(found.head).saturating_add(1);
         let mut costs = vec![in rounds.task.alloc; None; count]?;
         put(&mut costs, 0, Some(0i128));
@@ -203,13 +212,13 @@ impl Budgets {
     }
 
     /// I2 at the head of a loop with a weight above 2^20.
-    fn weigh(&mut self, rounds: &Rounds, found: Loop) -> Result<(), InferError> {
+    fn weigh(&mut self, rounds: &Rounds, found: LoopBlocks) -> Result<(), InferError> {
         let weight = self.cost_around(rounds, found)?.max(1);
         if weight > MAX_WEIGHT as i128 {
             return Err(rounds.no_budget(found.head));
         }
         let plan = self.plan(found.head);
-        put(&mut self.plans, found.head, Plan { weight, ..plan });
+        put(&mut self.plans, found.head, LabelBudget { weight, ..plan });
         Ok(())
     }
 
@@ -226,17 +235,17 @@ impl Budgets {
     // ---- bases
 
     /// The least base that pays a path.
-    fn price(&self, path: &Path) -> i128 {
+    fn price(&self, path: &PricedEdge) -> i128 {
         let own = self.line_at(path.from);
         let span = self.plan(path.from).span;
         let (base, line) = match path.to {
             Some(to) => (self.base(to), self.line_at(to)),
-            None => (0, Line::ZERO),
+            None => (0, LinearTerm::ZERO),
         };
         let varying = match path.held {
-            Counted::Moved(offset) => line.moved(offset).minus(own).greatest(span),
-            Counted::Within(held) => {
-                let least = Line::ZERO.minus(own).greatest(span);
+            PlaceChange::Moved(offset) => line.moved(offset).minus(own).greatest(span),
+            PlaceChange::Within(held) => {
+                let least = LinearTerm::ZERO.minus(own).greatest(span);
                 line.greatest(held).saturating_add(least)
             }
         };
@@ -258,12 +267,12 @@ impl Budgets {
         if base > MAX_BASE as i128 {
             return Err(rounds.no_budget(block));
         }
-        put(&mut self.plans, block, Plan { base, ..plan });
+        put(&mut self.plans, block, LabelBudget { base, ..plan });
         Ok(())
     }
 
     /// Pays the paths from the labels of a loop, those back to its head too.
-    fn pay_back(&mut self, rounds: &Rounds, found: Loop) -> Result<(), InferError> {
+    fn pay_back(&mut self, rounds: &Rounds, found: LoopBlocks) -> Result<(), InferError> {
         for block in (found.head.saturating_add(1)..found.last.saturating_add(1)).rev() {
             self.pay(rounds, block, true)?;
         }
@@ -298,7 +307,7 @@ impl Budgets {
 }
 
 /// Goes on along a path. The cost of the path around the loop, or 0 if it isn't at the head again.
-fn follow(costs: &mut Vec<Option<i128>>, found: Loop, path: &Path) -> i128 {
+fn follow(costs: &mut Vec<Option<i128>>, found: LoopBlocks, path: &PricedEdge) -> i128 {
     let Some(to) = path.to else {
         return 0;
     };
@@ -322,7 +331,7 @@ fn follow(costs: &mut Vec<Option<i128>>, found: Loop, path: &Path) -> i128 {
 pub fn budgets_of(rounds: &Rounds) -> Result<Budgets, InferError> {
     let mut budgets = Budgets {
         loops: loops_of(rounds)?,
-        plans: vec![in rounds.task.alloc; Plan::NONE; rounds.states.list.len()]?,
+        plans: vec![in rounds.task.alloc; LabelBudget::NONE; rounds.states.list.len()]?,
         paths: Vec::new(rounds.task.alloc),
         cost: 0,
     };

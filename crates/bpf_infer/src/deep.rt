@@ -2,7 +2,7 @@
 
 ghost use Rattle.std.specs.Prelude.{◌≤◌};
 
-use bpf_infer_base::{Cfg, DEEP_WORK, Meter, Proposal, Quest, Stop, Task, Watch};
+use bpf_infer_base::{Cfg, DEEP_WORK, Meter, Proposal, Quest, SearchStop, Task, Watch};
 use bpf_infer_budgets::ranked;
 use bpf_infer_states::draft;
 use std::alloc::Global;
@@ -16,7 +16,7 @@ pub fn deep_proposal<W: Watch>(
     alloc: Global,
     quest: Quest<'_>,
     watch: &mut W,
-) -> Result<Proposal, Stop>
+) -> Result<Proposal, SearchStop>
     requires { quest.least ≤ quest.most }
 {
     let mut meter = Meter::new(watch, DEEP_WORK);

@@ -9,13 +9,13 @@ ghost use Rattle.bpf_cert.specs.Limits.{IsCertificate};
 use crate::deep::deep_proposal;
 use crate::plain::plain_proposal;
 use bpf_cert::Certificate;
-use bpf_infer_base::{InferError, Proposal, Quest, Stop, Unwatched, Watch};
+use bpf_infer_base::{InferError, Proposal, Quest, SearchStop, Unwatched, Watch};
 use bpf_insn::{Code, Program};
 use std::alloc::Global;
 
 /// A certificate for contexts of `least` to `most` bytes is wanted, and whether `search` is to look for it.
 #[derive(Clone, Copy)]
-pub struct Wanted {
+pub struct WantedCertificate {
     pub least: u32,
     pub most: u32,
     pub deep: bool,
@@ -79,7 +79,7 @@ pub fn search_or_stop<W: Watch>(
     least: u32,
     most: u32,
     watch: &mut W,
-) -> Result<Certificate, Stop>
+) -> Result<Certificate, SearchStop>
     requires order { least ≤ most }
     requires short { most ≤ max_context }
     ensures version { IfOk result (λ c. c.version ≡ 2) }
@@ -104,7 +104,7 @@ pub fn search_or_stop<W: Watch>(
         },
         Err(stop) => match plain {
             Ok(plain) => Ok(plain),
-            Err(_) => Err(Stop {
+            Err(_) => Err(SearchStop {
                 error: stop.error.within(Code::slots(program)),
                 sketch: stop.sketch,
             }),
@@ -143,7 +143,7 @@ pub fn search<W: Watch>(
 pub fn propose<W: Watch>(
     alloc: Global,
     program: &Program,
-    wanted: Wanted,
+    wanted: WantedCertificate,
     watch: &mut W,
 ) -> Result<Certificate, InferError>
     requires order { wanted.least ≤ wanted.most }
@@ -154,7 +154,7 @@ pub fn propose<W: Watch>(
     ensures certificate { IfOk result (λ c. IsCertificate c) }
     ensures slot { IfErr result (λ e. infer_slot e < slots program.now.list) }
 {
-    let Wanted { least, most, deep } = wanted;
+    let WantedCertificate { least, most, deep } = wanted;
     if deep {
         search(alloc, program, least, most, watch)
     } else {

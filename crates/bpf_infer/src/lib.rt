@@ -12,6 +12,9 @@ mod sketch;
 mod tangles;
 mod walkers;
 
-pub use bpf_infer_base::{Condition, InferError, Limit, Loss, Move, Obstacle, Quest, Sketch, Stop, Tangle, Trial, Unwatched, Watch};
-pub use inferrer::{Wanted, infer, propose, search, search_or_stop};
+pub use bpf_infer_base::{
+    CounterTrial, ForeseenCondition, InferError, Limit, Loss, Move, Obstacle, Quest, SearchStop,
+    Sketch, Tangle, Unwatched, Watch,
+};
+pub use inferrer::{WantedCertificate, infer, propose, search, search_or_stop};
 pub use sketch::sketch_of;

@@ -1,13 +1,16 @@
 //! The loops of a program, and what counts their rounds.
 
 use crate::rounds::Rounds;
-use bpf_infer_base::{Counter, Edge, InferError, PLACES, Shift, Visitor, get_or, load_at, number_at, place, put, tag_own, tight_number};
+use bpf_infer_base::{
+    BlockEdge, Counter, InferError, PLACES, Shift, Visitor, get_or, load_at, number_at, place, put,
+    tag_own, tight_number,
+};
 use bpf_state::State;
 use std::alloc::AllocError;
 
 /// A loop: the blocks from its head to the last one that leads back to it.
 #[derive(Clone, Copy)]
-pub struct Loop {
+pub struct LoopBlocks {
     pub head: usize,
     pub last: usize,
     /// What falls on each way from the head to itself; None if there is no such way.
@@ -17,19 +20,19 @@ pub struct Loop {
 /// The loops of a program by their heads, and the number of the one that each block is in.
 #[derive(Drop)]
 pub struct Loops {
-    loops: Vec<Loop>,
+    loops: Vec<LoopBlocks>,
     loop_of: Vec<Option<usize>>,
 }
 
 impl Loops {
     /// The loop that a block is in.
-    pub fn at(&self, block: usize) -> Option<Loop> {
+    pub fn at(&self, block: usize) -> Option<LoopBlocks> {
         let number = get_or(&self.loop_of, block, None)?;
         self.loops.get(number).copied()
     }
 
     /// The loop whose head is a block.
-    pub fn headed(&self, block: usize) -> Option<Loop> {
+    pub fn headed(&self, block: usize) -> Option<LoopBlocks> {
         self.at(block).filter(|found| found.head == block)
     }
 
@@ -50,9 +53,9 @@ impl Loops {
 }
 
 /// The loop whose head is a block, if a way leads back to it.
-pub fn loop_from(rounds: &Rounds, head: usize) -> Option<Loop> {
+pub fn loop_from(rounds: &Rounds, head: usize) -> Option<LoopBlocks> {
     let last = get_or(&rounds.backs, head, None)?;
-    Some(Loop {
+    Some(LoopBlocks {
         head,
         last,
         counter: None,
@@ -60,8 +63,8 @@ pub fn loop_from(rounds: &Rounds, head: usize) -> Option<Loop> {
 }
 
 /// The lowest loop between whose ends another one begins, and that one.
-pub fn first_crossing(rounds: &Rounds) -> Option<(Loop, Loop)> {
-    let mut open: Option<Loop> = None;
+pub fn first_crossing(rounds: &Rounds) -> Option<(LoopBlocks, LoopBlocks)> {
+    let mut open: Option<LoopBlocks> = None;
     for head in 0..rounds.backs.len() {
         if let Some(found) = loop_from(rounds, head) {
             match open {
@@ -98,7 +101,7 @@ fn taken_in(held: Option<Moves>, mut moves: Moves) -> Moves {
 
 /// A walk over the blocks of a loop that looks where its places go.
 #[derive(Drop)]
-pub struct Search<'a> {
+pub struct LoopWalk<'a> {
     rounds: &'a Rounds<'a>,
     head: usize,
     last: usize,
@@ -110,10 +113,10 @@ pub struct Search<'a> {
     pub around: Option<Moves>,
 }
 
-impl<'a> Visitor for Search<'a> {
+impl<'a> Visitor for LoopWalk<'a> {
     type Stop = AllocError;
 
-    fn edge(&mut self, edge: Edge, state: &State) -> Result<(), AllocError> {
+    fn edge(&mut self, edge: BlockEdge, state: &State) -> Result<(), AllocError> {
         if edge.to < self.head || edge.to > self.last {
             return Ok(());
         }
@@ -133,7 +136,7 @@ impl<'a> Visitor for Search<'a> {
     }
 }
 
-impl<'a> Search<'a> {
+impl<'a> LoopWalk<'a> {
     /// The moves on the ways to a block.
     fn moves_to(&self, block: usize) -> Option<Moves> {
         let index = block.saturating_sub(self.head);
@@ -201,9 +204,9 @@ impl<'a> Search<'a> {
 }
 
 /// Where the places of a loop go on the ways from its head to itself.
-pub fn searched<'a>(rounds: &'a Rounds<'a>, found: Loop) -> Result<Search<'a>, InferError> {
+pub fn searched<'a>(rounds: &'a Rounds<'a>, found: LoopBlocks) -> Result<LoopWalk<'a>, InferError> {
     let count = found.last.saturating_sub(found.head).saturating_add(1);
-    let mut search = Search {
+    let mut search = LoopWalk {
         rounds,
         head: found.head,
         last: found.last,
@@ -217,7 +220,7 @@ pub fn searched<'a>(rounds: &'a Rounds<'a>, found: Loop) -> Result<Search<'a>, I
 }
 
 /// What falls on each way from the head of a loop to itself, or rises up to a limit. I2 at the head if nothing does.
-fn counter_of(rounds: &Rounds, found: Loop) -> Result<Option<Counter>, InferError> {
+fn counter_of(rounds: &Rounds, found: LoopBlocks) -> Result<Option<Counter>, InferError> {
     let search = searched(rounds, found)?;
     let Some(around) = search.around else {
         return Ok(None);
@@ -241,7 +244,7 @@ pub fn loops_of(rounds: &Rounds) -> Result<Loops, InferError> {
     for block in 0..rounds.backs.len() {
         if let Some(found) = loop_from(rounds, block) {
             let counter = counter_of(rounds, found)?;
-            loops.loops.push(Loop { counter, ..found })?;
+            loops.loops.push(LoopBlocks { counter, ..found })?;
         }
         loops.continue_to(block)?;
     }

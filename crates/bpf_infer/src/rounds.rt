@@ -1,7 +1,10 @@
 //! The states at the labels: rounds over each function until nothing changes, callers before callees.
 
 use bpf_cert::Function;
-use bpf_infer_base::{Callee, Edge, Fault, InferError, JoinedStates, LABEL_WORK, Limit, Meter, Stops, Task, Visitor, Watch, get_or, labels_of, load_at, put, said};
+use bpf_infer_base::{
+    BlockEdge, CalledFunction, InferError, JoinedStates, LABEL_WORK, Limit, Meter, SlotFailure,
+    Stops, Task, Visitor, Watch, get_or, labels_of, load_at, put, said,
+};
 use bpf_num::Num;
 use bpf_state::{RegState, State, enter};
 use std::alloc::AllocError;
@@ -36,7 +39,7 @@ pub struct Rounds<'a> {
 }
 
 /// Takes note of an edge that leads back.
-fn add_back(backs: &mut Vec<Option<usize>>, edge: Edge) {
+fn add_back(backs: &mut Vec<Option<usize>>, edge: BlockEdge) {
     if let Some(last) = backs.get_mut(edge.to) {
         *last = Some(last.unwrap_or(0).max(edge.from));
     }
@@ -45,14 +48,14 @@ fn add_back(backs: &mut Vec<Option<usize>>, edge: Edge) {
 impl<'a> Visitor for Rounds<'a> {
     type Stop = AllocError;
 
-    fn edge(&mut self, edge: Edge, state: &State) -> Result<(), AllocError> {
+    fn edge(&mut self, edge: BlockEdge, state: &State) -> Result<(), AllocError> {
         if edge.to <= edge.from {
             add_back(&mut self.backs, edge);
         }
         self.reach(edge.to, state, self.is_wide)
     }
 
-    fn call(&mut self, callee: Callee, state: &State) -> Result<(), AllocError> {
+    fn call(&mut self, callee: CalledFunction, state: &State) -> Result<(), AllocError> {
         let mut entry = state.copy();
         enter(&mut entry);
         self.reach(callee.block, &entry, false)
@@ -210,7 +213,7 @@ impl<'a> Rounds<'a> {
         for (block, reached) in self.reached.iter().enumerate() {
             if *reached < blocks.block_end(block) {
                 let slot = (*reached).max(blocks.label(block));
-                return Err(Fault::falls_off(slot).refusal());
+                return Err(SlotFailure::falls_off(slot).refusal());
             }
         }
         Ok(())

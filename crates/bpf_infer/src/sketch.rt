@@ -3,17 +3,20 @@
 ghost use Rattle.std.specs.Prelude.{◌≤◌};
 ghost use Rattle.bpf_insn.specs.Limits.{max_context};
 
-use crate::loops::{Loop, first_crossing, loop_from, searched};
+use crate::loops::{LoopBlocks, first_crossing, loop_from, searched};
 use crate::rounds::Rounds;
 use crate::tangles::tangle_of;
 use crate::walkers::walker_at;
-use bpf_infer_base::{Cfg, Condition, InferError, Meter, Move, Obstacle, PLACES, PLAIN_WORK, Quest, Sketch, Task, Trial, Unwatched, losses_in, place};
+use bpf_infer_base::{
+    Cfg, CounterTrial, ForeseenCondition, InferError, Meter, Move, Obstacle, PLACES, PLAIN_WORK,
+    Quest, Sketch, Task, Unwatched, losses_in, place,
+};
 use bpf_state::StateFault;
 use std::alloc::Global;
 
 /// The places of a loop's head that hold numbers, or pointers that are changed, with what they do in a round; None if no round
 /// leads back to the head, or something is refused before.
-fn trials_of(rounds: &Rounds, found: Loop) -> Result<Option<Vec<Trial>>, InferError> {
+fn trials_of(rounds: &Rounds, found: LoopBlocks) -> Result<Option<Vec<CounterTrial>>, InferError> {
     let search = match searched(&*rounds, found) {
         Ok(search) => search,
         Err(InferError::Memory) => return Err(InferError::Memory),
@@ -29,7 +32,7 @@ fn trials_of(rounds: &Rounds, found: Loop) -> Result<Option<Vec<Trial>>, InferEr
         let shift = search.is_tagged[number].then_some(around[number]);
         let said = rounds.said(found.head, number);
         if let Some(moves) = Move::of(said, shift, losses[number]) {
-            trials.push(Trial {
+            trials.push(CounterTrial {
                 place: place(number),
                 moves,
             })?;
@@ -39,7 +42,7 @@ fn trials_of(rounds: &Rounds, found: Loop) -> Result<Option<Vec<Trial>>, InferEr
 }
 
 /// Why a loop has no budget.
-fn obstacle_in(rounds: &Rounds, found: Loop) -> Result<Obstacle, InferError> {
+fn obstacle_in(rounds: &Rounds, found: LoopBlocks) -> Result<Obstacle, InferError> {
     match trials_of(rounds, found)? {
         Some(trials) if !trials.iter().any(|trial| trial.moves.counts()) => {
             Ok(Obstacle::NoCounter(trials))
@@ -67,7 +70,7 @@ fn obstacle_of(rounds: &Rounds, error: InferError) -> Result<Option<Obstacle>, I
         InferError::NoBudget { slot } => Ok(Some(obstacle_at(rounds, slot)?)),
         InferError::Fault {
             slot,
-            condition: Condition::State(StateFault::OutOfBounds),
+            condition: ForeseenCondition::State(StateFault::OutOfBounds),
         } => Ok(walker_at(rounds, slot)),
         InferError::Unstable { .. } => Ok(rounds.limit.map(Obstacle::Over)),
         _ => Ok(None),

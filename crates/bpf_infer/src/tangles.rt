@@ -1,8 +1,8 @@
 //! Ways back that cross: a loop in a loop, or a way back into the middle of one.
 
-use crate::loops::Loop;
+use crate::loops::LoopBlocks;
 use crate::rounds::Rounds;
-use bpf_infer_base::{Arc, Edge, Flow, Graph, Tangle, Task, Visitor};
+use bpf_infer_base::{Arc, BlockEdge, Flow, Graph, Tangle, Task, Visitor};
 use bpf_state::State;
 use std::alloc::AllocError;
 
@@ -13,7 +13,7 @@ struct Arcs(Vec<Arc>);
 impl Visitor for Arcs {
     type Stop = AllocError;
 
-    fn edge(&mut self, edge: Edge, _state: &State) -> Result<(), AllocError> {
+    fn edge(&mut self, edge: BlockEdge, _state: &State) -> Result<(), AllocError> {
         self.0.push(Arc::of(edge.from, edge.to))?;
         Ok(())
     }
@@ -27,7 +27,7 @@ fn graph_of(rounds: &Rounds) -> Result<Graph, AllocError> {
 }
 
 /// The slot of the last jump that leads back to a loop's head.
-fn way_back(task: &Task, found: Loop) -> u32 {
+fn way_back(task: &Task, found: LoopBlocks) -> u32 {
     let head = task.blocks.label(found.head);
     let mut last = task.blocks.label(found.last);
     for slot in last..task.blocks.block_end(found.last) {
@@ -39,7 +39,11 @@ fn way_back(task: &Task, found: Loop) -> u32 {
 }
 
 /// What a loop is that begins between the head of another one and the last way back to it.
-pub fn tangle_of(rounds: &Rounds, outer: Loop, inner: Loop) -> Result<Tangle, AllocError> {
+pub fn tangle_of(
+    rounds: &Rounds,
+    outer: LoopBlocks,
+    inner: LoopBlocks,
+) -> Result<Tangle, AllocError> {
     let (task, graph) = (&rounds.task, graph_of(rounds)?);
     let (from, back) = (way_back(task, inner), way_back(task, outer));
     if !graph.leads(task.alloc, outer.head, outer.head, None)? {

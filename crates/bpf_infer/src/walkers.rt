@@ -1,6 +1,6 @@
 //! Pointers that a loop moves.
 
-use crate::loops::{Loop, loop_from};
+use crate::loops::{LoopBlocks, loop_from};
 use crate::rounds::Rounds;
 use bpf_infer_base::{Obstacle, PlaceSet, Task};
 use bpf_insn::{AluOp, Insn, Operand, Reg, Width};
@@ -46,7 +46,7 @@ fn deed_of(insn: &Insn, reg: Reg) -> Deed {
 }
 
 /// Whether instructions of a loop move a register by constants, and none sets it.
-fn moves(task: &Task, found: Loop, reg: Reg) -> bool {
+fn moves(task: &Task, found: LoopBlocks, reg: Reg) -> bool {
     let mut is_moved = false;
     for slot in task.blocks.label(found.head)..task.blocks.block_end(found.last) {
         match task.program.at(slot).map(|insn| deed_of(insn, reg)) {
@@ -67,7 +67,7 @@ fn is_wide(rounds: &Rounds, block: usize, reg: Reg) -> bool {
 }
 
 /// The last loop that begins at a block or before it, and has it between its ends.
-fn loop_around(rounds: &Rounds, block: usize) -> Option<Loop> {
+fn loop_around(rounds: &Rounds, block: usize) -> Option<LoopBlocks> {
     let mut found = (0..block.saturating_add(1))
         .rev()
         .filter_map(|head| loop_from(rounds, head));

@@ -3,18 +3,18 @@ use Rattle.std.specs.Prelude.{ℕ, ◌-◌, min, List, [], ◌∷◌, codes}
 use Rattle.bpf_state.specs.declared.condition.Condition.{Condition as CheckerCondition}
 use Rattle.bpf_state.specs.declared.condition.Condition.TheVariants.{State as OfState, FallsOff as PassesEnd, LeavesFunction as IsLeft}
 use Rattle.bpf_state.specs.Condition.{condition_number as checker_number}
-use Rattle.bpf_infer_base.specs.declared.condition.Condition.{Condition}
-use Rattle.bpf_infer_base.specs.declared.condition.Condition.TheVariants.{State, FallsOff, LeavesFunction}
+use Rattle.bpf_infer_base.specs.declared.condition.ForeseenCondition.{ForeseenCondition}
+use Rattle.bpf_infer_base.specs.declared.condition.ForeseenCondition.TheVariants.{State, FallsOff, LeavesFunction}
 use Rattle.bpf_infer_base.specs.declared.error.InferError.{InferError}
 use Rattle.bpf_infer_base.specs.declared.error.InferError.TheVariants.{Unstable, NoBudget, Recursion, Fault, Memory}
 
 -- a condition among all of the checker's, and its number there
-abbrev pub of_checker : Condition → CheckerCondition
+abbrev pub of_checker : ForeseenCondition → CheckerCondition
 of_checker (State fault) = OfState fault
 of_checker FallsOff = PassesEnd
 of_checker LeavesFunction = IsLeft
 
-abbrev pub condition_number : Condition → ℕ
+abbrev pub condition_number : ForeseenCondition → ℕ
 condition_number condition = checker_number (of_checker condition)
 
 abbrev pub infer_number : InferError → ℕ

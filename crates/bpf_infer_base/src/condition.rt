@@ -9,7 +9,7 @@ use thiserror::Error;
 /// Of the checker's conditions one that an instruction fails, as far as the search foresees it.
 #[derive(Clone, Copy, Debug, PartialEq, Eq, Error)]
 #[error("{}", self.of_checker())]
-pub enum Condition {
+pub enum ForeseenCondition {
     /// C3 to C7: what it does may be refused in a state that is known before it.
     State(StateFault),
     /// C11: nothing leads to it, or the program's end can be passed behind it.
@@ -18,15 +18,15 @@ pub enum Condition {
     LeavesFunction,
 }
 
-impl Condition {
+impl ForeseenCondition {
     /// The condition among all of the checker's.
     pub fn of_checker(&self) -> bpf_state::Condition
         ensures { result ≡ of_checker self.now }
     {
         match *self {
-            Condition::State(fault) => bpf_state::Condition::State(fault),
-            Condition::FallsOff => bpf_state::Condition::FallsOff,
-            Condition::LeavesFunction => bpf_state::Condition::LeavesFunction,
+            ForeseenCondition::State(fault) => bpf_state::Condition::State(fault),
+            ForeseenCondition::FallsOff => bpf_state::Condition::FallsOff,
+            ForeseenCondition::LeavesFunction => bpf_state::Condition::LeavesFunction,
         }
     }
 

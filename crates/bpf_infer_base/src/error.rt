@@ -3,7 +3,7 @@
 ghost use Rattle.std.specs.Prelude.{◌≡◌, ◌<◌, ◌≤◌, ◌↔◌, [], IsSome, IfSome, MatchOption, get_or, length};
 ghost use Rattle.bpf_infer_base.specs.RefusalNumbers.{infer_number, infer_slot, infer_texts, within};
 
-use crate::condition::Condition;
+use crate::condition::ForeseenCondition;
 use std::alloc::{AllocError, AllocFailed};
 use thiserror::Error;
 
@@ -13,17 +13,26 @@ pub enum InferError {
     /// I1: no stable states are found for the function at the slot, or not within a limit; at slot 0 also where what functions
     /// return isn't stable.
     #[error("at slot {slot}: {}", self.text())]
-    Unstable { slot: u32 },
+    Unstable {
+        slot: u32,
+    },
     /// I2: the loop at the slot has no counter, or the slot's label is over a limit, or functions call one another more than 8
     /// deep, or there are more than 256.
     #[error("at slot {slot}: {}", self.text())]
-    NoBudget { slot: u32 },
+    NoBudget {
+        slot: u32,
+    },
     /// I3: the call at the slot is part of a recursion.
     #[error("at slot {slot}: {}", self.text())]
-    Recursion { slot: u32 },
+    Recursion {
+        slot: u32,
+    },
     /// I4: the checker would refuse the instruction at the slot, since it fails a condition.
     #[error("at slot {slot}: {}: {condition}", self.text())]
-    Fault { slot: u32, condition: Condition },
+    Fault {
+        slot: u32,
+        condition: ForeseenCondition,
+    },
     /// I5: memory ran out.
     #[error("{}", self.text())]
     Memory,

@@ -1,21 +1,21 @@
 //! Instructions that the checker would refuse.
 
-use crate::condition::Condition;
+use crate::condition::ForeseenCondition;
 use crate::error::InferError;
 
 /// An instruction that fails a condition of the checker, by its slot.
 #[derive(Clone, Copy)]
-pub struct Fault {
+pub struct SlotFailure {
     pub slot: u32,
-    pub condition: Condition,
+    pub condition: ForeseenCondition,
 }
 
-impl Fault {
+impl SlotFailure {
     /// The instruction at a slot isn't reached, or the end can be passed behind it.
-    pub fn falls_off(slot: u32) -> Fault {
-        Fault {
+    pub fn falls_off(slot: u32) -> SlotFailure {
+        SlotFailure {
             slot,
-            condition: Condition::FallsOff,
+            condition: ForeseenCondition::FallsOff,
         }
     }
 

@@ -1,9 +1,9 @@
 //! The calls of a program: how deep they go, and whether one leads back.
 
 use crate::blocks::Blocks;
-use crate::condition::Condition;
+use crate::condition::ForeseenCondition;
 use crate::error::InferError;
-use crate::fault::Fault;
+use crate::fault::SlotFailure;
 use crate::flow::Flow;
 use crate::graph::{Arc, Components, Graph};
 use crate::lists::{get_or, put};
@@ -115,8 +115,8 @@ pub fn check_bounds(program: &Program, functions: &Blocks) -> Result<(), InferEr
     for slot in 0..program.slots() {
         if let Some(insn) = program.at(slot) {
             if leaves_function(program, functions, slot, insn) {
-                let condition = Condition::LeavesFunction;
-                return Err(Fault { slot, condition }.refusal());
+                let condition = ForeseenCondition::LeavesFunction;
+                return Err(SlotFailure { slot, condition }.refusal());
             }
         }
     }

@@ -4,7 +4,7 @@ use crate::labels::load;
 use crate::lists::get_or;
 use crate::places::{PLACES, place, tag_own};
 use crate::sketch::Loss;
-use crate::task::{Edge, Task, Visitor};
+use crate::task::{BlockEdge, Task, Visitor};
 use bpf_insn::{AluOp, Insn, Operand, Reg, Width};
 use bpf_num::Num;
 use bpf_state::{Entries, Place, RegState, State, Tag};
@@ -162,7 +162,7 @@ impl<'a> Visitor for Tracker<'a> {
         }
     }
 
-    fn edge(&mut self, edge: Edge, state: &State) -> Result<(), AllocError> {
+    fn edge(&mut self, edge: BlockEdge, state: &State) -> Result<(), AllocError> {
         if self.blocks.binary_search(&edge.to).is_err() {
             return Ok(());
         }

@@ -11,7 +11,7 @@ use bpf_state::{Entries, Place, Reach, RegState, SlotState, State, Tag};
 pub const WRITABLE: usize = 10;
 
 /// How many places a state has: eleven registers and sixty-four slots. All but r10 may hold a counter.
-pub const PLACES: usize = 75;
+pub const PLACES: usize = bpf_insn::PLACES;
 
 /// A place by its number: r0 to r10, then s1 to s64, of which the last has all numbers from 74 on.
 pub fn place(number: usize) -> Place

@@ -60,7 +60,7 @@ impl Move {
 
 /// A place that was tried as the counter of a loop.
 #[derive(Clone, Copy)]
-pub struct Trial {
+pub struct CounterTrial {
     pub place: Place,
     pub moves: Move,
 }
@@ -109,7 +109,7 @@ pub enum Obstacle {
     /// Something begins between the slot and the last way back to it.
     Tangled(Tangle),
     /// None of the places that hold numbers falls or rises in each round.
-    NoCounter(Vec<Trial>),
+    NoCounter(Vec<CounterTrial>),
     /// The loop at the slot moves the pointer in the register, and that one is refused.
     Walking { reg: Reg, head: u32 },
 }
@@ -149,26 +149,26 @@ impl Sketch {
 /// A refusal of a search, and what it had then: what is in the way, and the states; these are those in which the refused instruction was seen, or
 /// with which no budget was found. There are none where it stopped before it had states, or memory ran out.
 #[derive(Drop)]
-pub struct Stop {
+pub struct SearchStop {
     pub error: InferError,
     pub sketch: Sketch,
 }
 
-impl Stop {
+impl SearchStop {
     /// I1 at a slot, for a limit.
-    pub fn unstable(slot: u32, limit: Limit) -> Stop {
-        Stop::of(InferError::Unstable { slot }, Some(Obstacle::Over(limit)))
+    pub fn unstable(slot: u32, limit: Limit) -> SearchStop {
+        SearchStop::of(InferError::Unstable { slot }, Some(Obstacle::Over(limit)))
     }
 
     /// I2 at a slot, for an obstacle.
-    pub fn no_budget(slot: u32, obstacle: Obstacle) -> Stop {
-        Stop::of(InferError::NoBudget { slot }, Some(obstacle))
+    pub fn no_budget(slot: u32, obstacle: Obstacle) -> SearchStop {
+        SearchStop::of(InferError::NoBudget { slot }, Some(obstacle))
     }
 
     /// A refusal without states.
-    fn of(error: InferError, obstacle: Option<Obstacle>) -> Stop {
+    fn of(error: InferError, obstacle: Option<Obstacle>) -> SearchStop {
         let certificate = None;
-        Stop {
+        SearchStop {
             error,
             sketch: Sketch {
                 certificate,
@@ -178,23 +178,23 @@ impl Stop {
     }
 
     /// The same with the states at the labels of functions, on contexts of `least` to `most` bytes.
-    pub fn with_states(self, least: u32, most: u32, functions: Vec<Function>) -> Stop {
-        let Stop { error, sketch } = self;
-        Stop {
+    pub fn with_states(self, least: u32, most: u32, functions: Vec<Function>) -> SearchStop {
+        let SearchStop { error, sketch } = self;
+        SearchStop {
             error,
             sketch: Sketch::of(least, most, functions, sketch.obstacle),
         }
     }
 }
 
-impl From<InferError> for Stop {
-    fn from(error: InferError) -> Stop {
-        Stop::of(error, None)
+impl From<InferError> for SearchStop {
+    fn from(error: InferError) -> SearchStop {
+        SearchStop::of(error, None)
     }
 }
 
-impl From<AllocError> for Stop {
-    fn from(_error: AllocError) -> Stop {
-        Stop::from(InferError::Memory)
+impl From<AllocError> for SearchStop {
+    fn from(_error: AllocError) -> SearchStop {
+        SearchStop::from(InferError::Memory)
     }
 }

@@ -5,8 +5,8 @@ ghost use Rattle.std.specs.Prelude.{◌≡◌, ◌≤◌};
 
 use crate::blocks::Blocks;
 use crate::cfg::Cfg;
-use crate::condition::Condition;
-use crate::fault::Fault;
+use crate::condition::ForeseenCondition;
+use crate::fault::SlotFailure;
 use crate::flow::Flow;
 use crate::labels::{LabelState, load_at};
 use crate::lists::get_or;
@@ -19,14 +19,14 @@ use std::alloc::Global;
 
 /// An edge from one block to another, by their numbers.
 #[derive(Clone, Copy)]
-pub struct Edge {
+pub struct BlockEdge {
     pub from: usize,
     pub to: usize,
 }
 
 /// A function that is called: its number, and that of its first block in the program.
 #[derive(Clone, Copy)]
-pub struct Callee {
+pub struct CalledFunction {
     pub function: usize,
     pub block: usize,
 }
@@ -45,12 +45,12 @@ pub trait Visitor {
     fn after(&mut self, _state: &mut State) {}
 
     /// An edge from one block to another is reached in a state.
-    fn edge(&mut self, _edge: Edge, _state: &State) -> Result<(), Self::Stop> {
+    fn edge(&mut self, _edge: BlockEdge, _state: &State) -> Result<(), Self::Stop> {
         Ok(())
     }
 
     /// A CALL of a function is reached in a state.
-    fn call(&mut self, _callee: Callee, _state: &State) -> Result<(), Self::Stop> {
+    fn call(&mut self, _callee: CalledFunction, _state: &State) -> Result<(), Self::Stop> {
         Ok(())
     }
 
@@ -60,7 +60,7 @@ pub trait Visitor {
     }
 
     /// An instruction fails a condition of the checker.
-    fn fault(&mut self, _fault: Fault) {}
+    fn fault(&mut self, _fault: SlotFailure) {}
 }
 
 /// Blocks to be judged on contexts of `least` to `most` bytes.
@@ -118,8 +118,8 @@ impl<'a> Task<'a> {
         block: usize,
         state: &mut State,
         visitor: &mut V,
-    ) -> Result<Result<u32, Fault>, V::Stop> {
-        let mut walk = Walk {
+    ) -> Result<Result<u32, SlotFailure>, V::Stop> {
+        let mut walk = BlockWalk {
             task: *self,
             block,
             visitor,
@@ -150,15 +150,15 @@ impl<'a> Task<'a> {
 
 /// A walk over a block, by its number.
 #[derive(Drop)]
-struct Walk<'a, 'v, V: Visitor> {
+struct BlockWalk<'a, 'v, V: Visitor> {
     task: Task<'a>,
     block: usize,
     visitor: &'v mut V,
     /// The fault that it ends at.
-    end: Option<Fault>,
+    end: Option<SlotFailure>,
 }
 
-impl<'a, 'v, V: Visitor> Walk<'a, 'v, V> {
+impl<'a, 'v, V: Visitor> BlockWalk<'a, 'v, V> {
     /// Goes over the instructions from the state at the label. The lowest slot that isn't reached, else the end.
     fn go(&mut self, state: &mut State) -> Result<u32, V::Stop> {
         let blocks = self.task.blocks;
@@ -175,7 +175,7 @@ impl<'a, 'v, V: Visitor> Walk<'a, 'v, V> {
         if end < blocks.end() {
             self.lead(end, state)?;
         } else {
-            let _goes_on = self.meet(Fault::falls_off(last));
+            let _goes_on = self.meet(SlotFailure::falls_off(last));
         }
         Ok(end)
     }
@@ -217,8 +217,8 @@ impl<'a, 'v, V: Visitor> Walk<'a, 'v, V> {
         match transfer(insn, self.task.least, self.task.program.order(), state) {
             Ok(goes_on) => goes_on,
             Err(fault) => {
-                let condition = Condition::State(fault);
-                let goes_on = self.meet(Fault { slot, condition });
+                let condition = ForeseenCondition::State(fault);
+                let goes_on = self.meet(SlotFailure { slot, condition });
                 if goes_on {
                     go_on(insn, state);
                 }
@@ -228,7 +228,7 @@ impl<'a, 'v, V: Visitor> Walk<'a, 'v, V> {
     }
 
     /// An instruction is at fault. Whether the walk goes on.
-    fn meet(&mut self, fault: Fault) -> bool {
+    fn meet(&mut self, fault: SlotFailure) -> bool {
         self.visitor.fault(fault);
         if self.task.stops {
             self.end = Some(fault);
@@ -241,7 +241,8 @@ impl<'a, 'v, V: Visitor> Walk<'a, 'v, V> {
         let cfg = self.task.cfg;
         let function = cfg.function_of(callee);
         let block = cfg.blocks.block_of(callee);
-        self.visitor.call(Callee { function, block }, state)?;
+        self.visitor
+            .call(CalledFunction { function, block }, state)?;
         Ok(leave(state, get_or(self.task.rets, function, Num::top())))
     }
 
@@ -249,7 +250,7 @@ impl<'a, 'v, V: Visitor> Walk<'a, 'v, V> {
     fn lead(&mut self, slot: u32, state: &State) -> Result<(), V::Stop> {
         let to = self.task.blocks.block_of(slot);
         let from = self.block;
-        self.visitor.edge(Edge { from, to }, state)
+        self.visitor.edge(BlockEdge { from, to }, state)
     }
 }
 

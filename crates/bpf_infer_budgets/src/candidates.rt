@@ -1,7 +1,7 @@
 //! What may count the rounds of a component.
 
 use crate::components::Component;
-use crate::plan::Plan;
+use crate::plan::FunctionBudgets;
 use bpf_infer_base::{
     Arc, Counter, Graph, PLACES, get_or, longest_paths, nodes_on_cycles, number_in, put,
 };
@@ -81,12 +81,12 @@ pub fn least_step(changes: &[i128]) -> Option<i128> {
 
 /// What counts a component is sought by following places along its arcs.
 #[derive(Clone, Copy)]
-struct Search<'a> {
-    plan: &'a Plan<'a>,
+struct CandidateSearch<'a> {
+    plan: &'a FunctionBudgets<'a>,
     component: &'a Component,
 }
 
-impl<'a> Search<'a> {
+impl<'a> CandidateSearch<'a> {
     /// Whether a place is counted already at the label of a node.
     fn is_counted(&self, node: usize, number: usize) -> bool {
         self.plan.is_counted(self.component.label(node), number)
@@ -194,10 +194,10 @@ impl<'a> Search<'a> {
 
 /// All that may count the rounds of a component.
 pub fn candidates_of<'x>(
-    plan: &'x Plan<'x>,
+    plan: &'x FunctionBudgets<'x>,
     component: &'x Component,
 ) -> Result<Vec<Candidate>, AllocError> {
-    let search = Search { plan, component };
+    let search = CandidateSearch { plan, component };
     let mut list = Vec::new(plan.alloc);
     for number in 0..PLACES {
         let is_number = matches!(plan.said(component.label(0), number), RegState::Num(_));
@@ -212,7 +212,7 @@ pub fn candidates_of<'x>(
 
 /// A candidate by its number, and how many labels stay on cycles.
 #[derive(Clone, Copy)]
-pub struct Choice {
+pub struct RankedCandidate {
     pub number: usize,
     pub cyclic: usize,
     range: i128,
@@ -225,11 +225,11 @@ pub fn choose(
     component: &Component,
     candidates: &[Candidate],
     left: &[usize],
-) -> Result<Option<Choice>, AllocError> {
-    let mut best: Option<Choice> = None;
+) -> Result<Option<RankedCandidate>, AllocError> {
+    let mut best: Option<RankedCandidate> = None;
     for (number, candidate) in candidates.iter().enumerate() {
         let numbers = candidate.without_strict(alloc, left)?;
-        let choice = Choice {
+        let choice = RankedCandidate {
             number,
             cyclic: nodes_on_cycles(alloc, &component.part(alloc, &numbers)?)?,
             range: candidate.range,

@@ -1,14 +1,14 @@
 //! A draft: the functions of a program with what is known at their labels; and what calls of them cost.
 
 use bpf_cert::{Function, MAX_TERMS};
-use bpf_infer_base::{Blocks, Line, Span, Task};
+use bpf_infer_base::{Blocks, LinearTerm, NumberSpan, Task};
 use bpf_num::Num;
 use bpf_state::State;
 use std::alloc::{AllocError, Global};
 
 /// The functions of a program on the lengths of a quest, with the states at their labels.
 #[derive(Clone, Copy)]
-pub struct Draft<'a> {
+pub struct LabelledFunctions<'a> {
     /// All blocks of the program, and what its functions return.
     pub whole: Task<'a>,
     /// By their numbers.
@@ -20,10 +20,10 @@ pub fn rets_of(alloc: Global, functions: &[Function]) -> Result<Vec<Num>, AllocE
     functions.iter().map(|function| function.ret).collect(alloc)
 }
 
-impl<'a> Draft<'a> {
+impl<'a> LabelledFunctions<'a> {
     /// Functions of a program that return what these numbers say.
-    pub fn of(task: Task<'a>, functions: &'a [Function], rets: &'a [Num]) -> Draft<'a> {
-        Draft {
+    pub fn of(task: Task<'a>, functions: &'a [Function], rets: &'a [Num]) -> LabelledFunctions<'a> {
+        LabelledFunctions {
             whole: Task { rets, ..task },
             functions,
         }
@@ -53,7 +53,7 @@ impl<'a> Draft<'a> {
 #[derive(Clone, Copy)]
 pub struct Price {
     pub base: i128,
-    pub lines: [Option<(usize, Line)>; MAX_TERMS],
+    pub lines: [Option<(usize, LinearTerm)>; MAX_TERMS],
 }
 
 impl Price {
@@ -67,7 +67,7 @@ impl Price {
     pub fn greatest(&self, state: &State) -> i128 {
         let mut sum = self.base;
         for (number, line) in self.lines.into_iter().flatten() {
-            sum = sum.saturating_add(line.greatest(Span::of(state, number)));
+            sum = sum.saturating_add(line.greatest(NumberSpan::of(state, number)));
         }
         sum
     }

@@ -1,15 +1,15 @@
 //! The loops of a draft that nothing counts.
 
-use crate::draft::{Draft, rets_of};
-use crate::groups::Groups;
+use crate::draft::{LabelledFunctions, rets_of};
+use crate::groups::CounterGroups;
 use crate::paths::paths_of;
-use crate::plan::Plan;
+use crate::plan::FunctionBudgets;
 use bpf_cert::Function;
 use bpf_infer_base::{InferError, Meter, Task, Watch};
 
 /// Adds the first slots of a function's loops that nothing counts.
 fn add_uncounted<W: Watch>(
-    draft: Draft,
+    draft: LabelledFunctions,
     number: usize,
     function: &Function,
     slots: &mut Vec<u32>,
@@ -17,8 +17,8 @@ fn add_uncounted<W: Watch>(
 ) -> Result<(), InferError> {
     // What a call costs counts nothing.
     let paths = paths_of(draft, number, function, &[])?;
-    let mut plan = Plan::new(draft.whole.alloc, function, &paths)?;
-    let groups = Groups::of(&mut plan, meter)?;
+    let mut plan = FunctionBudgets::new(draft.whole.alloc, function, &paths)?;
+    let groups = CounterGroups::of(&mut plan, meter)?;
     for label in &groups.all_uncounted {
         slots.push(plan.slot(*label))?;
     }
@@ -33,7 +33,7 @@ pub fn uncounted<W: Watch>(
     meter: &mut Meter<'_, W>,
 ) -> Result<Vec<u32>, InferError> {
     let rets = rets_of(task.alloc, functions)?;
-    let draft = Draft::of(task, functions, &rets);
+    let draft = LabelledFunctions::of(task, functions, &rets);
     let mut slots = Vec::new(task.alloc);
     for (number, function) in functions.iter().enumerate() {
         add_uncounted(draft, number, function, &mut slots, meter)?;

@@ -1,17 +1,20 @@
 //! The paths from each label of a function to the labels behind it.
 
-use crate::draft::{Draft, Price};
+use crate::draft::{LabelledFunctions, Price};
 use bpf_cert::{Function, Label};
-use bpf_infer_base::{Arc, Blocks, Callee, Edge, Fault, Graph, InferError, PLACES, Span, Task, Visitor, get_or, load, number_at, number_in, place, said, tag_own};
+use bpf_infer_base::{
+    Arc, BlockEdge, Blocks, CalledFunction, Graph, InferError, NumberSpan, PLACES, SlotFailure,
+    Task, Visitor, get_or, load, number_at, number_in, place, said, tag_own,
+};
 use bpf_insn::{Insn, Reg};
 use bpf_state::{RegState, State, Tag, enter};
 use std::alloc::AllocError;
 
 /// What a place holds at the end of a path. Its source is the place that held it at the start, less an offset.
 #[derive(Clone, Copy)]
-pub struct Moved {
+pub struct PlaceMove {
     number: usize,
-    pub span: Span,
+    pub span: NumberSpan,
     pub source: Option<Tag>,
 }
 
@@ -36,7 +39,7 @@ pub struct Paths {
     pub graph: Graph,
     list: Vec<Path>,
     /// What places hold at the ends of the paths, if their labels say that it is a number.
-    held: Vec<Moved>,
+    held: Vec<PlaceMove>,
     /// By labels, the number of the first path that leaves this one or a later one.
     starts: Vec<usize>,
 }
@@ -60,7 +63,7 @@ impl Paths {
     }
 
     /// What a place holds at the end of a path, if its label says that it is a number.
-    pub fn held(&self, path: &Path, number: usize) -> Option<&Moved> {
+    pub fn held(&self, path: &Path, number: usize) -> Option<&PlaceMove> {
         let held = self.held.get(path.held_from..path.held_to)?;
         held.iter().find(|held| held.number == number)
     }
@@ -80,7 +83,7 @@ struct Walker<'a> {
     /// What is known to be the price of each function so far; nothing where it isn't known.
     prices: &'a [Price],
     list: Vec<Path>,
-    held: Vec<Moved>,
+    held: Vec<PlaceMove>,
     starts: Vec<usize>,
     /// The cost since the last label.
     cost: i128,
@@ -107,9 +110,9 @@ impl<'a> Walker<'a> {
     fn note(&mut self, state: &State, label: &Label) -> Result<(), AllocError> {
         for number in 0..PLACES {
             if let RegState::Num(_) = said(&label.state, number) {
-                self.held.push(Moved {
+                self.held.push(PlaceMove {
                     number,
-                    span: Span::of(state, number),
+                    span: NumberSpan::of(state, number),
                     source: state.tag(place(number)),
                 })?;
             }
@@ -146,7 +149,7 @@ impl<'a> Walker<'a> {
         self.cost = 0;
         match task.walk(number, room, self)? {
             Ok(reached) if reached < task.blocks.block_end(number) => {
-                Err(Fault::falls_off(reached).refusal())
+                Err(SlotFailure::falls_off(reached).refusal())
             }
             Ok(_) => Ok(()),
             Err(fault) => Err(fault.refusal()),
@@ -174,7 +177,7 @@ impl<'a> Visitor for Walker<'a> {
     }
 
     /// I1 where the state does not lie in what the label says.
-    fn edge(&mut self, edge: Edge, state: &State) -> Result<(), InferError> {
+    fn edge(&mut self, edge: BlockEdge, state: &State) -> Result<(), InferError> {
         let function = self.function;
         let Some(label) = function.labels.get(edge.to) else {
             return Err(self.unstable());
@@ -189,7 +192,7 @@ impl<'a> Visitor for Walker<'a> {
     }
 
     /// I1 where the state does not lie in the one that the function begins in.
-    fn call(&mut self, callee: Callee, state: &State) -> Result<(), InferError> {
+    fn call(&mut self, callee: CalledFunction, state: &State) -> Result<(), InferError> {
         let mut entry = state.copy();
         enter(&mut entry);
         let lies_in = self
@@ -219,7 +222,7 @@ impl<'a> Visitor for Walker<'a> {
 /// The paths of a function. I1 if a state on one doesn't lie in its label's, I4 at an instruction that is refused or not
 /// reached.
 pub fn paths_of(
-    draft: Draft,
+    draft: LabelledFunctions,
     number: usize,
     function: &Function,
     prices: &[Price],

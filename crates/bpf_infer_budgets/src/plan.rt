@@ -3,7 +3,7 @@
 use crate::draft::Price;
 use crate::paths::{Path, Paths};
 use bpf_cert::{Function, MAX_TERMS};
-use bpf_infer_base::{Counter, Line, Span, get_or, put, said, tight_number};
+use bpf_infer_base::{Counter, LinearTerm, NumberSpan, get_or, put, said, tight_number};
 use bpf_state::{Entries, RegState, Tag};
 use std::alloc::{AllocError, Global};
 
@@ -15,31 +15,31 @@ pub struct Part {
 }
 
 /// The terms of a budget.
-pub type Parts = [Option<Part>; MAX_TERMS];
+pub type BudgetTerms = [Option<Part>; MAX_TERMS];
 
 /// Budgets of a function's labels.
 #[derive(Drop)]
-pub struct Plan<'a> {
+pub struct FunctionBudgets<'a> {
     pub alloc: Global,
     pub function: &'a Function,
     pub paths: &'a Paths,
     /// By labels.
-    parts: Vec<Parts>,
+    parts: Vec<BudgetTerms>,
     /// How often what is counted is counted.
     weights: Vec<i128>,
     /// By labels.
     pub bases: Vec<i128>,
 }
 
-impl<'a> Plan<'a> {
+impl<'a> FunctionBudgets<'a> {
     /// Budgets of base 0 without terms.
     pub fn new(
         alloc: Global,
         function: &'a Function,
         paths: &'a Paths,
-    ) -> Result<Plan<'a>, AllocError> {
+    ) -> Result<FunctionBudgets<'a>, AllocError> {
         let count = function.labels.len();
-        Ok(Plan {
+        Ok(FunctionBudgets {
             alloc,
             function,
             paths,
@@ -63,8 +63,8 @@ impl<'a> Plan<'a> {
     }
 
     /// What the number in a place may be at a label.
-    pub fn span(&self, label: usize, number: usize) -> Span {
-        Span::of_number(
+    pub fn span(&self, label: usize, number: usize) -> NumberSpan {
+        NumberSpan::of_number(
             self.known(label)
                 .and_then(|known| tight_number(known, number)),
         )
@@ -82,7 +82,7 @@ impl<'a> Plan<'a> {
     }
 
     /// The terms of a label's budget.
-    pub fn parts(&self, label: usize) -> Parts {
+    pub fn parts(&self, label: usize) -> BudgetTerms {
         get_or(&self.parts, label, [None; MAX_TERMS])
     }
 
@@ -98,7 +98,7 @@ impl<'a> Plan<'a> {
     }
 
     /// Puts terms in the place of a label's.
-    pub fn set_parts(&mut self, label: usize, parts: Parts) {
+    pub fn set_parts(&mut self, label: usize, parts: BudgetTerms) {
         put(&mut self.parts, label, parts);
     }
 
@@ -131,15 +131,15 @@ impl<'a> Plan<'a> {
     }
 
     /// What a term gives by what its place holds.
-    pub fn line(&self, part: Part) -> Line {
-        Line::of(part.counter, self.weight(part.weight))
+    pub fn line(&self, part: Part) -> LinearTerm {
+        LinearTerm::of(part.counter, self.weight(part.weight))
     }
 
     // ---- what a path has to pay beside bases
 
     /// How much of an old term's place the new terms on a path take, less what the old one gives, at the greatest.
-    fn taken(&self, path: &Path, old: Part, parts: &Parts) -> i128 {
-        let mut line = Line::ZERO.minus(self.line(old));
+    fn taken(&self, path: &Path, old: Part, parts: &BudgetTerms) -> i128 {
+        let mut line = LinearTerm::ZERO.minus(self.line(old));
         for part in parts.iter().flatten() {
             if let Some(tag) = self.source(path, *part) {
                 if tag.term as usize == old.counter.number() {
@@ -163,7 +163,7 @@ impl<'a> Plan<'a> {
         }
         let held = self.paths.held(path, part.counter.number());
         self.line(part)
-            .greatest(held.map_or(Span::ALL, |held| held.span))
+            .greatest(held.map_or(NumberSpan::ALL, |held| held.span))
     }
 
     /// What the base at the start of a path has to pay beside the one at its end: its cost, and what terms take more than

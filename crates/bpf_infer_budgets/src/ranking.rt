@@ -4,20 +4,20 @@
 ghost use Rattle.std.specs.Prelude.{◌≤◌};
 
 use crate::bases::settle_bases;
-use crate::draft::{Draft, Price, rets_of};
-use crate::groups::{Groups, Uncounted};
+use crate::draft::{LabelledFunctions, Price, rets_of};
+use crate::groups::{CounterGroups, Uncounted};
 use crate::paths::paths_of;
-use crate::plan::Plan;
+use crate::plan::FunctionBudgets;
 use crate::trials::trials_of;
 use crate::weights::weigh;
 use arrayvec::ArrayVec;
 use bpf_cert::{Budget, Function};
-use bpf_infer_base::{Limit, Meter, Obstacle, PLACES, Proposal, Stop, Task, Watch, put};
+use bpf_infer_base::{Limit, Meter, Obstacle, PLACES, Proposal, SearchStop, Task, Watch, put};
 use bpf_state::State;
 use std::alloc::AllocError;
 
 /// The budget at a label, its terms by their places.
-fn budget_of(plan: &Plan, label: usize) -> Budget {
+fn budget_of(plan: &FunctionBudgets, label: usize) -> Budget {
     let mut terms = ArrayVec::new();
     for number in 0..PLACES {
         if let Some(part) = plan.part(label, number) {
@@ -33,7 +33,7 @@ fn budget_of(plan: &Plan, label: usize) -> Budget {
 }
 
 /// The budgets of a function's labels.
-fn budgets_of(plan: &Plan) -> Result<Vec<Budget>, AllocError> {
+fn budgets_of(plan: &FunctionBudgets) -> Result<Vec<Budget>, AllocError> {
     let labels = 0..plan.function.labels.len();
     labels
         .map(|label| budget_of(plan, label))
@@ -41,22 +41,26 @@ fn budgets_of(plan: &Plan) -> Result<Vec<Budget>, AllocError> {
 }
 
 /// I2 at the lowest label of a component without a counter.
-fn stop_at(draft: Draft, plan: &Plan, uncounted: Uncounted) -> Result<Stop, AllocError> {
+fn stop_at(
+    draft: LabelledFunctions,
+    plan: &FunctionBudgets,
+    uncounted: Uncounted,
+) -> Result<SearchStop, AllocError> {
     let obstacle = match &uncounted.component {
         Some(component) => Obstacle::NoCounter(trials_of(draft, plan, component)?),
         None => Obstacle::Over(Limit::Terms),
     };
-    Ok(Stop::no_budget(plan.slot(uncounted.label), obstacle))
+    Ok(SearchStop::no_budget(plan.slot(uncounted.label), obstacle))
 }
 
 /// Finds the counters of a function, their weights and the bases.
 fn rank<W: Watch>(
-    draft: Draft,
+    draft: LabelledFunctions,
     number: usize,
-    plan: &mut Plan,
+    plan: &mut FunctionBudgets,
     meter: &mut Meter<'_, W>,
-) -> Result<(), Stop> {
-    let mut groups = Groups::of(plan, meter)?;
+) -> Result<(), SearchStop> {
+    let mut groups = CounterGroups::of(plan, meter)?;
     if let Some(uncounted) = groups.uncounted.take() {
         return Err(stop_at(draft, plan, uncounted)?);
     }
@@ -80,15 +84,15 @@ impl Ranking {
     /// Finds the budgets of a function and what a call of it costs.
     fn rank<W: Watch>(
         &mut self,
-        draft: Draft,
+        draft: LabelledFunctions,
         number: usize,
         meter: &mut Meter<'_, W>,
-    ) -> Result<(), Stop> {
+    ) -> Result<(), SearchStop> {
         let Some(function) = draft.functions.get(number) else {
             return Ok(());
         };
         let paths = paths_of(draft, number, function, &self.prices)?;
-        let mut plan = Plan::new(draft.whole.alloc, function, &paths)?;
+        let mut plan = FunctionBudgets::new(draft.whole.alloc, function, &paths)?;
         rank(draft, number, &mut plan, meter)?;
         put(&mut self.prices, number, plan.price());
         put(&mut self.budgets, number, budgets_of(&plan)?);
@@ -97,7 +101,10 @@ impl Ranking {
 }
 
 /// The budgets of the functions of a draft, callees first.
-fn ranking_of<W: Watch>(draft: Draft, meter: &mut Meter<'_, W>) -> Result<Ranking, Stop> {
+fn ranking_of<W: Watch>(
+    draft: LabelledFunctions,
+    meter: &mut Meter<'_, W>,
+) -> Result<Ranking, SearchStop> {
     let (alloc, count) = (draft.whole.alloc, draft.functions.len());
     let none = |_number| Vec::new(alloc);
     let mut ranking = Ranking {
@@ -111,14 +118,14 @@ fn ranking_of<W: Watch>(draft: Draft, meter: &mut Meter<'_, W>) -> Result<Rankin
 }
 
 /// The greatest number of steps of a run from a state. I2 at slot 0 above 2^32 - 1.
-fn steps_from(ranking: &Ranking, start: &State) -> Result<u32, Stop> {
+fn steps_from(ranking: &Ranking, start: &State) -> Result<u32, SearchStop> {
     let steps = ranking
         .prices
         .first()
         .map_or(0, |price| price.greatest(start));
     let wanted = u64::try_from(steps).unwrap_or(u64::MAX);
     let over = Obstacle::Over(Limit::Steps { wanted });
-    u32::try_from(steps).map_err(|_error| Stop::no_budget(0, over))
+    u32::try_from(steps).map_err(|_error| SearchStop::no_budget(0, over))
 }
 
 /// Gives a function's labels their budgets.
@@ -140,11 +147,11 @@ fn budgeted<W: Watch>(
     task: Task,
     functions: &[Function],
     meter: &mut Meter<'_, W>,
-) -> Result<(u32, Vec<Vec<Budget>>), Stop>
+) -> Result<(u32, Vec<Vec<Budget>>), SearchStop>
     requires { task.least ≤ task.most }
 {
     let rets = rets_of(task.alloc, functions)?;
-    let ranking = ranking_of(Draft::of(task, functions, &rets), meter)?;
+    let ranking = ranking_of(LabelledFunctions::of(task, functions, &rets), meter)?;
     let steps = steps_from(&ranking, &task.start())?;
     Ok((steps, ranking.budgets))
 }
@@ -156,7 +163,7 @@ pub fn ranked<W: Watch>(
     task: Task,
     mut functions: Vec<Function>,
     meter: &mut Meter<'_, W>,
-) -> Result<Proposal, Stop>
+) -> Result<Proposal, SearchStop>
     requires { task.least ≤ task.most }
 {
     match budgeted(task, &functions, meter) {

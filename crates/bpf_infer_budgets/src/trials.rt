@@ -1,14 +1,14 @@
 //! Why nothing counts the rounds of a component.
 
 use crate::components::Component;
-use crate::draft::Draft;
-use crate::plan::Plan;
-use bpf_infer_base::{Move, PLACES, Shift, Trial, get_or, losses_in, place, put};
+use crate::draft::LabelledFunctions;
+use crate::plan::FunctionBudgets;
+use bpf_infer_base::{CounterTrial, Move, PLACES, Shift, get_or, losses_in, place, put};
 use std::alloc::AllocError;
 
 /// How a place moves from the first label of a component to itself, past rounds of inner loops; None if it isn't followed.
 fn round_of(
-    plan: &Plan,
+    plan: &FunctionBudgets,
     component: &Component,
     number: usize,
 ) -> Result<Option<Shift>, AllocError> {
@@ -37,10 +37,10 @@ fn round_of(
 
 /// The places that were tried as counters of a component, with what they do in a round.
 pub fn trials_of(
-    draft: Draft,
-    plan: &Plan,
+    draft: LabelledFunctions,
+    plan: &FunctionBudgets,
     component: &Component,
-) -> Result<Vec<Trial>, AllocError> {
+) -> Result<Vec<CounterTrial>, AllocError> {
     let task = draft.task(&plan.paths.blocks);
     let losses = losses_in(task, &component.labels, |label| plan.known(label))?;
     let first = component.label(0);
@@ -52,7 +52,7 @@ pub fn trials_of(
         let shift = round_of(plan, component, number)?;
         if let Some(moves) = Move::of(plan.said(first, number), shift, losses[number]) {
             let place = place(number);
-            trials.push(Trial { place, moves })?;
+            trials.push(CounterTrial { place, moves })?;
         }
     }
     Ok(trials)

@@ -1,10 +1,10 @@
 //! How often the counters of a group are counted: longest paths to their steps, and halving for the least weights.
 
 use crate::candidates::least_step;
-use crate::groups::{Counted, Group};
-use crate::plan::Plan;
+use crate::groups::{CounterGroup, GroupCounter};
+use crate::plan::FunctionBudgets;
 use bpf_cert::MAX_WEIGHT;
-use bpf_infer_base::{Arc, Graph, Limit, Obstacle, Stop, get_or, longest_paths, put};
+use bpf_infer_base::{Arc, Graph, Limit, Obstacle, SearchStop, get_or, longest_paths, put};
 use std::alloc::{AllocError, Global};
 
 /// The most labels of a component whose weights are made least.
@@ -17,20 +17,20 @@ const MOST_PASSES: usize = 1024;
 const HALVINGS: usize = 20;
 
 /// By arcs, what bases have to pay beside one another.
-fn lengths_of(plan: &Plan, graph: &Graph) -> Result<Vec<i128>, AllocError> {
+fn lengths_of(plan: &FunctionBudgets, graph: &Graph) -> Result<Vec<i128>, AllocError> {
     let length_of = |arc: &Arc| plan.paths.at(arc.path).map_or(0, |path| plan.length(path));
     graph.arcs().iter().map(length_of).collect(plan.alloc)
 }
 
 /// Adds what a counter grows by, so many times.
-fn add_changes(sums: &mut Vec<i128>, counted: &Counted, weight: i128) {
+fn add_changes(sums: &mut Vec<i128>, counted: &GroupCounter, weight: i128) {
     for (sum, change) in sums.iter_mut().zip(&counted.changes) {
         *sum = sum.saturating_add(change.saturating_mul(weight));
     }
 }
 
 /// By arcs, how much the counters of a group grow together: 0 or less.
-fn changes_of(alloc: Global, group: &Group) -> Result<Vec<i128>, AllocError> {
+fn changes_of(alloc: Global, group: &CounterGroup) -> Result<Vec<i128>, AllocError> {
     let mut sums = vec![in alloc; 0; group.component.graph.arcs().len()]?;
     for counted in &group.counters {
         add_changes(&mut sums, counted, 1);
@@ -61,7 +61,11 @@ pub fn passes_over(count: usize) -> usize {
 }
 
 /// A weight with which a step pays the longest path to it, and the path of the step. None if there is no longest one.
-fn weight_of(alloc: Global, group: &Group, lengths: &[i128]) -> Result<Option<i128>, AllocError> {
+fn weight_of(
+    alloc: Global,
+    group: &CounterGroup,
+    lengths: &[i128],
+) -> Result<Option<i128>, AllocError> {
     let changes = changes_of(alloc, group)?;
     let graph = &group.component.graph;
     let heights = heights_of(alloc, graph, lengths, &changes)?;
@@ -83,7 +87,11 @@ fn weight_of(alloc: Global, group: &Group, lengths: &[i128]) -> Result<Option<i1
 // ---- the least weights
 
 /// Whether no cycle costs more than the counters pay.
-fn is_paid(plan: &Plan, group: &Group, lengths: &[i128]) -> Result<bool, AllocError> {
+fn is_paid(
+    plan: &FunctionBudgets,
+    group: &CounterGroup,
+    lengths: &[i128],
+) -> Result<bool, AllocError> {
     let mut sums = lengths.to_vec(plan.alloc)?;
     for counted in &group.counters {
         add_changes(&mut sums, counted, plan.weight(counted.weight));
@@ -95,8 +103,8 @@ fn is_paid(plan: &Plan, group: &Group, lengths: &[i128]) -> Result<bool, AllocEr
 
 /// Makes a weight the least with which cycles are paid.
 fn lower(
-    plan: &mut Plan,
-    group: &Group,
+    plan: &mut FunctionBudgets,
+    group: &CounterGroup,
     lengths: &[i128],
     number: usize,
 ) -> Result<(), AllocError> {
@@ -120,15 +128,15 @@ fn lower(
 
 /// Gives the counters of a group their weights; those of inner groups have theirs. I2 at the lowest label of a group with
 /// a weight above 2^20.
-pub fn weigh(plan: &mut Plan, group: &Group) -> Result<(), Stop> {
+pub fn weigh(plan: &mut FunctionBudgets, group: &CounterGroup) -> Result<(), SearchStop> {
     let lengths = lengths_of(plan, &group.component.graph)?;
     let slot = plan.slot(group.component.label(0));
     let Some(weight) = weight_of(plan.alloc, group, &lengths)? else {
-        return Err(Stop::no_budget(slot, Obstacle::Over(Limit::Passes)));
+        return Err(SearchStop::no_budget(slot, Obstacle::Over(Limit::Passes)));
     };
     if weight > MAX_WEIGHT as i128 {
         let wanted = u64::try_from(weight).unwrap_or(u64::MAX);
-        return Err(Stop::no_budget(slot, Obstacle::Over(Limit::Weight { wanted })));
+        return Err(SearchStop::no_budget(slot, Obstacle::Over(Limit::Weight { wanted })));
     }
     for counted in &group.counters {
         plan.set_weight(counted.weight, weight);

@@ -3,9 +3,12 @@
 //! nothing leads to at all the one of the code in front of it; the search for a fixpoint joins them with what else
 //! arrives. Where an instruction is at fault then, the states that lead to it are changed.
 
-use crate::judge::Report;
+use crate::judge::WalkReport;
 use crate::repair::{change_kinds, fill};
-use bpf_infer_base::{Condition, Fault, Flow, JoinedStates, LabelState, Task, Visitor, get_or, graph_of, put};
+use bpf_infer_base::{
+    Flow, ForeseenCondition, JoinedStates, LabelState, SlotFailure, Task, Visitor, get_or,
+    graph_of, put,
+};
 use bpf_insn::Insn;
 use bpf_state::{Entries, State, StateFault};
 use std::alloc::{AllocError, Global};
@@ -138,18 +141,20 @@ impl Seeds {
     }
 
     /// Changes the states so that a fault may go away. Whether something was changed.
-    pub fn repair(&mut self, task: Task, fault: Fault) -> Result<bool, AllocError> {
+    pub fn repair(&mut self, task: Task, fault: SlotFailure) -> Result<bool, AllocError> {
         match fault.condition {
-            Condition::State(StateFault::UnsetRegister) => {
+            ForeseenCondition::State(StateFault::UnsetRegister) => {
                 self.fill_before(task, fault.slot, false)
             }
-            Condition::State(StateFault::UnsetByte) => self.fill_before(task, fault.slot, true),
-            Condition::State(StateFault::WrongKinds | StateFault::OutOfBounds) => {
+            ForeseenCondition::State(StateFault::UnsetByte) => self.fill_before(
+                task, fault.slot, true,
+            ),
+            ForeseenCondition::State(StateFault::WrongKinds | StateFault::OutOfBounds) => {
                 self.change_kinds(task, fault.slot)
             }
-            Condition::State(StateFault::Protected)
-            | Condition::FallsOff
-            | Condition::LeavesFunction => Ok(false),
+            ForeseenCondition::State(StateFault::Protected)
+            | ForeseenCondition::FallsOff
+            | ForeseenCondition::LeavesFunction => Ok(false),
         }
     }
 }
@@ -160,7 +165,7 @@ impl Seeds {
 #[derive(Drop)]
 struct Seeker<'a> {
     task: Task<'a>,
-    report: &'a Report,
+    report: &'a WalkReport,
     /// States over edges that aren't taken.
     found: Seeds,
     /// States behind jumps and EXITs.
@@ -263,7 +268,7 @@ impl<'a> Seeker<'a> {
 pub fn add_seeds(
     task: Task,
     states: &[LabelState],
-    report: &Report,
+    report: &WalkReport,
     seeds: &mut Seeds,
 ) -> Result<(), AllocError> {
     let (alloc, first, end) = (task.alloc, task.blocks.first(), task.blocks.end());

@@ -1,31 +1,33 @@
 //! What the states of a function's labels say of its instructions.
 
-use bpf_infer_base::{Callee, Fault, JoinedStates, LabelState, Task, Visitor, get_or, put};
+use bpf_infer_base::{
+    CalledFunction, JoinedStates, LabelState, SlotFailure, Task, Visitor, get_or, put,
+};
 use bpf_insn::{Insn, Reg};
 use bpf_num::Num;
 use bpf_state::{State, enter};
 use std::alloc::AllocError;
 
 /// The lower of two faults, the first one if they are at one slot.
-pub fn lower(a: Option<Fault>, b: Option<Fault>) -> Option<Fault> {
+pub fn lower(a: Option<SlotFailure>, b: Option<SlotFailure>) -> Option<SlotFailure> {
     [a, b].into_iter().flatten().min_by_key(|fault| fault.slot)
 }
 
 /// What a walk over all blocks of a function saw.
 #[derive(Drop)]
-pub struct Report {
+pub struct WalkReport {
     first: u32,
     /// By slots from the first on.
     reached: Vec<bool>,
     /// The lowest fault.
-    pub fault: Option<Fault>,
+    pub fault: Option<SlotFailure>,
     /// By functions, the states that those begin in that are called.
     pub entries: JoinedStates,
     /// What r0 is at an EXIT.
     pub exit: Option<Num>,
 }
 
-impl Visitor for Report {
+impl Visitor for WalkReport {
     type Stop = AllocError;
 
     fn before(&mut self, slot: u32, _insn: &Insn, _state: &State) -> Result<(), AllocError> {
@@ -34,7 +36,7 @@ impl Visitor for Report {
         Ok(())
     }
 
-    fn call(&mut self, callee: Callee, state: &State) -> Result<(), AllocError> {
+    fn call(&mut self, callee: CalledFunction, state: &State) -> Result<(), AllocError> {
         let mut entry = state.copy();
         enter(&mut entry);
         let _is_changed = self.entries.add(callee.function, &entry, None)?;
@@ -47,16 +49,16 @@ impl Visitor for Report {
         Ok(())
     }
 
-    fn fault(&mut self, fault: Fault) {
+    fn fault(&mut self, fault: SlotFailure) {
         self.fault = lower(self.fault, Some(fault));
     }
 }
 
-impl Report {
+impl WalkReport {
     /// Goes over all blocks from the states of their labels.
-    pub fn of(task: Task, states: &[LabelState]) -> Result<Report, AllocError> {
+    pub fn of(task: Task, states: &[LabelState]) -> Result<WalkReport, AllocError> {
         let alloc = task.alloc;
-        let mut report = Report {
+        let mut report = WalkReport {
             first: task.blocks.first(),
             reached: vec![in alloc; false; task.blocks.slots()]?,
             fault: None,

@@ -50,7 +50,7 @@ fn needs_of(insn: &Insn, state: &State) -> Needs {
 
 /// The places that are read behind each label before they are written.
 #[derive(Drop)]
-struct Liveness<'a> {
+struct LabelLiveness<'a> {
     task: Task<'a>,
     /// By functions, what each reads of what it begins with.
     callees: &'a [PlaceSet],
@@ -60,7 +60,7 @@ struct Liveness<'a> {
     live: Vec<PlaceSet>,
 }
 
-impl<'a> Visitor for Liveness<'a> {
+impl<'a> Visitor for LabelLiveness<'a> {
     type Stop = AllocError;
 
     fn before(&mut self, slot: u32, insn: &Insn, state: &State) -> Result<(), AllocError> {
@@ -76,7 +76,7 @@ impl<'a> Visitor for Liveness<'a> {
     }
 }
 
-impl<'a> Liveness<'a> {
+impl<'a> LabelLiveness<'a> {
     /// The places that are read behind a label, as far as is known.
     fn live_at(&self, label: usize) -> PlaceSet {
         get_or(&self.live, label, PlaceSet::NONE)
@@ -130,7 +130,7 @@ pub fn places_read(
     callees: &[PlaceSet],
 ) -> Result<Vec<PlaceSet>, AllocError> {
     let (alloc, count) = (task.alloc, task.blocks.count());
-    let mut liveness = Liveness {
+    let mut liveness = LabelLiveness {
         task,
         callees,
         needs: vec![in alloc; Needs::default(); task.blocks.slots()]?,

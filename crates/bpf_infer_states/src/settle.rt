@@ -3,10 +3,10 @@
 
 use crate::nest::{Loop, Nest};
 use crate::sums::Sums;
-use crate::thresholds::{Reach, Thresholds};
+use crate::thresholds::{Thresholds, WideningReach};
 use bpf_infer_base::{
-    Edge, LABEL_WORK, LabelState, Limit, Meter, Stop, Task, Visitor, Watch, get_or, held, load_at,
-    put, vacant,
+    BlockEdge, LABEL_WORK, LabelState, Limit, Meter, SearchStop, Task, Visitor, Watch, get_or,
+    held, load_at, put, vacant,
 };
 use bpf_insn::Insn;
 use bpf_state::{Entries, Reach as Touched, State};
@@ -120,7 +120,7 @@ impl<'a> Visitor for Settler<'a> {
         Ok(())
     }
 
-    fn edge(&mut self, edge: Edge, state: &State) -> Result<(), AllocError> {
+    fn edge(&mut self, edge: BlockEdge, state: &State) -> Result<(), AllocError> {
         let depth = self.nest.common_depth(edge.from, edge.to);
         let work = self.sums.add(edge.to, depth, state)?;
         self.work = self.work.saturating_add(work);
@@ -156,7 +156,10 @@ impl<'a> Settler<'a> {
     }
 
     /// Finds the states. I1 at the first slot if a limit is passed before.
-    pub fn settle<W: Watch>(mut self, meter: &mut Meter<'_, W>) -> Result<Vec<LabelState>, Stop> {
+    pub fn settle<W: Watch>(
+        mut self,
+        meter: &mut Meter<'_, W>,
+    ) -> Result<Vec<LabelState>, SearchStop> {
         let first = self.task.blocks.first();
         let mut place = 0;
         for _ in 0..meter.most() {
@@ -168,10 +171,10 @@ impl<'a> Settler<'a> {
             self.work = 0;
             self.is_late = meter.is_low();
             if let Some(limit) = meter.limit().or(self.sums.limit()) {
-                return Err(Stop::unstable(first, limit));
+                return Err(SearchStop::unstable(first, limit));
             }
         }
-        Err(Stop::unstable(first, Limit::Work { most: meter.most() }))
+        Err(SearchStop::unstable(first, Limit::Work { most: meter.most() }))
     }
 
     /// Goes over the label at a place, or ends the turn of a loop there. The place to go on from; None at the end.
@@ -260,9 +263,9 @@ impl<'a> Settler<'a> {
         if let Some(sum) = self.sums.total(head)? {
             // What comes from outside is held back by the loops around.
             let reach = if self.is_tired() {
-                Reach::Extreme
+                WideningReach::Extreme
             } else {
-                Reach::Nowhere
+                WideningReach::Nowhere
             };
             self.rise(head, sum, reach)?;
         }
@@ -296,20 +299,20 @@ impl<'a> Settler<'a> {
     }
 
     /// How far bounds are moved on that a turn of a loop moved. The change is counted.
-    fn reach_of(&mut self, number: usize) -> Reach {
+    fn reach_of(&mut self, number: usize) -> WideningReach {
         let changes = get_or(&self.changes, number, 0).saturating_add(1);
         put(&mut self.changes, number, changes);
         if self.is_tired() || changes > MOST_CHANGES {
-            Reach::Extreme
+            WideningReach::Extreme
         } else if changes > PLAIN_CHANGES {
-            Reach::Stop
+            WideningReach::Stop
         } else {
-            Reach::Nowhere
+            WideningReach::Nowhere
         }
     }
 
     /// Makes the state of a loop's head one that a sum lies in.
-    fn rise(&mut self, head: usize, sum: Entries, reach: Reach) -> Result<(), AllocError> {
+    fn rise(&mut self, head: usize, sum: Entries, reach: WideningReach) -> Result<(), AllocError> {
         let Some(state) = held(&self.states, head) else {
             put(&mut self.states, head, Some(sum));
             return Ok(());

@@ -4,12 +4,12 @@ mod outcome;
 mod surveys;
 
 use crate::dead::{Seeds, add_seeds};
-use crate::judge::Report;
+use crate::judge::WalkReport;
 use crate::nest::Nest;
 use crate::settle::Settler;
 use bpf_infer_base::{
-    Blocks, JoinedStates, LabelState, Limit, Meter, Stop, Task, Watch, get_or, graph_of, held, put,
-    vacant,
+    Blocks, JoinedStates, LabelState, Limit, Meter, SearchStop, Task, Watch, get_or, graph_of,
+    held, put, vacant,
 };
 use bpf_num::Num;
 use bpf_state::{Entries, State};
@@ -28,11 +28,11 @@ const MOST_PASSES: u32 = 11;
 
 /// What was found of a function that begins in a state.
 #[derive(Drop)]
-struct Judged {
+struct JudgedFunction {
     entry: Entries,
     blocks: Blocks,
     states: Vec<LabelState>,
-    report: Report,
+    report: WalkReport,
 }
 
 /// The functions of a program and what is known of them so far, by their numbers.
@@ -46,7 +46,7 @@ struct Analysis<'a> {
     is_changed: Vec<bool>,
     /// The states that each begins in.
     entries: JoinedStates,
-    judged: Vec<Option<Judged>>,
+    judged: Vec<Option<JudgedFunction>>,
 }
 
 impl<'a> Analysis<'a> {
@@ -79,7 +79,7 @@ impl<'a> Analysis<'a> {
         function: usize,
         entry: &State,
         meter: &mut Meter<'_, W>,
-    ) -> Result<Judged, Stop> {
+    ) -> Result<JudgedFunction, SearchStop> {
         let first = self.whole.cfg.first_slot(function);
         let end = self.whole.cfg.first_slot(function.saturating_add(1));
         let mut seeds = Seeds::new(self.whole.alloc, first, end)?;
@@ -98,7 +98,7 @@ impl<'a> Analysis<'a> {
 
     /// Adds labels for what isn't reached; where all is, changes the states of those that were added, if something is wrong.
     /// Whether there was anything to do.
-    fn improve(&self, judged: &Judged, seeds: &mut Seeds) -> Result<bool, AllocError> {
+    fn improve(&self, judged: &JudgedFunction, seeds: &mut Seeds) -> Result<bool, AllocError> {
         let task = self.task(&judged.blocks);
         if judged.report.unreached(task).is_some() {
             add_seeds(task, &judged.states, &judged.report, seeds)?;
@@ -118,7 +118,7 @@ impl<'a> Analysis<'a> {
         entry: &State,
         seeds: &Seeds,
         meter: &mut Meter<'_, W>,
-    ) -> Result<Judged, Stop> {
+    ) -> Result<JudgedFunction, SearchStop> {
         let extra = seeds.slots()?;
         let blocks = Blocks::cut_by_jumps(
             self.whole.alloc,
@@ -128,8 +128,8 @@ impl<'a> Analysis<'a> {
             &extra,
         )?;
         let states = self.states_of(&blocks, entry, seeds, meter)?;
-        let report = Report::of(self.task(&blocks), &states)?;
-        Ok(Judged {
+        let report = WalkReport::of(self.task(&blocks), &states)?;
+        Ok(JudgedFunction {
             entry: Entries::of(self.whole.alloc, entry)?,
             blocks,
             states,
@@ -144,10 +144,10 @@ impl<'a> Analysis<'a> {
         entry: &State,
         seeds: &Seeds,
         meter: &mut Meter<'_, W>,
-    ) -> Result<Vec<LabelState>, Stop> {
+    ) -> Result<Vec<LabelState>, SearchStop> {
         let graph = graph_of(self.whole.alloc, self.whole.program, blocks)?;
         let Some(nest) = Nest::of(self.whole.alloc, &graph)? else {
-            return Err(Stop::unstable(blocks.first(), Limit::Depth));
+            return Err(SearchStop::unstable(blocks.first(), Limit::Depth));
         };
         let mut settler = Settler::new(self.task(blocks), &nest)?;
         settler.seed(0, entry)?;
@@ -174,7 +174,11 @@ impl<'a> Analysis<'a> {
     }
 
     /// Judges a function that is reached. I1 at its first slot if its states don't settle.
-    fn visit<W: Watch>(&mut self, function: usize, meter: &mut Meter<'_, W>) -> Result<(), Stop> {
+    fn visit<W: Watch>(
+        &mut self,
+        function: usize,
+        meter: &mut Meter<'_, W>,
+    ) -> Result<(), SearchStop> {
         let Some(entry) = self.entries.at(function).map(|entry| entry.state()) else {
             return Ok(());
         };
@@ -200,7 +204,11 @@ impl<'a> Analysis<'a> {
     }
 
     /// Judges all functions, callers before callees. I1 at one whose states don't settle.
-    fn pass<W: Watch>(&mut self, start: &State, meter: &mut Meter<'_, W>) -> Result<(), Stop> {
+    fn pass<W: Watch>(
+        &mut self,
+        start: &State,
+        meter: &mut Meter<'_, W>,
+    ) -> Result<(), SearchStop> {
         self.entries = JoinedStates::new(self.whole.alloc, self.judged.len())?;
         let _is_changed = self.entries.add(0, start, None)?;
         let cfg = self.whole.cfg;
@@ -235,7 +243,11 @@ impl<'a> Analysis<'a> {
 
     /// Judges all functions until what they return stands. I1 at a function whose states don't settle, and at slot 0 if what
     /// they return doesn't.
-    fn settle<W: Watch>(&mut self, start: &State, meter: &mut Meter<'_, W>) -> Result<(), Stop> {
+    fn settle<W: Watch>(
+        &mut self,
+        start: &State,
+        meter: &mut Meter<'_, W>,
+    ) -> Result<(), SearchStop> {
         for pass in 0..MOST_PASSES {
             self.pass(start, meter)?;
             if !self.update_rets(pass < PASSES) {
@@ -243,6 +255,6 @@ impl<'a> Analysis<'a> {
             }
         }
         let passes = MOST_PASSES;
-        Err(Stop::unstable(0, Limit::Returns { passes }))
+        Err(SearchStop::unstable(0, Limit::Returns { passes }))
     }
 }

@@ -36,7 +36,7 @@ pub struct Thresholds {
 
 /// How far a bound that moved is moved on.
 #[derive(Clone, Copy)]
-pub enum Reach {
+pub enum WideningReach {
     /// Not at all.
     Nowhere,
     /// To the next stop.
@@ -154,14 +154,19 @@ impl Thresholds {
     }
 
     /// Makes a state one that another lies in too, with bounds that move moved on.
-    pub fn widen(&mut self, old: &mut State, new: &State, reach: Reach) -> Result<(), AllocError> {
+    pub fn widen(
+        &mut self,
+        old: &mut State,
+        new: &State,
+        reach: WideningReach,
+    ) -> Result<(), AllocError> {
         match reach {
-            Reach::Nowhere => join(old, new, None),
-            Reach::Stop => {
+            WideningReach::Nowhere => join(old, new, None),
+            WideningReach::Stop => {
                 self.settle()?;
                 self.join_each(old, new);
             }
-            Reach::Extreme => join(old, new, Some(&Stops::new(self.alloc))),
+            WideningReach::Extreme => join(old, new, Some(&Stops::new(self.alloc))),
         }
         Ok(())
     }

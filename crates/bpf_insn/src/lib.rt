@@ -49,7 +49,9 @@ pub use laws::{
     image_is_injective, image_length, list_is_one_of_both, list_never_both, list_refused_once,
     never_both, orders_exchange, reads_back, refusal_is_exact, refused_once,
 };
-pub use limits::{FRAME_BYTES, MAX_CONTEXT, MAX_FRAMES, MAX_IMAGE, MAX_SLOTS};
+pub use limits::{
+    FRAME_BYTES, FRAME_SLOTS, MAX_CONTEXT, MAX_FRAMES, MAX_IMAGE, MAX_SLOTS, PLACES, REGISTERS,
+};
 pub use numbers::{number_in, put_number};
 pub use order::Order;
 pub use program::Program;

@@ -14,3 +14,12 @@ pub const FRAME_BYTES: usize = 512;
 
 /// The most frames, the outermost one among them.
 pub const MAX_FRAMES: usize = 8;
+
+/// The registers: r0 to r10.
+pub const REGISTERS: usize = 11;
+
+/// The slots of eight bytes of a frame.
+pub const FRAME_SLOTS: usize = FRAME_BYTES / 8;
+
+/// The places that hold a value: the registers, and the slots of a frame.
+pub const PLACES: usize = REGISTERS + FRAME_SLOTS;

@@ -14,7 +14,7 @@ use bpf_semantics::{Region, Value};
 use std::marker::Model;
 
 /// How many registers there are.
-const REGISTERS: usize = 11;
+const REGISTERS: usize = bpf_insn::REGISTERS;
 
 /// What the number of a register is: nothing, a number, or the offset of a pointer into the context or the stack at a
 /// depth.

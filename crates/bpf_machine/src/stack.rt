@@ -14,7 +14,7 @@ use bpf_semantics::{Reason, Region, Value};
 use std::marker::Model;
 
 /// How many slots of eight bytes there are.
-const SLOTS: usize = FRAME_BYTES / 8;
+const SLOTS: usize = bpf_insn::FRAME_SLOTS;
 
 /// The number of a slot that holds no pointer.
 const NO_REGION: u16 = 0;

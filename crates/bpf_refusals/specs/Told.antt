@@ -14,8 +14,8 @@ use Rattle.bpf_cert.specs.declared.error.CertError.TheVariants as certificates
 use Rattle.bpf_check.specs.RefusalNumbers.{refusal_number as check_number, refusal_slot as check_slot}
 use Rattle.bpf_check.specs.declared.refusal.Refusal.{Refusal as CheckRefusal}
 use Rattle.bpf_classic.specs.Valid.{refusal_number as filter_number}
-use Rattle.bpf_classic.specs.declared.refusal.Refusal.{Refusal as FilterRefusal}
-use Rattle.bpf_classic.specs.declared.refusal.Refusal.TheVariants as filters
+use Rattle.bpf_classic.specs.declared.refusal.FilterRefusal.{FilterRefusal}
+use Rattle.bpf_classic.specs.declared.refusal.FilterRefusal.TheVariants as filters
 use Rattle.bpf_classic.specs.declared.fault.TextFault.{TextFault}
 use Rattle.bpf_classic.specs.declared.fault.TextFault.TheVariants as spellings
 use Rattle.bpf_infer_base.specs.RefusalNumbers.{condition_number, infer_number}

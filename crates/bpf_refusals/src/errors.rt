@@ -6,7 +6,7 @@ use bpf_captures::{CaptureError, CaptureRefusal};
 use bpf_cert::CertError;
 use bpf_changes::HardenError;
 use bpf_check::Refusal as CheckRefusal;
-use bpf_classic::{Refusal as FilterRefusal, TextFault};
+use bpf_classic::{FilterRefusal, TextFault};
 use bpf_follows::{Mismatch, NotesError};
 use bpf_infer_base::InferError;
 use bpf_insn::DecodeError;

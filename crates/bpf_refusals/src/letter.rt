@@ -3,7 +3,9 @@
 ghost use Rattle.std.specs.Prelude.{◌≡◌, ◌<◌, ◌↔◌, [], ◌∷◌, IsSome, IfSome, MatchOption, length};
 ghost use Rattle.bpf_refusals.specs.Letters.{IsNumbered, LettersDiffer, code_of, letter_of, sentence_of};
 
-use crate::sentences::{capture_sentence, filter_sentence, hardening_sentence, notes_sentence, text_sentence};
+use crate::sentences::{
+    capture_sentence, filter_sentence, hardening_sentence, notes_sentence, text_sentence,
+};
 use bpf_cert::CertError;
 use bpf_follows::mismatch_text;
 use bpf_infer_base::InferError;

@@ -18,7 +18,7 @@ use Rattle.bpf_request.specs.declared.replaying.Replaying.{Replaying}
 use Rattle.bpf_request.specs.declared.words.Request.{Request}
 use Rattle.bpf_request.specs.declared.words.Request.TheVariants.{Groups, Asm, List as ListOf, Run, Check, RunChecked, Replay, Infer, Harden, Certify, Convert, ToC, Follows, Migrate, Explain}
 use Rattle.bpf_request.specs.declared.subject.Subject.{Subject}
-use Rattle.bpf_request.specs.declared.subject.Told.{Told}
+use Rattle.bpf_request.specs.declared.subject.SubjectWords.{SubjectWords}
 use Rattle.bpf_request.specs.Explaining.{GivesSubject}
 
 -- the kinds of what is wrong with the words, by the first step of the parse that fails; none of words that are taken
@@ -84,7 +84,7 @@ IsReplaying rows r =
 -- what CERT, `--infer`, `--most`, `--deep`, `--harden`, `--padded`, `--slot`, `--text` and `--dot` want explained
 abbrev pub IsSubject : List Row → Subject → Type 0
 IsSubject rows subject =
-    (told : Told) × (option_map (λ s. s.now) told.certificate ≡ first_of (codes "CERT") rows)
+    (told : SubjectWords) × (option_map (λ s. s.now) told.certificate ≡ first_of (codes "CERT") rows)
     × IsNumber (one_of (codes "infer") rows) told.infer × IsNumber (one_of (codes "most") rows) told.most × IsFlag (one_of (codes "deep") rows) told.deep
     × IsNumber (one_of (codes "harden") rows) told.harden × IsFlag (one_of (codes "padded") rows) told.padded
     × IsNumber (one_of (codes "slot") rows) told.slot × IsFlag (one_of (codes "text") rows) told.text × IsFlag (one_of (codes "dot") rows) told.dot

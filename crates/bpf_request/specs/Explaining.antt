@@ -4,13 +4,13 @@ use Rattle.bpf_request.specs.declared.subject.Aspect.{Aspect}
 use Rattle.bpf_request.specs.declared.subject.Aspect.TheVariants.{Listing, Slot as OneSlot, Graph as Drawn}
 use Rattle.bpf_request.specs.declared.subject.Clash.{Clash}
 use Rattle.bpf_request.specs.declared.subject.Clash.TheVariants.{CertificateInfer, CertificateHarden, InferHarden, TextCertificate, TextInfer, TextHarden, TextSlot, TextDot, SlotDot, SlotAlone, MostAlone, DeepAlone, PaddedAlone}
-use Rattle.bpf_request.specs.declared.subject.Told.{Told}
+use Rattle.bpf_request.specs.declared.subject.SubjectWords.{SubjectWords}
 use Rattle.bpf_request.specs.declared.subject.Subject.{Subject}
 use Rattle.bpf_request.specs.declared.subject.Subject.TheVariants.{Image, Text as TextAlone, Certified, Slot, Inferred, Hardened, Graph, GraphAlone, Misfit}
 
 -- At most one of CERT, `--infer`, `--harden` and `--text` is given, `--most` and `--deep` with `--infer` alone, `--padded` with `--harden` alone, `--slot` with
 -- one of the first three, and `--dot` with neither `--text` nor `--slot`: which of this isn't so.
-abbrev pub Clashes : Told → Clash → Type 0
+abbrev pub Clashes : SubjectWords → Clash → Type 0
 Clashes t CertificateInfer = (is_some t.certificate && is_some t.infer) ≡ true
 Clashes t CertificateHarden = (is_some t.certificate && is_some t.harden) ≡ true
 Clashes t InferHarden = (is_some t.infer && is_some t.harden) ≡ true
@@ -32,15 +32,15 @@ GivesAspect slot dot (OneSlot s) = (slot ≡ Some s) × (dot ≡ false)
 GivesAspect slot dot Drawn = (slot ≡ None) × (dot ≡ true)
 
 -- the name of the certificate
-abbrev pub certificate_of : Told → Option (List ℕ)
+abbrev pub certificate_of : SubjectWords → Option (List ℕ)
 certificate_of t = option_map (λ s. s.now) t.certificate
 
 -- neither a search nor a hardening is wanted
-abbrev pub IsAlone : Told → Type 0
+abbrev pub IsAlone : SubjectWords → Type 0
 IsAlone t = (t.infer ≡ None) × (t.most ≡ None) × (t.deep ≡ false) × (t.harden ≡ None) × (t.padded ≡ false)
 
 -- what the words want explained, each of them given in one way alone
-abbrev pub GivesSubject : Told → Subject → Type 0
+abbrev pub GivesSubject : SubjectWords → Subject → Type 0
 GivesSubject t Image = IsAlone t × (certificate_of t ≡ None) × (t.slot ≡ None) × (t.text ≡ false) × (t.dot ≡ false)
 GivesSubject t TextAlone = IsAlone t × (certificate_of t ≡ None) × (t.slot ≡ None) × (t.text ≡ true) × (t.dot ≡ false)
 GivesSubject t (Certified c) = IsAlone t × (certificate_of t ≡ Some c.now) × (t.slot ≡ None) × (t.text ≡ false) × (t.dot ≡ false)

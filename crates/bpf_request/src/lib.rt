@@ -16,7 +16,10 @@ mod subject;
 mod table;
 mod words;
 
-pub use asking::{Assembling, CheckedRunning, Checking, Explaining, Grouping, Inferring, Listing, Migrating, Running};
+pub use asking::{
+    Assembling, CheckedRunning, Checking, Explaining, Grouping, Inferring, Listing, Migrating,
+    Running,
+};
 pub use certifying::Certifying;
 pub use contexts::Contexts;
 pub use converting::Converting;
@@ -24,5 +27,5 @@ pub use emitting::Emitting;
 pub use following::Following;
 pub use hardening::Hardening;
 pub use replaying::Replaying;
-pub use subject::{Aspect, Clash, Subject, Told};
+pub use subject::{Aspect, Clash, Subject, SubjectWords};
 pub use words::{Request, USUAL_NAME, USUAL_TURNS, request_of};

@@ -47,7 +47,7 @@ pub enum Clash {
 
 /// The words that say what is to be explained.
 #[derive(Clone, Copy)]
-pub struct Told<'a> {
+pub struct SubjectWords<'a> {
     /// The name of a certificate.
     pub certificate: Option<&'a str>,
     /// The least and the greatest length of the contexts of a search.
@@ -116,7 +116,7 @@ fn aspect_of(slot: Option<u32>, dot: bool) -> Option<Aspect>
 }
 
 /// What a search is to find, by the other words that are given.
-fn sought_of<'a>(told: Told<'a>, least: u32) -> Subject<'a>
+fn sought_of<'a>(told: SubjectWords<'a>, least: u32) -> Subject<'a>
     requires infer { told.infer ≡ Some least }
     requires alone { told.harden ≡ None }
     ensures { GivesSubject told.entry result }
@@ -137,7 +137,7 @@ fn sought_of<'a>(told: Told<'a>, least: u32) -> Subject<'a>
 }
 
 /// What hardening is to make, by the words beside those of a search.
-fn made_of<'a>(told: Told<'a>, length: u32) -> Subject<'a>
+fn made_of<'a>(told: SubjectWords<'a>, length: u32) -> Subject<'a>
     requires harden { told.harden ≡ Some length }
     requires unsought { told.infer ≡ None }
     requires unbounded { told.most ≡ None }
@@ -157,7 +157,7 @@ fn made_of<'a>(told: Told<'a>, length: u32) -> Subject<'a>
 }
 
 /// What hardening is to make, by the other words that are given.
-fn hardened_of<'a>(told: Told<'a>, length: u32) -> Subject<'a>
+fn hardened_of<'a>(told: SubjectWords<'a>, length: u32) -> Subject<'a>
     requires harden { told.harden ≡ Some length }
     requires unsought { told.infer ≡ None }
     ensures { GivesSubject told.entry result }
@@ -170,7 +170,7 @@ fn hardened_of<'a>(told: Told<'a>, length: u32) -> Subject<'a>
 }
 
 /// Which graph is wanted, by the other words that are given.
-fn graph_of<'a>(told: Told<'a>) -> Subject<'a>
+fn graph_of<'a>(told: SubjectWords<'a>) -> Subject<'a>
     requires alone { IsAlone told }
     requires dot { told.dot ≡ true }
     ensures { GivesSubject told.entry result }
@@ -184,7 +184,7 @@ fn graph_of<'a>(told: Told<'a>) -> Subject<'a>
 }
 
 /// What is to be explained in words without a search, by the words that are given.
-fn told_of<'a>(told: Told<'a>) -> Subject<'a>
+fn told_of<'a>(told: SubjectWords<'a>) -> Subject<'a>
     requires alone { IsAlone told }
     requires words { told.dot ≡ false }
     ensures { GivesSubject told.entry result }
@@ -201,7 +201,7 @@ fn told_of<'a>(told: Told<'a>) -> Subject<'a>
 }
 
 /// What is to be explained without a search or a hardening.
-fn plain_of<'a>(told: Told<'a>) -> Subject<'a>
+fn plain_of<'a>(told: SubjectWords<'a>) -> Subject<'a>
     requires unsought { told.infer ≡ None }
     requires unhardened { told.harden ≡ None }
     ensures { GivesSubject told.entry result }
@@ -216,7 +216,7 @@ fn plain_of<'a>(told: Told<'a>) -> Subject<'a>
 }
 
 /// What is to be explained, by the words that are given.
-pub fn subject_of<'a>(told: Told<'a>) -> Subject<'a>
+pub fn subject_of<'a>(told: SubjectWords<'a>) -> Subject<'a>
     ensures { GivesSubject told.entry result }
 {
     match (told.infer, told.harden) {

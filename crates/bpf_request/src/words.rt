@@ -6,7 +6,10 @@ ghost use Rattle.clap.specs.Words.{FailsBy, first_of, found_of, kind_of, one_of,
 ghost use Rattle.bpf_request.specs.CommandLine.{AreContexts, Asks, GivenBy, IsAsked, IsCertifying, IsConverting, IsCount, IsEmitting, IsFlag, IsFollowing, IsHardening, IsInferring, IsNumber, IsOrder, IsReplaying, IsSubject, bpf, faults_in, word_of};
 ghost use Rattle.clap.specs.declared.error.ErrorKind.TheVariants.{OutOfMemory};
 
-use crate::asking::{Assembling, CheckedRunning, Checking, Explaining, Grouping, Inferring, Listing, Migrating, Running};
+use crate::asking::{
+    Assembling, CheckedRunning, Checking, Explaining, Grouping, Inferring, Listing, Migrating,
+    Running,
+};
 use crate::certifying::Certifying;
 use crate::commands::command;
 use crate::contexts::Contexts;
@@ -15,7 +18,7 @@ use crate::emitting::Emitting;
 use crate::following::Following;
 use crate::hardening::Hardening;
 use crate::replaying::Replaying;
-use crate::subject::{Subject, Told, subject_of};
+use crate::subject::{Subject, SubjectWords, subject_of};
 use bpf_insn::Order;
 use clap::{ArgMatches, Error};
 use std::alloc::Global;
@@ -150,7 +153,7 @@ fn contexts_of<'a>(matches: &ArgMatches<'a>) -> Contexts<'a>
 fn subject_in<'a>(matches: &ArgMatches<'a>) -> Subject<'a>
     ensures { IsSubject (rows_of (found_of matches.now)) result }
 {
-    subject_of(Told {
+    subject_of(SubjectWords {
         certificate: word_if(matches, "CERT"),
         infer: number_if(matches, "infer"),
         most: number_if(matches, "most"),

@@ -11,7 +11,7 @@ use crate::tightening::{tightened_register, tightened_slot};
 use bpf_insn::Reg;
 
 /// How many places a state has: r0 to r10 and s1 to s64.
-const PLACES: u8 = 75;
+const PLACES: u8 = bpf_insn::PLACES as u8;
 
 /// The place with a number: r0 to r10, and then s1 to s64.
 fn numbered(number: u8) -> Place

@@ -1,8 +1,8 @@
 -- The bytes that a reader of lines has left, where they are known, and what taking a line from it does to them.
 use Rattle.std.specs.Prelude.{◌≡◌, ◌≢◌, ◌-◌, ℕ, List, [], ◌∷◌, ◌++◌, length, take, drop, All, Option, Some, None, Result, MatchResult}
 use Rattle.std.specs.Io.KnownBytes.{Consumes, IsAtEnd, Keeps, prepend_known}
-use Rattle.bpf_streams.specs.declared.line_reader.Stop.{Stop}
-use Rattle.bpf_streams.specs.declared.line_reader.Stop.TheVariants as stop
+use Rattle.bpf_streams.specs.declared.line_reader.LineStop.{LineStop}
+use Rattle.bpf_streams.specs.declared.line_reader.LineStop.TheVariants as stop
 
 -- what lies in the buffer, and what the reader has left
 abbrev pub unread : Option (List ℕ) → List ℕ → ℕ → ℕ → Option (List ℕ)
@@ -21,7 +21,7 @@ abbrev pub IsOneLine : List ℕ → Type 0
 IsOneLine bytes = All (λ b. b ≢ 10) bytes
 
 -- a line of at most `most` bytes was taken, and what stopped it
-abbrev pub TakesLine : ℕ → Option (List ℕ) → Option (List ℕ) → List ℕ → Stop → Type 0
+abbrev pub TakesLine : ℕ → Option (List ℕ) → Option (List ℕ) → List ℕ → LineStop → Type 0
 TakesLine most old new line stop.LineEnd = Consumes old new (line ++ 10 ∷ [])
 TakesLine most old new line stop.End = Consumes old new line × IsAtEnd new
 TakesLine most old new line stop.Failed = Consumes old new line

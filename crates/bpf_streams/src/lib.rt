@@ -11,6 +11,6 @@ mod words;
 
 pub use count::Count;
 pub use escaped::{Escaped, write_escaped};
-pub use line_reader::{LineReader, ReadFault, Stop};
+pub use line_reader::{LineReader, LineStop, ReadFault};
 pub use page::{Page, Tell};
 pub use words::behind;

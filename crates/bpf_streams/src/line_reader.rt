@@ -16,7 +16,7 @@ pub struct ReadFault;
 
 /// What ended a line.
 #[derive(Clone, Copy, PartialEq, Eq)]
-pub enum Stop {
+pub enum LineStop {
     /// An LF, which was taken too.
     LineEnd,
     /// The end of the text.
@@ -90,7 +90,7 @@ impl<R: Read + Drop> LineReader<R> {
     }
 
     /// A line that the buffer has only a front of, byte by byte.
-    fn read_line<const MOST: usize>(&mut self, line: &mut ArrayVec<u8, MOST>) -> Stop
+    fn read_line<const MOST: usize>(&mut self, line: &mut ArrayVec<u8, MOST>) -> LineStop
         requires { line.old.items ≡ [] }
         ensures taken { TakesLine MOST self.old self.new line.new.items result }
         ensures one_line { IsOneLine line.new.items }
@@ -98,22 +98,22 @@ impl<R: Read + Drop> LineReader<R> {
     {
         for _ in 0..MOST {
             match self.next_byte() {
-                Err(ReadFault) => return Stop::Failed,
-                Ok(None) => return Stop::End,
-                Ok(Some(b'\n')) => return Stop::LineEnd,
+                Err(ReadFault) => return LineStop::Failed,
+                Ok(None) => return LineStop::End,
+                Ok(Some(b'\n')) => return LineStop::LineEnd,
                 Ok(Some(byte)) => line.push(byte),
             }
         }
         match self.next_byte() {
-            Err(ReadFault) => Stop::Failed,
-            Ok(None) => Stop::End,
-            Ok(Some(b'\n')) => Stop::LineEnd,
-            Ok(Some(_)) => Stop::Long,
+            Err(ReadFault) => LineStop::Failed,
+            Ok(None) => LineStop::End,
+            Ok(Some(b'\n')) => LineStop::LineEnd,
+            Ok(Some(_)) => LineStop::Long,
         }
     }
 
     /// The next line of at most `MOST` bytes without its LF, and what ended it. The line is empty before.
-    pub fn next_line<const MOST: usize>(&mut self, line: &mut ArrayVec<u8, MOST>) -> Stop
+    pub fn next_line<const MOST: usize>(&mut self, line: &mut ArrayVec<u8, MOST>) -> LineStop
         requires { line.old.items ≡ [] }
         ensures taken { TakesLine MOST self.old self.new line.new.items result }
         ensures one_line { IsOneLine line.new.items }
@@ -124,7 +124,7 @@ impl<R: Read + Drop> LineReader<R> {
             Some(count) => match line.try_extend_from_slice(&held[..count]) {
                 Ok(()) => {
                     self.at += count + 1;
-                    Stop::LineEnd
+                    LineStop::LineEnd
                 }
                 Err(_) => self.read_line(line),
             },

@@ -11,7 +11,10 @@ ghost use Rattle.bpf_insn.specs.Limits.{max_context};
 ghost use Rattle.bpf_conversion.specs.Claim.{IsConversion};
 
 use bpf_check::check;
-use bpf_classic::{Converted, Filter, Form, Kind, Raw, Refusal, TextFault, Wanted, convert, raws_of, usual_turns};
+use bpf_classic::{
+    Converted, Filter, FilterRefusal, Form, Kind, Raw, TextFault, Wanted, convert, raws_of,
+    usual_turns,
+};
 use bpf_conversion::certificate;
 use bpf_insn::{MAX_CONTEXT, Order};
 use bpf_machine::{Outcome, run};
@@ -91,24 +94,24 @@ fn text_of(alloc: Global, word: &str) -> Result<Vec<u8>, AllocError> {
 }
 
 /// Why there is no program.
-enum Stop {
+enum NotConverted {
     Memory,
     Text(TextFault),
-    Filter(Refusal),
+    Filter(FilterRefusal),
 }
 
-fn raws_of_word(alloc: Global, word: &str) -> Result<Vec<Raw>, Stop> {
+fn raws_of_word(alloc: Global, word: &str) -> Result<Vec<Raw>, NotConverted> {
     let Ok(text) = text_of(alloc, word) else {
-        return Err(Stop::Memory);
+        return Err(NotConverted::Memory);
     };
     match raws_of(alloc, &text) {
         Ok(raws) => Ok(raws),
-        Err(fault) => Err(Stop::Text(fault)),
+        Err(fault) => Err(NotConverted::Text(fault)),
     }
 }
 
 /// The program of a case.
-fn converted(alloc: Global, case: Case<'_>) -> Result<Converted, Stop>
+fn converted(alloc: Global, case: Case<'_>) -> Result<Converted, NotConverted>
     ensures { IfOk result IsConversion }
 {
     let raws = raws_of_word(alloc, case.filter)?;
@@ -119,7 +122,7 @@ fn converted(alloc: Global, case: Case<'_>) -> Result<Converted, Stop>
     };
     let filter = match Filter::new(alloc, kind, &raws) {
         Ok(filter) => filter,
-        Err(refusal) => return Err(Stop::Filter(refusal)),
+        Err(refusal) => return Err(NotConverted::Filter(refusal)),
     };
     let wanted = Wanted {
         form: case.form,
@@ -129,23 +132,26 @@ fn converted(alloc: Global, case: Case<'_>) -> Result<Converted, Stop>
     };
     match convert(alloc, &filter, wanted) {
         Ok(converted) => Ok(converted),
-        Err(_) => Err(Stop::Memory),
+        Err(_) => Err(NotConverted::Memory),
     }
 }
 
 /// Writes why there is no program.
-fn tell_stop(out: &mut impl Write, stop: Stop) -> io::Result<()> {
+fn tell_stop(out: &mut impl Write, stop: NotConverted) -> io::Result<()> {
     match stop {
-        Stop::Memory => write!(out, "no memory"),
-        Stop::Text(TextFault::Row { line }) => write!(out, "B8 at line {line}"),
-        Stop::Text(TextFault::Count { said, found, .. }) => write!(out, "B8 {said} and {found}"),
-        Stop::Text(TextFault::Part { at }) => write!(out, "B8 in {at}"),
-        Stop::Text(TextFault::Memory) => write!(out, "B9"),
-        Stop::Filter(refusal) => {
+        NotConverted::Memory => write!(out, "no memory"),
+        NotConverted::Text(TextFault::Row { line }) => write!(out, "B8 at line {line}"),
+        NotConverted::Text(TextFault::Count { said, found, .. }) => write!(
+            out,
+            "B8 {said} and {found}"
+        ),
+        NotConverted::Text(TextFault::Part { at }) => write!(out, "B8 in {at}"),
+        NotConverted::Text(TextFault::Memory) => write!(out, "B9"),
+        NotConverted::Filter(refusal) => {
             let number = refusal.number();
             match refusal {
-                Refusal::Instruction { at, .. } => write!(out, "B{number} at {at}"),
-                Refusal::Length | Refusal::Memory => write!(out, "B{number}"),
+                FilterRefusal::Instruction { at, .. } => write!(out, "B{number} at {at}"),
+                FilterRefusal::Length | FilterRefusal::Memory => write!(out, "B{number}"),
             }
         }
     }

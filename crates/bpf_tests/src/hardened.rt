@@ -38,7 +38,7 @@ struct Case<'a> {
 }
 
 /// Why there is no new program.
-enum Refusal {
+enum NotHardened {
     /// The image isn't hex, or memory ran out.
     Hex,
     Image(u8),
@@ -80,13 +80,13 @@ impl<'a> Case<'a> {
 
 impl Pair {
     /// The programs of a case.
-    fn of(alloc: Global, case: Case<'_>) -> Result<Pair, Refusal> {
+    fn of(alloc: Global, case: Case<'_>) -> Result<Pair, NotHardened> {
         let Ok(bytes) = hex::decode(alloc, case.image) else {
-            return Err(Refusal::Hex);
+            return Err(NotHardened::Hex);
         };
         let old = match decode(alloc, &bytes, case.order) {
             Ok(old) => old,
-            Err(error) => return Err(Refusal::Image(error.number())),
+            Err(error) => return Err(NotHardened::Image(error.number())),
         };
         let options = Options {
             turns: case.turns,
@@ -97,7 +97,7 @@ impl Pair {
         let length = case.length.min(MAX_CONTEXT as u32);
         let hardened = match harden(alloc, &old, length, &options) {
             Ok(hardened) => hardened,
-            Err(error) => return Err(Refusal::Hardening(error.number())),
+            Err(error) => return Err(NotHardened::Hardening(error.number())),
         };
         let runs = Bounds {
             length,
@@ -106,7 +106,7 @@ impl Pair {
             untouched: 0,
         };
         let Ok(found) = evidence_of(alloc, &old, &hardened, runs) else {
-            return Err(Refusal::Hex);
+            return Err(NotHardened::Hex);
         };
         Ok(Pair {
             old,
@@ -156,11 +156,11 @@ fn tell_end(out: &mut impl Write, outcome: Outcome) -> io::Result<()> {
 }
 
 /// Writes why there is no new program.
-fn tell_refusal(out: &mut impl Write, refusal: Refusal) -> io::Result<()> {
+fn tell_refusal(out: &mut impl Write, refusal: NotHardened) -> io::Result<()> {
     match refusal {
-        Refusal::Hex => write!(out, "no hex"),
-        Refusal::Image(number) => write!(out, "E{number}"),
-        Refusal::Hardening(number) => write!(out, "H{number}"),
+        NotHardened::Hex => write!(out, "no hex"),
+        NotHardened::Image(number) => write!(out, "E{number}"),
+        NotHardened::Hardening(number) => write!(out, "H{number}"),
     }
 }
 

@@ -6,7 +6,7 @@ use Rattle.std.proofs.lemmas.Bool.{cases_eq}
 use Rattle.std.proofs.lemmas.List.{take_more, take_all, take-append-le, get_or_append_left, get_or_push, get_or-set_same, get_or-set_other, length-set, length-map, get_or-map, map-append}
 use Rattle.bpf_text.specs.Sources.{Label}
 use Rattle.bpf_text.specs.Assembly.{slot_of}
-use Rattle.bpf_text.specs.declared.chains.Entry.{Entry}
+use Rattle.bpf_text.specs.declared.chains.ChainedLabel.{ChainedLabel}
 use Rattle.bpf_text.specs.code.Chains.{bucket_of, ChainLeads, IsChained, Seeks, entry_label, entry_link}
 use Rattle.bpf_text.proofs.AssemblerLemmas.{slot_push}
 
@@ -139,23 +139,23 @@ chained_more buckets ls heads links l head chained none inside is = record {
 -- ---- entries
 
 -- what is read at an index
-read_label : (es : List Entry) (k : ℕ) (e : Entry) → k < length es → e ≡ get_or es k e → get_or (map entry_label es) k (entry_label e) ≡ entry_label e
+read_label : (es : List ChainedLabel) (k : ℕ) (e : ChainedLabel) → k < length es → e ≡ get_or es k e → get_or (map entry_label es) k (entry_label e) ≡ entry_label e
 read_label es k e inside is = get_or-map entry_label es k e (entry_label e) inside ∙ ap entry_label (sym is)
 
-read_link : (es : List Entry) (k : ℕ) (e : Entry) → k < length es → e ≡ get_or es k e → get_or (map entry_link es) k e.link ≡ e.link
+read_link : (es : List ChainedLabel) (k : ℕ) (e : ChainedLabel) → k < length es → e ≡ get_or es k e → get_or (map entry_link es) k e.link ≡ e.link
 read_link es k e inside is = get_or-map entry_link es k e e.link inside ∙ ap entry_link (sym is)
 
-pub entry_below : (buckets : ℕ) (es : List Entry) (heads : List ℕ) → IsChained buckets (map entry_label es) heads (map entry_link es) → (k : ℕ) (e : Entry) → k < length es → e ≡ get_or es k e → e.link ≤ k
+pub entry_below : (buckets : ℕ) (es : List ChainedLabel) (heads : List ℕ) → IsChained buckets (map entry_label es) heads (map entry_link es) → (k : ℕ) (e : ChainedLabel) → k < length es → e ≡ get_or es k e → e.link ≤ k
 entry_below buckets es heads chained k e inside is =
     let below : get_or (map entry_link es) k e.link ≤ k = link_below buckets (map entry_label es) heads (map entry_link es) chained k e.link (entry_label e) (omega (arith, inside, length-map es entry_label)) in
     let link : get_or (map entry_link es) k e.link ≡ e.link = read_link es k e inside is in
     omega (arith, below, link)
 
 -- the entry that a search has come to
-pub entry_inside : (buckets : ℕ) (es : List Entry) (name : List ℕ) (at : ℕ) → Seeks buckets (map entry_label es) name at → at ≤ length es
+pub entry_inside : (buckets : ℕ) (es : List ChainedLabel) (name : List ℕ) (at : ℕ) → Seeks buckets (map entry_label es) name at → at ≤ length es
 entry_inside buckets es name at seeks = omega (arith, seeks.inside, length-map es entry_label)
 
-pub entry_found : (buckets : ℕ) (es : List Entry) (heads : List ℕ) → IsChained buckets (map entry_label es) heads (map entry_link es) → (name : List ℕ) (at : ℕ) (e : Entry) → Seeks buckets (map entry_label es) name at → 0 < at
+pub entry_found : (buckets : ℕ) (es : List ChainedLabel) (heads : List ℕ) → IsChained buckets (map entry_label es) heads (map entry_link es) → (name : List ℕ) (at : ℕ) (e : ChainedLabel) → Seeks buckets (map entry_label es) name at → 0 < at
     → e ≡ get_or es (at - 1) e → bytes_eq e.label.name.now name ≡ true → Some e.label.slot ≡ slot_of (map entry_label es) name
 entry_found buckets es heads chained name at e seeks some is same =
     let inside : at - 1 < length es = omega (arith, some, entry_inside buckets es name at seeks) in
@@ -163,7 +163,7 @@ entry_found buckets es heads chained name at e seeks some is same =
     subst (λ (l : Label). Some l.slot ≡ slot_of (map entry_label es) name) label
     (seek_found buckets (map entry_label es) heads (map entry_link es) chained name at (entry_label e) seeks some (ap (λ (l : Label). bytes_eq l.name name) label ∙ same))
 
-pub entry_passed : (buckets : ℕ) (es : List Entry) (heads : List ℕ) → IsChained buckets (map entry_label es) heads (map entry_link es) → (name : List ℕ) (at : ℕ) (e : Entry) → Seeks buckets (map entry_label es) name at → 0 < at
+pub entry_passed : (buckets : ℕ) (es : List ChainedLabel) (heads : List ℕ) → IsChained buckets (map entry_label es) heads (map entry_link es) → (name : List ℕ) (at : ℕ) (e : ChainedLabel) → Seeks buckets (map entry_label es) name at → 0 < at
     → e ≡ get_or es (at - 1) e → bytes_eq e.label.name.now name ≡ false → Seeks buckets (map entry_label es) name e.link
 entry_passed buckets es heads chained name at e seeks some is apart =
     let inside : at - 1 < length es = omega (arith, some, entry_inside buckets es name at seeks) in
@@ -172,7 +172,7 @@ entry_passed buckets es heads chained name at e seeks some is apart =
     subst (Seeks buckets (map entry_label es) name) link
     (seek_on buckets (map entry_label es) heads (map entry_link es) chained name at e.link (entry_label e) seeks some (ap (λ (l : Label). bytes_eq l.name name) label ∙ apart))
 
-pub entry_put : (es : List Entry) (heads : List ℕ) (e : Entry) → IsChained (length heads) (map entry_label es) heads (map entry_link es) → slot_of (map entry_label es) (entry_label e).name ≡ None
+pub entry_put : (es : List ChainedLabel) (heads : List ℕ) (e : ChainedLabel) → IsChained (length heads) (map entry_label es) heads (map entry_link es) → slot_of (map entry_label es) (entry_label e).name ≡ None
     → bucket_of (length heads) (entry_label e).name < length heads → ((x : ℕ) → e.link ≡ get_or heads (bucket_of (length heads) (entry_label e).name) x)
     → IsChained (length (set heads (bucket_of (length heads) (entry_label e).name) (length es + 1))) (map entry_label (es ++ e ∷ [])) (set heads (bucket_of (length heads) (entry_label e).name) (length es + 1)) (map entry_link (es ++ e ∷ []))
 entry_put es heads e chained none inside is =

@@ -26,7 +26,7 @@ fn hash_of(name: &[u8]) -> u64
 
 /// A label, and one more than the index of the label before it in its chain, 0 if it is the first.
 #[derive(Clone, Copy)]
-pub struct Entry<'a> {
+pub struct ChainedLabel<'a> {
     pub label: Label<'a>,
     pub link: u32,
 }
@@ -47,7 +47,7 @@ pub enum Added {
 pub struct Chains<'a> {
     /// For each bucket one more than the index of the first entry of its chain, 0 if there is none.
     pub heads: Vec<u32>,
-    pub entries: Vec<Entry<'a>>,
+    pub entries: Vec<ChainedLabel<'a>>,
     ghost chained: { IsChained (length heads.items) (map entry_label entries.items) heads.items (map entry_link entries.items) },
 }
 
@@ -126,7 +126,7 @@ impl<'a> Chains<'a> {
             return Ok(Added::Again);
         }
         let last = self.entries.len() as u32 + 1;
-        self.entries.push(Entry { label, link: head })?;
+        self.entries.push(ChainedLabel { label, link: head })?;
         self.heads[bucket] = last;
         Ok(Added::Behind)
     }

@@ -8,11 +8,11 @@ ghost use Rattle.bpf_follows.specs.NotesText.{notes_text};
 ghost use Rattle.bpf_command.specs.Certified.{CertifyFails, CertifySays, CertifyWithFails, CertifyWithSays, IsAllPut, NotAllPut, NotAllStand, NotCertified, NotCertifiedWith, assessment_answer, made_of, notes_of, refused_as, rewriting_of, told_of, wish_of};
 
 use crate::commands::explain::lines_at;
-use crate::commands::harden::{Beside, changes_of, put_beside, text_of};
+use crate::commands::harden::{SideTexts, changes_of, put_beside, text_of};
 use bpf_answers::{Answer, Certification, Failure, Places, Rewriting, program_at, put_both};
 use bpf_cert::Certificate;
 use bpf_certify::{Certified, CertifyError, MOST_BOUND, Wish, certify};
-use bpf_follows::Place;
+use bpf_follows::Counterpart;
 use bpf_harden::HardenError;
 use bpf_insn::{Code, DecodeError, MAX_CONTEXT, Program};
 use bpf_request::Certifying;
@@ -120,7 +120,7 @@ fn made_of<'a>(program: &'a Program, certified: &'a Certified) -> &'a Program
 }
 
 /// The notes of a hardened program; none of one that stands as it is.
-fn notes_of<'a>(certified: &'a Certified) -> &'a [Option<Place>]
+fn notes_of<'a>(certified: &'a Certified) -> &'a [Option<Counterpart>]
     ensures { result.now ≡ notes_of certified.now.rewritten }
 {
     match &certified.rewritten {
@@ -134,7 +134,7 @@ fn beside_of(
     alloc: Global,
     asked: Certifying<'_>,
     certified: &Certified,
-) -> Result<Beside, AllocError>
+) -> Result<SideTexts, AllocError>
     ensures { IfOk result (λ beside. IfSome asked.entry.notes (λ _. beside.notes.items ≡ notes_text (notes_of certified.now.rewritten))) }
 {
     let notes = text_of(alloc, asked.hardening(), notes_of(certified))?;
@@ -142,7 +142,7 @@ fn beside_of(
         None => String::new(alloc),
         Some(rewritten) => changes_of(alloc, asked.hardening(), &rewritten.hardened)?,
     };
-    Ok(Beside { notes, changes })
+    Ok(SideTexts { notes, changes })
 }
 
 /// Writes the image and its certificate, both or neither, and then the texts, each where a name for it is given.
@@ -151,7 +151,7 @@ fn put_all<'a, P: Places>(
     asked: Certifying<'a>,
     made: &Program,
     certificate: &Certificate,
-    beside: &Beside,
+    beside: &SideTexts,
 ) -> Result<u8, Failure<'a>>
     ensures ok { IfOk result (IsAllPut (putting P.creates P.ends P.Writer.contents)
         places.old asked.entry made.now certificate.now beside.now.notes.items places.new) }
@@ -166,9 +166,9 @@ fn put_all<'a, P: Places>(
 
 /// What is certified of a program, and what goes beside the image and its certificate.
 #[derive(Drop)]
-struct Found {
+struct FoundWithin {
     certified: Certified,
-    beside: Beside,
+    beside: SideTexts,
 }
 
 /// What is certified of a program, with what goes beside it.
@@ -177,7 +177,7 @@ fn found_for(
     program: &Program,
     asked: Certifying<'_>,
     length: u32,
-) -> Result<Found, CertifyError>
+) -> Result<FoundWithin, CertifyError>
     requires { length ≤ max_context }
     ensures ok { IfOk result (λ f. IsAnswer program.now length (wish_of asked.entry) f.certified) }
     ensures shown { asked.entry.unproved ≡ false → IfOk result (λ f. IfSome f.certified.rewritten (λ r. IsTrue r.is_shown)) }
@@ -187,7 +187,7 @@ fn found_for(
     let _slots = Code::slots(program);
     let certified = certify(alloc, program, length, wish_of(asked))?;
     match beside_of(alloc, asked, &certified) {
-        Ok(beside) => Ok(Found { certified, beside }),
+        Ok(beside) => Ok(FoundWithin { certified, beside }),
         Err(_no_memory) => Err(CertifyError::Unhardened(HardenError::Memory)),
     }
 }
@@ -214,7 +214,7 @@ fn assess<'a, P: Places>(
         Ok(found) => found,
         Err(error) => return Ok(Assessment::Refused(error)),
     };
-    let Found { certified, beside } = &found;
+    let FoundWithin { certified, beside } = &found;
     let told = told_of(asked, length, certified);
     let made = made_of(&program, certified);
     put_all(places, asked, made, &certified.certificate, beside)?;

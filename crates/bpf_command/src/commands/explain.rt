@@ -14,11 +14,11 @@ use bpf_answers::{
 use bpf_cert::{CertError, Certificate, read};
 use bpf_check::Refusal;
 use bpf_explain::{
-    Search, Shown, explain, explain_search, is_table, write_alone, write_fault, write_program,
-    write_refusal, write_text_refusal,
+    CertificateSearch, Shown, explain, explain_search, is_table, write_alone, write_fault,
+    write_program, write_refusal, write_text_refusal,
 };
-use bpf_explain_harden::{Hardening, explain_hardening};
-use bpf_infer::{Wanted, Watch};
+use bpf_explain_harden::{HardeningAsked, explain_hardening};
+use bpf_infer::{WantedCertificate, Watch};
 use bpf_insn::{Code, DecodeError, MAX_CONTEXT, Order, Program, ProgramView, decode};
 use bpf_request::{Aspect, Explaining, Subject, USUAL_TURNS};
 use bpf_text::{TextError, assemble};
@@ -216,19 +216,19 @@ fn say_inferred<'a, W: Write, H: Watch>(
     out: &mut W,
     watch: &mut H,
     program: &Program,
-    asked: Search<'_>,
+    asked: CertificateSearch<'_>,
 ) -> Result<u8, Failure<'a>>
     ensures ok { IfOk result (Answers (SoughtSays asked.entry.wanted.least asked.entry.wanted.most program.now)) }
     ensures err { IfErr result OutputFails }
 {
     // `respond` has seen that the lengths are in order, and the words' parser that they are at most the greatest.
     let most = asked.wanted.most.min(MAX_CONTEXT as u32);
-    let wanted = Wanted {
+    let wanted = WantedCertificate {
         least: asked.wanted.least.min(most),
         most,
         ..asked.wanted
     };
-    let within = Search { wanted, ..asked };
+    let within = CertificateSearch { wanted, ..asked };
     match explain_search(alloc, program, within, watch, out) {
         Ok(Ok(found)) => Ok(status_by(found.refusal)),
         Ok(Err(_error)) => Ok(REFUSED),
@@ -244,14 +244,14 @@ fn say_hardened<'a, W: Write, H: Watch>(
     out: &mut W,
     watch: &mut H,
     program: &Program,
-    asked: Hardening<'_>,
+    asked: HardeningAsked<'_>,
 ) -> Result<u8, Failure<'a>>
     ensures ok { IfOk result (Answers (HardenedSays asked.entry.length asked.entry.padded asked.entry.turns program.now)) }
     ensures err { IfErr result OutputFails }
 {
     // The words' parser has seen that it is at most the greatest.
     let length = asked.length.min(MAX_CONTEXT as u32);
-    let within = Hardening { length, ..asked };
+    let within = HardeningAsked { length, ..asked };
     match explain_hardening(alloc, program, within, watch, out) {
         Ok(Ok((_made, refusal))) => Ok(status_by(refusal)),
         Ok(Err(_why)) => Ok(REFUSED),
@@ -263,11 +263,11 @@ fn say_hardened<'a, W: Write, H: Watch>(
 
 /// What is made for a program before it is explained.
 #[derive(Clone, Copy)]
-pub enum Task<'t> {
+pub enum ExplainTask<'t> {
     /// A certificate.
-    Search(Search<'t>),
+    CertificateSearch(CertificateSearch<'t>),
     /// A hardened program.
-    Harden(Hardening<'t>),
+    Harden(HardeningAsked<'t>),
 }
 
 /// Explains what is made for a program, and answers the status.
@@ -276,14 +276,14 @@ fn say_made<'a, W: Write, H: Watch>(
     out: &mut W,
     watch: &mut H,
     program: &Program,
-    task: Task<'_>,
+    task: ExplainTask<'_>,
 ) -> Result<u8, Failure<'a>>
     ensures ok { IfOk result (Answers (TaskSays task.entry program.now)) }
     ensures err { IfErr result OutputFails }
 {
     match task {
-        Task::Search(asked) => say_inferred(alloc, out, watch, program, asked),
-        Task::Harden(asked) => say_hardened(alloc, out, watch, program, asked),
+        ExplainTask::Search(asked) => say_inferred(alloc, out, watch, program, asked),
+        ExplainTask::Harden(asked) => say_hardened(alloc, out, watch, program, asked),
     }
 }
 
@@ -294,7 +294,7 @@ fn explained_made<'a, P: Places, W: Write, H: Watch>(
     out: &mut W,
     watch: &mut H,
     input: &'a str,
-    task: Task<'_>,
+    task: ExplainTask<'_>,
     order: Order,
 ) -> Result<u8, Failure<'a>>
     ensures ok { IfOk result (Answers (ImageSays P.opens order places.old input.entry.now places.new (TaskSays task.entry))) }
@@ -378,8 +378,8 @@ fn explained_subject<'a, P: Places, W: Write, H: Watch>(
             deep,
             aspect,
         } => {
-            let task = Task::Search(Search {
-                wanted: Wanted { least, most, deep },
+            let task = ExplainTask::Search(CertificateSearch {
+                wanted: WantedCertificate { least, most, deep },
                 shown: shown_of(aspect, lines),
             });
             explained_made(alloc, places, out, watch, input, task, order)
@@ -389,7 +389,7 @@ fn explained_subject<'a, P: Places, W: Write, H: Watch>(
             padded,
             aspect,
         } => {
-            let task = Task::Harden(Hardening {
+            let task = ExplainTask::Harden(HardeningAsked {
                 length,
                 padded,
                 turns: USUAL_TURNS,

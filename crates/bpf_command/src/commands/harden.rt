@@ -10,7 +10,7 @@ ghost use Rattle.bpf_answers.specs.Made.{making};
 
 use crate::commands::changes::changes_text;
 use bpf_answers::{Answer, Content, DONE, Failure, Places, program_at, put};
-use bpf_follows::{Bounds, Mismatch, Place, matching_keeps_meaning, write};
+use bpf_follows::{Bounds, Counterpart, Mismatch, matching_keeps_meaning, write};
 use bpf_harden::{HardenError, Hardened, Options, harden};
 use bpf_harden_follows::{Evidence, evidence_for, evidence_of};
 use bpf_insn::{Code, DecodeError, MAX_CONTEXT, Program};
@@ -19,7 +19,7 @@ use std::alloc::{AllocError, Global};
 
 /// What is shown of a hardened program by its notes.
 #[derive(Clone, Copy)]
-pub struct Kept {
+pub struct KeptMeaning {
     /// The contexts and runs of which it is judged.
     pub bounds: Bounds,
     /// What fails of the notes; None where they show that the program keeps the meaning.
@@ -38,7 +38,7 @@ pub enum Attempt {
     /// It is, and isn't shown to keep its meaning.
     NotShown(Mismatch),
     /// The hardened image stands at its name.
-    Hardened(Kept),
+    Hardened(KeptMeaning),
 }
 
 impl Attempt {
@@ -50,9 +50,9 @@ impl Attempt {
             Attempt::NoImage(error) => Answer::NoImage(error),
             Attempt::NotHardened(error) => Answer::NotHardened(error),
             Attempt::NotShown(mismatch) => Answer::NotShown(mismatch),
-            Attempt::Hardened(Kept { said: None, .. }) => Answer::Written,
+            Attempt::Hardened(KeptMeaning { said: None, .. }) => Answer::Written,
             Attempt::Hardened(
-                Kept {
+                KeptMeaning {
                     said: Some(untouched),
                     ..
                 },
@@ -113,21 +113,21 @@ fn answer_of(
 
 /// Why a hardened program isn't shown to keep the meaning.
 #[derive(Clone, Copy)]
-pub enum Unshown {
+pub enum UnshownMeaning {
     /// Memory ran out.
     Memory,
     /// Its notes fail.
     Differs(Mismatch),
 }
 
-impl From<AllocError> for Unshown {
+impl From<AllocError> for UnshownMeaning {
     ghost use Rattle.std.specs.Prelude.{◌≡◌};
-    ghost use Rattle.bpf_command.specs.declared.commands.harden.Unshown.TheVariants.{Memory};
+    ghost use Rattle.bpf_command.specs.declared.commands.harden.UnshownMeaning.TheVariants.{Memory};
 
     ghost from_gives = { λ _ why. why ≡ Memory };
 
-    fn from(_error: AllocError) -> Unshown {
-        Unshown::Memory
+    fn from(_error: AllocError) -> UnshownMeaning {
+        UnshownMeaning::Memory
     }
 }
 
@@ -187,7 +187,7 @@ fn shown(
     program: &Program,
     hardened: &Hardened,
     asked: Hardening<'_>,
-) -> Result<Evidence, Unshown>
+) -> Result<Evidence, UnshownMeaning>
     ensures left { IfOk result (λ found. AreLeft asked.entry found.untouched) }
     ensures kept { IfOk result (λ found. Show program.now hardened.now.program found.notes.items (bounds_of asked.entry found.untouched) found.mismatch) }
     ensures proved { IfOk result (λ found. asked.entry.unproved ≡ false → found.mismatch ≡ None) }
@@ -195,30 +195,30 @@ fn shown(
 {
     let found = evidence(alloc, program, hardened, asked)?;
     match found.mismatch {
-        Some(mismatch) if !asked.unproved => Err(Unshown::Differs(mismatch)),
+        Some(mismatch) if !asked.unproved => Err(UnshownMeaning::Differs(mismatch)),
         Some(_) | None => Ok(found),
     }
 }
 
 /// What goes beside the hardened image: the text of its notes and that of the changes, empty where no name for it is given.
 #[derive(Drop)]
-pub(super) struct Beside {
+pub(super) struct SideTexts {
     pub(super) notes: Vec<u8>,
     pub(super) changes: String,
 }
 
 /// The same with what is shown by the notes.
 #[derive(Drop)]
-struct Noted {
-    beside: Beside,
-    kept: Kept,
+struct HardenedNoted {
+    beside: SideTexts,
+    kept: KeptMeaning,
 }
 
 /// The text of notes, if a name for it is given.
 pub(super) fn text_of(
     alloc: Global,
     asked: Hardening<'_>,
-    notes: &[Option<Place>],
+    notes: &[Option<Counterpart>],
 ) -> Result<Vec<u8>, AllocError>
     ensures { IfOk result (λ text. IfSome asked.entry.notes (λ _. text.items ≡ notes_text notes.now)) }
 {
@@ -246,16 +246,16 @@ fn notes_for(
     program: &Program,
     hardened: &Hardened,
     asked: Hardening<'_>,
-) -> Result<Noted, Unshown>
+) -> Result<HardenedNoted, UnshownMeaning>
     ensures kept { IfOk result (λ n. IsNoted program.now hardened.now.program asked.entry n.kept n.beside.notes.items) }
     ensures err { IfErr result (IsUnshown program.now hardened.now.program asked.entry) }
 {
     let found = shown(alloc, program, hardened, asked)?;
     let notes = text_of(alloc, asked, &found.notes)?;
     let changes = changes_of(alloc, asked, hardened)?;
-    Ok(Noted {
-        beside: Beside { notes, changes },
-        kept: Kept {
+    Ok(HardenedNoted {
+        beside: SideTexts { notes, changes },
+        kept: KeptMeaning {
             bounds: bounds_of(asked, found.untouched),
             mismatch: found.mismatch,
             said: said_of(asked, found.untouched),
@@ -284,7 +284,7 @@ fn put_if<'a, P: Places, C: Content>(
 pub(super) fn put_beside<'a, P: Places>(
     places: &mut P,
     asked: Hardening<'a>,
-    beside: &Beside,
+    beside: &SideTexts,
 ) -> Result<u8, Failure<'a>>
     ensures ok { IfOk result (λ status. (status ≡ 0) × BothStand (making P.creates P.ends P.Writer.contents) places.old asked.entry
         beside.now.notes.items places.new) }
@@ -315,10 +315,10 @@ pub fn hardened<'a, P: Places>(
         Ok(hardened) => hardened,
         Err(error) => return Ok(Attempt::NotHardened(error)),
     };
-    let Noted { beside, kept } = match notes_for(alloc, &program, &hardened, asked) {
+    let HardenedNoted { beside, kept } = match notes_for(alloc, &program, &hardened, asked) {
         Ok(noted) => noted,
-        Err(Unshown::Memory) => return Ok(Attempt::NotHardened(HardenError::Memory)),
-        Err(Unshown::Differs(mismatch)) => return Ok(Attempt::NotShown(mismatch)),
+        Err(UnshownMeaning::Memory) => return Ok(Attempt::NotHardened(HardenError::Memory)),
+        Err(UnshownMeaning::Differs(mismatch)) => return Ok(Attempt::NotShown(mismatch)),
     };
     put(places, asked.output, &hardened.program)?;
     put_beside(places, asked, &beside)?;

@@ -7,7 +7,7 @@ ghost use Rattle.bpf_command.specs.Inferred.{InferFails, InferSays, NotInferred,
 
 use bpf_answers::{Answer, Failure, Places, program_at, put};
 use bpf_explain::may_be_found;
-use bpf_infer::{InferError, Wanted, Watch, propose};
+use bpf_infer::{InferError, WantedCertificate, Watch, propose};
 use bpf_insn::{DecodeError, MAX_CONTEXT};
 use bpf_request::Inferring;
 use std::alloc::Global;
@@ -37,7 +37,7 @@ impl Inference {
 }
 
 /// Which certificate is sought.
-fn wanted_of(asked: Inferring<'_>) -> Wanted
+fn wanted_of(asked: Inferring<'_>) -> WantedCertificate
     ensures order { result.least ≤ result.most }
     ensures short { result.most ≤ max_context }
     ensures least { asked.entry.least ≤ asked.entry.most → asked.entry.most ≤ max_context → result.least ≡ asked.entry.least }
@@ -45,7 +45,7 @@ fn wanted_of(asked: Inferring<'_>) -> Wanted
 {
     // `respond` has seen that the lengths are in order, and the words' parser that they are at most the greatest.
     let most = asked.most.min(MAX_CONTEXT as u32);
-    Wanted {
+    WantedCertificate {
         least: asked.least.min(most),
         most,
         deep: asked.deep,

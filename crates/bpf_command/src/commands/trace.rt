@@ -6,7 +6,7 @@ ghost use Rattle.bpf_machine.specs.Answers.{IsRun};
 
 use crate::aside::Aside;
 use bpf_command_core::Tracer;
-use bpf_explain_program::{Spelled, register, write_padded};
+use bpf_explain_program::{SpelledInsn, register, write_padded};
 use bpf_insn::{Code, Insn, Reg};
 use bpf_machine::{Machine, Outcome, Region, Value};
 use bpf_streams::{Page, Tell};
@@ -14,7 +14,7 @@ use std::fmt;
 use std::io::Write;
 
 /// What r0 to r10 hold.
-type Registers = [Option<Value>; 11];
+type TracedRegisters = [Option<Value>; 11];
 
 /// Where the last steps of runs are told, and at most how many lines of a run.
 #[derive(Drop)]
@@ -26,9 +26,9 @@ pub struct Trace<'a, H: Aside> {
 
 /// What a register holds, as text: `5`, `ctx4`, `fp-8`, with the depth of a frame that isn't the outermost.
 #[derive(Clone, Copy)]
-struct Held(Option<Value>);
+struct RegisterText(Option<Value>);
 
-impl fmt::Display for Held {
+impl fmt::Display for RegisterText {
     fn fmt<W: fmt::Write>(&self, f: &mut fmt::Formatter<W>) -> fmt::Result {
         match self.0 {
             None => f.write_str("nothing"),
@@ -40,7 +40,7 @@ impl fmt::Display for Held {
     }
 }
 
-fn registers_of<C: Code>(machine: &Machine<'_, C>) -> Registers {
+fn registers_of<C: Code>(machine: &Machine<'_, C>) -> TracedRegisters {
     let mut held = [None; 11];
     for k in 0..11 {
         held[k] = machine.register(Reg::numbered(k as u8));
@@ -49,16 +49,22 @@ fn registers_of<C: Code>(machine: &Machine<'_, C>) -> Registers {
 }
 
 /// `    1  r6 += -1                            ; r6 becomes 9`
-fn write_step<W: Tell>(out: &mut W, slot: u32, insn: Insn, before: &Registers, after: &Registers) {
+fn write_step<W: Tell>(
+    out: &mut W,
+    slot: u32,
+    insn: Insn,
+    before: &TracedRegisters,
+    after: &TracedRegisters,
+) {
     if before == after {
-        let text = Spelled(insn);
+        let text = SpelledInsn(insn);
         write!(out, "{slot:>5}  {text}\n");
         return;
     }
     write_padded(out, slot, &insn);
     for k in 0..11 {
         if before[k] != after[k] {
-            let (name, held) = (register(Reg::numbered(k as u8)), Held(after[k]));
+            let (name, held) = (register(Reg::numbered(k as u8)), RegisterText(after[k]));
             write!(out, "; {name} becomes {held}");
         }
     }

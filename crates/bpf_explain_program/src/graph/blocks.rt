@@ -1,7 +1,7 @@
 //! The nodes of a graph: blocks of instructions, in functions.
 
 use crate::graph::Scene;
-use crate::known::Spelled;
+use crate::known::SpelledInsn;
 use crate::listing::{write_budget, write_function};
 use bpf_check::{Index, Refusal, function_at, label_at};
 use bpf_insn::{Code, Insn, MAX_SLOTS};
@@ -63,7 +63,7 @@ fn write_promise<'a, 'b, W: Tell>(out: &mut W, scene: &Scene<'a, 'b>, slot: u32)
 
 /// The line of an instruction, with the number of its flaw.
 fn write_insn<W: Tell>(out: &mut W, slot: u32, insn: &Insn, flaw: Option<u8>) {
-    let text = Spelled(*insn);
+    let text = SpelledInsn(*insn);
     match flaw {
         Some(number) => write!(out, "{slot:>5}  {text}  ! C{number}\n"),
         None => write!(out, "{slot:>5}  {text}\n"),

@@ -1,14 +1,14 @@
 //! Which instructions and edges runs take, as far as the checker's pass knows.
 
 use crate::pass::{Observer, pass_over};
-use crate::sight::{Sight, Way};
+use crate::sight::{EdgeSeen, Sight};
 use bpf_check::Index;
 use bpf_infer_base::SlotSet;
 use bpf_insn::Code;
 
 /// Which instructions and edges runs may take.
 #[derive(Drop)]
-pub struct Flow {
+pub struct FlowOfRuns {
     /// The instructions that a state reaches.
     pub reached: SlotSet,
     /// Those whose jump is live.
@@ -19,10 +19,10 @@ pub struct Flow {
     unknown: SlotSet,
 }
 
-impl Flow {
+impl FlowOfRuns {
     /// All four sets are of such words.
     fn filled(word: u64) -> Self {
-        Flow {
+        FlowOfRuns {
             reached: SlotSet::filled(word),
             jumps: SlotSet::filled(word),
             nexts: SlotSet::filled(word),
@@ -32,11 +32,11 @@ impl Flow {
 
     /// Nothing is ruled out.
     pub fn any() -> Self {
-        Flow::filled(u64::MAX)
+        FlowOfRuns::filled(u64::MAX)
     }
 
     /// Takes note of a way from the instruction at a slot.
-    fn note(&mut self, slot: u32, way: Way<'_, '_>) {
+    fn note(&mut self, slot: u32, way: EdgeSeen<'_, '_>) {
         if way.edge.is_live {
             if way.is_jump {
                 self.jumps.add(slot);
@@ -57,7 +57,7 @@ impl Flow {
     }
 }
 
-impl<C: Code> Observer<C> for Flow {
+impl<C: Code> Observer<C> for FlowOfRuns {
     fn observe(&mut self, sight: &Sight<'_, C>) -> bool {
         let slot = sight.site.here.slot;
         if sight.here.is_some() {
@@ -74,8 +74,8 @@ impl<C: Code> Observer<C> for Flow {
 }
 
 /// Which instructions and edges runs may take, by the checker's pass.
-pub fn flow_of<C: Code>(program: &C, certificate: &Index) -> Flow {
-    let mut flow = Flow::filled(0);
+pub fn flow_of<C: Code>(program: &C, certificate: &Index) -> FlowOfRuns {
+    let mut flow = FlowOfRuns::filled(0);
     let _end = pass_over(program, certificate, false, &mut flow);
     flow
 }

@@ -10,7 +10,7 @@ use bpf_insn::{Code, Insn, MAX_SLOTS, target};
 
 /// Where blocks and functions begin.
 #[derive(Drop)]
-pub struct Plan {
+pub struct GraphPlan {
     pub blocks: SlotSet,
     pub functions: SlotSet,
 }
@@ -26,11 +26,11 @@ pub fn call_target(slot: u32, insn: &Insn) -> Option<u32>
     }
 }
 
-impl Plan {
+impl GraphPlan {
     /// The blocks by the program's jumps and calls, the functions where calls lead; with a certificate its functions, and blocks by its
     /// labels, too.
-    pub fn of<C: Code>(program: &C, certificate: Option<&Index>) -> Plan {
-        let mut plan = Plan {
+    pub fn of<C: Code>(program: &C, certificate: Option<&Index>) -> GraphPlan {
+        let mut plan = GraphPlan {
             blocks: SlotSet::none(),
             functions: SlotSet::none(),
         };

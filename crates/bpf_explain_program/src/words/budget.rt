@@ -2,7 +2,7 @@
 
 use crate::known::{Known, Name, Offset};
 use crate::places::tag_at;
-use crate::sight::{Sight, Way};
+use crate::sight::{EdgeSeen, Sight};
 use bpf_cert::{Label, Measure, Term};
 use bpf_check::place_of;
 use bpf_insn::Code;
@@ -91,7 +91,7 @@ fn tell_way<W: Tell>(out: &mut W, way: &str, cost: i128, old: &Label, new: &Labe
 }
 
 /// Tells of an edge if it isn't paid. Whether it isn't.
-fn tell_edge<C: Code, W: Tell>(out: &mut W, sight: &Sight<'_, C>, way: Way<'_, '_>) -> bool {
+fn tell_edge<C: Code, W: Tell>(out: &mut W, sight: &Sight<'_, C>, way: EdgeSeen<'_, '_>) -> bool {
     let edge = way.edge;
     if !edge.is_unpaid() {
         return false;

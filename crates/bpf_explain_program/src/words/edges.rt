@@ -1,7 +1,7 @@
 //! C8: states that don't lie in the label that they lead to.
 
 use crate::known::{Known, Name, Written, known_register};
-use crate::sight::{Sight, Way};
+use crate::sight::{EdgeSeen, Sight};
 use bpf_cert::Label;
 use bpf_check::Callee;
 use bpf_insn::{Code, Reg};
@@ -18,7 +18,7 @@ pub fn first_difference(state: &State, label: &Label) -> Option<(Name, Known, Wr
 
 /// Tells where an edge's state doesn't lie in the label at its end: `r3 at slot 9 is anything; the label says u0..7`. Whether it
 /// doesn't.
-fn tell_way<W: Tell>(out: &mut W, way: Way<'_, '_>) -> bool {
+fn tell_way<W: Tell>(out: &mut W, way: EdgeSeen<'_, '_>) -> bool {
     let Some(label) = way.edge.label else {
         return false;
     };

@@ -2,8 +2,8 @@
 
 use crate::known::{Known, Name, Offset, known_register};
 use crate::sight::Sight;
-use crate::words::register;
 use crate::words::origins::tell_lost;
+use crate::words::register;
 use bpf_insn::{AluOp, Code, Insn, Operand, Reg, Width};
 use bpf_state::{Mistake, Place, State, mistake_of_kinds, unset_register};
 use bpf_streams::Tell;

@@ -3,9 +3,9 @@
 use crate::known::{Name, Offset, Pointed, known_register};
 use crate::listing::Lengths;
 use crate::sight::Sight;
-use crate::words::register;
 use crate::words::kinds::tell_held;
 use crate::words::origins::{tell_operand_tested, tell_sum_tested};
+use crate::words::register;
 use bpf_check::Index;
 use bpf_insn::{Access, Code};
 use bpf_state::{FARTHEST, Place, Reach, far_pointer, unknown_bytes};

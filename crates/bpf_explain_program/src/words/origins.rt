@@ -3,7 +3,7 @@
 use crate::graph::call_target;
 use crate::known::Offset;
 use crate::sight::Sight;
-use crate::trail::{Trail, Use};
+use crate::trail::{RegisterUse, Trail};
 use crate::words::register;
 use arrayvec::ArrayVec;
 use bpf_check::{Index, label_at};
@@ -16,7 +16,7 @@ const BACK: u32 = 4096;
 // ---- tests of copies
 
 /// Tells of a test of another copy of a part: `slot 36 tests r4, which is r3 + 8; r3 itself isn't bounded by it`.
-fn tell_beside<W: Tell>(out: &mut W, test: Use, part: Use) {
+fn tell_beside<W: Tell>(out: &mut W, test: RegisterUse, part: RegisterUse) {
     let by = test.sum.offset.saturating_sub(part.sum.offset);
     let is_short = test.sum.is_short || part.sum.is_short;
     let link = if by == 0 && !is_short {
@@ -35,7 +35,7 @@ fn tell_beside<W: Tell>(out: &mut W, test: Use, part: Use) {
 }
 
 /// Tells of a part that a test of another copy left unbounded. Whether there is one.
-fn tell_part<W: Tell>(out: &mut W, trail: &Trail, part: Use) -> bool {
+fn tell_part<W: Tell>(out: &mut W, trail: &Trail, part: RegisterUse) -> bool {
     let Some(test) = trail.test_beside(part) else {
         return false;
     };

@@ -9,7 +9,7 @@ use Rattle.bpf_follows.specs.declared.notes.Area.{Area}
 use Rattle.bpf_follows.specs.declared.notes.Area.TheVariants.{Given, Own}
 use Rattle.bpf_follows.specs.declared.notes.Kind.{Kind}
 use Rattle.bpf_follows.specs.declared.notes.Kind.TheVariants.{Nothing, Unset, Same, Both, Number, Natural, Inner, Length, Ending, Closing, Offset, Fixed, Within, Start, Head, Base, Moved, Address, Saved, Kept, Constant, Counter, Turn, Alone, Returns}
-use Rattle.bpf_follows.specs.declared.notes.Place.{Place}
+use Rattle.bpf_follows.specs.declared.notes.Counterpart.{Counterpart}
 use Rattle.bpf_follows.specs.declared.error.NotesError.{NotesError}
 use Rattle.bpf_follows.specs.declared.error.NotesError.TheVariants.{Form}
 use Rattle.bpf_follows.specs.NotesText.{note_line}
@@ -166,7 +166,7 @@ kinds_in (suc k) kinds text = option_map_or (λ x. if nat_lt x.0 75 then kinds_i
 abbrev pub nothing_said : List Kind
 nothing_said = replicate 75 Nothing
 
-unfoldable pub place_in : List ℕ → Option Place
+unfoldable pub place_in : List ℕ → Option Counterpart
 place_in text = do
   first ← number_in (codes "first ") text
   entry ← number_in (codes " entry ") first.1
@@ -174,11 +174,11 @@ place_in text = do
   kinds ← kinds_in 75 nothing_said body.1
   Some (record { entry = entry.0; first = first.0; body = body.0; kinds = kinds })
 
-abbrev pub note_from : List ℕ → Option (List ℕ) → Option (Option Place)
+abbrev pub note_from : List ℕ → Option (List ℕ) → Option (Option Counterpart)
 note_from text (Some rest) = Some None
 note_from text None = option_map Some (place_in text)
 
-unfoldable pub note_in : List ℕ → Option (Option Place)
+unfoldable pub note_in : List ℕ → Option (Option Counterpart)
 note_in text = do
   slot ← number_in [] text
   rest ← behind (codes ": ") slot.1
@@ -187,20 +187,20 @@ note_in text = do
 -- ---- lines
 
 -- the note, where the text begins with its line, and what stands behind that
-unfoldable pub taken_at : ℕ → List ℕ → Option (Option Place × List ℕ)
+unfoldable pub taken_at : ℕ → List ℕ → Option (Option Counterpart × List ℕ)
 taken_at slot text = note_in text >>= λ note. option_map (λ rest. (note, rest)) (behind (note_line slot note) text)
 
-abbrev pub with_front : Option Place → Result (List (Option Place)) NotesError → Result (List (Option Place)) NotesError
+abbrev pub with_front : Option Counterpart → Result (List (Option Counterpart)) NotesError → Result (List (Option Counterpart)) NotesError
 with_front n (Ok notes) = Ok (n ∷ notes)
 with_front n (Err error) = Err error
 
 -- the notes of the lines from a slot on, of which there are at most so many
-unfoldable pub lines_in : ℕ → ℕ → List ℕ → Result (List (Option Place)) NotesError
+unfoldable pub lines_in : ℕ → ℕ → List ℕ → Result (List (Option Counterpart)) NotesError
 lines_in k slot [] = Ok []
 lines_in zero slot (c ∷ cs) = Err (Form (slot + 2))
 lines_in (suc k) slot (c ∷ cs) = option_map_or (λ x. with_front x.0 (lines_in k (slot + 1) x.1)) (taken_at slot (c ∷ cs)) (Err (Form (slot + 2)))
 
 -- behind the notes so far
-abbrev pub after_lines : List (Option Place) → Result (List (Option Place)) NotesError → Result (List (Option Place)) NotesError
+abbrev pub after_lines : List (Option Counterpart) → Result (List (Option Counterpart)) NotesError → Result (List (Option Counterpart)) NotesError
 after_lines done (Ok notes) = Ok (done ++ notes)
 after_lines done (Err error) = Err error

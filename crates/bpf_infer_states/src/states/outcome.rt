@@ -6,13 +6,15 @@ use crate::judge::lower;
 use crate::liveness::{keep_live, least_number, places_read};
 use crate::states::Analysis;
 use bpf_cert::{Function, Label};
-use bpf_infer_base::{Fault, InferError, Meter, PlaceSet, Stop, Task, Watch, get_or, held, labels_of, put};
+use bpf_infer_base::{
+    InferError, Meter, PlaceSet, SearchStop, SlotFailure, Task, Watch, get_or, held, labels_of, put,
+};
 use bpf_num::Num;
 use std::alloc::AllocError;
 
 impl<'a> Analysis<'a> {
     /// The lowest fault, or slot that isn't reached if all are to be.
-    pub(super) fn fault(&self) -> Option<Fault> {
+    pub(super) fn fault(&self) -> Option<SlotFailure> {
         let mut lowest = None;
         let whole = self.whole;
         for function in 0..self.judged.len() {
@@ -20,10 +22,10 @@ impl<'a> Analysis<'a> {
                 Some(judged) if whole.stops => judged.report.fault,
                 Some(judged) => {
                     let unreached = judged.report.unreached(self.task(&judged.blocks));
-                    lower(judged.report.fault, unreached.map(Fault::falls_off))
+                    lower(judged.report.fault, unreached.map(SlotFailure::falls_off))
                 }
                 None if whole.stops => None,
-                None => Some(Fault::falls_off(whole.cfg.first_slot(function))),
+                None => Some(SlotFailure::falls_off(whole.cfg.first_slot(function))),
             };
             lowest = lower(lowest, found);
         }
@@ -92,7 +94,7 @@ impl<'a> Analysis<'a> {
     }
 
     /// A refusal with the states that it is seen in, those that are found by then.
-    fn with_states(&mut self, stop: Stop) -> Stop {
+    fn with_states(&mut self, stop: SearchStop) -> SearchStop {
         if matches!(stop.error, InferError::Memory) {
             return stop;
         }
@@ -106,7 +108,10 @@ impl<'a> Analysis<'a> {
 /// The fault that is named for a program: the lowest one to which correct instructions lead, with the states on the way to
 /// it. What is seen only where a walk went on behind another fault isn't named before that one. None if there is no such fault,
 /// or the states don't settle.
-fn first_fault<W: Watch>(task: Task, meter: &mut Meter<'_, W>) -> Result<Option<Stop>, Stop>
+fn first_fault<W: Watch>(
+    task: Task,
+    meter: &mut Meter<'_, W>,
+) -> Result<Option<SearchStop>, SearchStop>
     requires { task.least ≤ task.most }
 {
     let mut analysis = Analysis::new(task)?;
@@ -117,13 +122,13 @@ fn first_fault<W: Watch>(task: Task, meter: &mut Meter<'_, W>) -> Result<Option<
         };
     }
     let fault = analysis.fault();
-    Ok(fault.map(|fault| analysis.with_states(Stop::from(fault.refusal()))))
+    Ok(fault.map(|fault| analysis.with_states(SearchStop::from(fault.refusal()))))
 }
 
 /// The functions of a program with their depths, what they return, and their labels with their states; each budget is 0. I1
 /// at a function whose states don't settle; I4 at an instruction that is refused: the lowest one to which correct
 /// instructions lead, else the lowest in dead code.
-pub fn draft<W: Watch>(task: Task, meter: &mut Meter<'_, W>) -> Result<Vec<Function>, Stop>
+pub fn draft<W: Watch>(task: Task, meter: &mut Meter<'_, W>) -> Result<Vec<Function>, SearchStop>
     requires { task.least ≤ task.most }
 {
     let mut analysis = Analysis::new(task.tolerant())?;
@@ -133,7 +138,7 @@ pub fn draft<W: Watch>(task: Task, meter: &mut Meter<'_, W>) -> Result<Vec<Funct
     if let Some(fault) = analysis.fault() {
         return Err(match first_fault(task, meter)? {
             Some(stop) => stop,
-            None => analysis.with_states(Stop::from(fault.refusal())),
+            None => analysis.with_states(SearchStop::from(fault.refusal())),
         });
     }
     analysis.keep_all_live()?;

@@ -4,23 +4,26 @@ ghost use Rattle.std.specs.Prelude.{◌≤◌};
 
 use crate::states::Analysis;
 use bpf_cert::Function;
-use bpf_infer_base::{Callee, Condition, Edge, Fault, InferError, LabelState, Meter, Task, Visitor, Watch, get_or, held, load_at, put, vacant};
+use bpf_infer_base::{
+    BlockEdge, CalledFunction, ForeseenCondition, InferError, LabelState, Meter, SlotFailure, Task,
+    Visitor, Watch, get_or, held, load_at, put, vacant,
+};
 use bpf_insn::{Insn, Reg};
 use bpf_num::Num;
 use bpf_state::{RegState, State};
 use std::alloc::{AllocError, Global};
 
 /// What is known of the registers before an instruction.
-type Sight = Option<Box<[RegState; 11]>>;
+type RegisterSight = Option<Box<[RegState; 11]>>;
 
 /// What was found of a program's instructions.
 #[derive(Drop)]
 pub struct Survey {
     alloc: Global,
     /// By slots, of those that are reached.
-    sights: Vec<Sight>,
+    sights: Vec<RegisterSight>,
     /// By slots, the conditions that fail.
-    faults: Vec<Option<Condition>>,
+    faults: Vec<Option<ForeseenCondition>>,
     /// By functions' numbers, whether one is called from what is reached.
     called: Vec<bool>,
     /// By labels of the function that is gone over, whether one was met.
@@ -46,16 +49,16 @@ impl Visitor for Survey {
         Ok(())
     }
 
-    fn edge(&mut self, edge: Edge, _state: &State) -> Result<(), AllocError> {
+    fn edge(&mut self, edge: BlockEdge, _state: &State) -> Result<(), AllocError> {
         self.meet(edge.to)
     }
 
-    fn call(&mut self, callee: Callee, _state: &State) -> Result<(), AllocError> {
+    fn call(&mut self, callee: CalledFunction, _state: &State) -> Result<(), AllocError> {
         put(&mut self.called, callee.function, true);
         Ok(())
     }
 
-    fn fault(&mut self, fault: Fault) {
+    fn fault(&mut self, fault: SlotFailure) {
         put(&mut self.faults, fault.slot as usize, Some(fault.condition));
     }
 }
@@ -95,7 +98,7 @@ impl Survey {
     }
 
     /// The condition of the checker that the instruction at a slot fails, if it is reached.
-    pub fn fault(&self, slot: u32) -> Option<Condition> {
+    pub fn fault(&self, slot: u32) -> Option<ForeseenCondition> {
         get_or(&self.faults, slot as usize, None)
     }
 

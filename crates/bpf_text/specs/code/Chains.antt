@@ -1,16 +1,16 @@
 -- Labels chained by a hash of their names: from each label one goes on to one above it whose name comes to the same bucket.
 use Rattle.std.specs.Prelude.{ℕ, ◌+◌, ◌-◌, ◌*◌, ◌/◌, ◌%◌, ◌<◌, ◌≤◌, List, [], ◌∷◌, ◌++◌, None, ◌≡◌, length, take, get_or, is_some, true}
-use Rattle.bpf_text.specs.declared.chains.Entry.{Entry}
+use Rattle.bpf_text.specs.declared.chains.ChainedLabel.{ChainedLabel}
 use Rattle.bpf_text.specs.declared.chains.Added.{Added}
 use Rattle.bpf_text.specs.declared.chains.Added.TheVariants.{Behind, Again, Crowded}
 use Rattle.bpf_text.specs.Sources.{Label}
 use Rattle.bpf_text.specs.Assembly.{slot_of}
 use Rattle.bpf_text.specs.code.Seen.{label_seen}
 
-abbrev pub entry_label : Entry → Label
+abbrev pub entry_label : ChainedLabel → Label
 entry_label e = label_seen e.label
 
-abbrev pub entry_link : Entry → ℕ
+abbrev pub entry_link : ChainedLabel → ℕ
 entry_link e = e.link
 
 -- a number below 2^32 for a name, behind the number of the characters before

@@ -1,5 +1,5 @@
 use Rattle.std.proofs.Common.{[], inl, refl}
-use Rattle.bpf_captures.specs.declared.turn.Stop.TheVariants.{Failed}
+use Rattle.bpf_captures.specs.declared.turn.CaptureEnd.TheVariants.{Failed}
 use Rattle.bpf_captures.proofs.CountLemmas.{none_counted}
 use Rattle.bpf_captures.proofs.PutLemmas.{none_begun}
 use Rattle.bpf_captures.proofs.ReplayLemmas.{headless}

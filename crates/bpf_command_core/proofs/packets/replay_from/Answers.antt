@@ -2,7 +2,7 @@ use Rattle.std.proofs.Common.{subst}
 use Rattle.std.specs.Io.KnownBytes.{Appends}
 use Rattle.bpf_insn.specs.Written.{AppendsBeginning}
 use Rattle.bpf_captures.specs.Stops.{Replays}
-use Rattle.bpf_captures.specs.declared.turn.Stop.TheVariants.{Failed}
+use Rattle.bpf_captures.specs.declared.turn.CaptureEnd.TheVariants.{Failed}
 use Rattle.bpf_command_core.specs.Replayed.{Gives}
 use Rattle.bpf_command_core.proofs.ReplayedLemmas.{Stopped, replay_fails, replay_leaves, replay_says}
 use Rattle.bpf_command_core.proofs.packets.replay_from.Goals as goal

@@ -7,7 +7,7 @@ use Rattle.bpf_follows.specs.declared.site.Site.{Site}
 use Rattle.bpf_follows.specs.Relation.{kinds_of, known, is_alone}
 use Rattle.bpf_follows.specs.Returned.{GivesBack}
 use Rattle.bpf_follows.specs.Stuck.{is_stuck}
-use Rattle.bpf_follows.specs.declared.notes.Place.{Place}
+use Rattle.bpf_follows.specs.declared.notes.Counterpart.{Counterpart}
 use Rattle.bpf_follows.specs.Matching.{front_at, IsLone, IsSite, Falls, Leads, Stands}
 use Rattle.bpf_follows.specs.Mismatches.{IsNoSite}
 use Rattle.bpf_follows.proofs.SiteLemmas.{one_site, unless_stuck}
@@ -19,7 +19,7 @@ returns-then-is_stuck-clause-exact g c = (
   λ h place i noted stands.
       let same_place : c.in-Some.place.now ≡ place = same_Some _ _ (sym (sym c.place_at.ensures ∙ ap option_copied c.in-Some.is) ∙ noted) in
       let same_insn : c.in-Some-insn.insn ≡ i = same_Some _ _ (sym (sym c.insn.ensures ∙ c.in-Some-insn.is) ∙ stands) in
-      inl (ap₂ (λ (place : Place) i. is_stuck c.args.bounds.length (kinds_of place) i) (sym same_place) (sym same_insn) ∙ (sym c.is_stuck.ensures ∙ c.if-is_stuck.true)),
+      inl (ap₂ (λ (place : Counterpart) i. is_stuck c.args.bounds.length (kinds_of place) i) (sym same_place) (sym same_insn) ∙ (sym c.is_stuck.ensures ∙ c.if-is_stuck.true)),
   λ all. refl,
 )
 

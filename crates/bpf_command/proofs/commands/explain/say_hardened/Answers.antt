@@ -4,7 +4,7 @@ use Rattle.bpf_safety.specs.Certified.{IsLeastFlaw}
 use Rattle.bpf_check.specs.CheckedProgram.{IsCertifiedBy}
 use Rattle.bpf_check.specs.RefusalNumbers.{refusal_number, refusal_slot}
 use Rattle.bpf_explain_harden.specs.Hardened.{IsMade, IsUnhardened}
-use Rattle.bpf_explain_harden.specs.declared.hardened.Hardening.{Hardening}
+use Rattle.bpf_explain_harden.specs.declared.hardened.HardeningAsked.{HardeningAsked}
 use Rattle.bpf_command.proofs.ExplainedLemmas.{hardened_so, is_hardened, judges_by, unhardened_so}
 use Rattle.bpf_command.proofs.commands.explain.say_hardened.Goals as goal
 
@@ -13,7 +13,7 @@ returns-in-Ok-Ok-clause-ok g c =
     let asked = c.args.asked in
     let m = c.in-Ok-Ok._made in
     let o = c.in-Ok-Ok.refusal in
-    let within : Hardening = record asked { length = c.min-length.result } in
+    let within : HardeningAsked = record asked { length = c.min-length.result } in
     let same : within.length ≡ min asked.length max_context = search rules in
     let made : IsMade c.args.program.now within m = search rules in
     let certifies : IfNone o (IsCertifiedBy m.program m.certificate) = search rules in
@@ -24,7 +24,7 @@ returns-in-Ok-Ok-clause-ok g c =
 pub returns-in-Ok-Err-clause-ok : goal.returns-in-Ok-Err-clause-ok
 returns-in-Ok-Err-clause-ok g c =
     let asked = c.args.asked in
-    let within : Hardening = record asked { length = c.min-length.result } in
+    let within : HardeningAsked = record asked { length = c.min-length.result } in
     let same : within.length ≡ min asked.length max_context = search rules in
     let why : IsUnhardened c.args.program.now within c.in-Ok-Err._why = search rules in
     unhardened_so within asked.length c.args.program.now c.in-Ok-Err._why same why

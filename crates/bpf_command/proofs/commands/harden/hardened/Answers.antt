@@ -8,7 +8,7 @@ use Rattle.bpf_answers.specs.declared.failure.Failure.TheVariants.{CannotWrite, 
 use Rattle.bpf_answers.proofs.MadeLemmas.{on_failure}
 use Rattle.bpf_command.proofs.HardenedLemmas.{all_stand, made_of, out_fails, texts_fail}
 use Rattle.bpf_command.specs.Hardened.{IsUnshown, NotBothPut}
-use Rattle.bpf_command.specs.declared.commands.harden.Unshown.TheVariants.{Differs}
+use Rattle.bpf_command.specs.declared.commands.harden.UnshownMeaning.TheVariants.{Differs}
 use Rattle.bpf_command.proofs.commands.harden.hardened.Goals as goal
 
 pub returns-in-Err-Memory-clause-ok : goal.returns-in-Err-Memory-clause-ok

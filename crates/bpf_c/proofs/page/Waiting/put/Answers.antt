@@ -2,7 +2,7 @@ use Rattle.std.proofs.Common.{◌≡◌, ◌++◌, true, false, refl, rules, sub
 use Rattle.std.specs.Prelude.{is_some}
 use Rattle.bpf_insn.specs.Written.{AppendsBeginning, Gathers}
 use Rattle.bpf_c.proofs.SaysLemmas.{says_put, says_failed}
-use Rattle.bpf_c.proofs.page.Page.put.Goals as goal
+use Rattle.bpf_c.proofs.page.Waiting.put.Goals as goal
 
 pub returns-in-Err : goal.returns-in-Err
 returns-in-Err g c =

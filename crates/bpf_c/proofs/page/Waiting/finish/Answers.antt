@@ -3,7 +3,7 @@ use Rattle.std.specs.Prelude.{OnErr, is_some}
 use Rattle.bpf_insn.specs.Written.{AppendsBeginning}
 use Rattle.bpf_c.specs.code.Says.{Stands}
 use Rattle.bpf_c.proofs.SaysLemmas.{flush_fails}
-use Rattle.bpf_c.proofs.page.Page.finish.Goals as goal
+use Rattle.bpf_c.proofs.page.Waiting.finish.Goals as goal
 
 pub returns-in-None-clause-err : goal.returns-in-None-clause-err
 returns-in-None-clause-err g c =
