@@ -24,7 +24,9 @@ mod certifying;
 mod converting;
 mod explaining;
 
-use bpf_host_calls::{BpfFollowing, BpfOutcome, BpfRefusal, BpfVerdict, HardenAsked, LoadAsked, RangeAsked};
+use bpf_host_calls::{
+    BpfFollowing, BpfOutcome, BpfRefusal, BpfVerdict, HardenAsked, LoadAsked, RangeAsked,
+};
 pub use certifying::bpf_host_certify;
 pub use converting::{bpf_host_convert, bpf_host_convert_size};
 pub use explaining::{bpf_host_explain, bpf_host_explain_image, bpf_host_explain_search};

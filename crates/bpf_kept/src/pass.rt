@@ -14,7 +14,10 @@ ghost use Rattle.bpf_kept.specs.NoteFaults.{IsFor, IsNoteFault, IsFaultBeside, I
 use crate::bounds::RunBounds;
 use crate::edges::{Arrival, arrives};
 use crate::known::{KnownHere, left_alone, start_facts};
-use crate::laws::{certified_keeps_flat_meaning, flat_meaning_is_exact, flat_meaning_is_far, matching_keeps_flat_meaning};
+use crate::laws::{
+    certified_keeps_flat_meaning, flat_meaning_is_exact, flat_meaning_is_far,
+    matching_keeps_flat_meaning,
+};
 use crate::note_fault::NoteFault;
 use crate::notes::{Change, Note};
 use crate::stands::{NewSlot, holds_at};

@@ -2,9 +2,15 @@
 
 ghost use Rattle.bpf_safety.specs.Theorems.{SlackIsLeast, CertifiedIsSafe, SafeHasNoFault, SafeEnds, ProgramIsFlatSafe, CertifiedIsFlatSafe, VersionIsFree, RangesInside, CertifiedWork, ComparisonsAreFew, VisitsAreAssigned};
 
-use crate::sound::{branch_keeps, entails_describes, enter_keeps, leave_keeps, not_stuck_inside, start_describes, start_is_abstract, step_keeps, tightened_describes, waiting_frames_stay};
+use crate::sound::{
+    branch_keeps, entails_describes, enter_keeps, leave_keeps, not_stuck_inside, start_describes,
+    start_is_abstract, step_keeps, tightened_describes, waiting_frames_stay,
+};
 use bpf_num::laws::entails_includes;
-use bpf_semantics::{finish_is_last, flat_finishes, flat_follows, runs_keep_states, start_is_state, step_keeps_context, step_keeps_states, stuck_has_reason};
+use bpf_semantics::{
+    finish_is_last, flat_finishes, flat_follows, runs_keep_states, start_is_state,
+    step_keeps_context, step_keeps_states, stuck_has_reason,
+};
 
 /// An edge pays at all values exactly if its least slack is at least zero.
 pub fn slack_is_least()
