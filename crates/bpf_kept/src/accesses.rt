@@ -117,8 +117,14 @@ pub fn loads_alike(known: &KnownHere<'_>, insn: &Insn, moved: &Insn) -> bool
                 src: base,
                 off: at,
             },
-        )
-        | (
+        ) => {
+            let new = Displaced { base, off: at };
+            let old = Displaced { base: src, off };
+            same_size(size, other)
+                && same_register(dst, into)
+                && goes_alike(known, size.bytes(), new, old)
+        }
+        (
             Insn::LoadSx {
                 size,
                 dst,
@@ -210,8 +216,13 @@ fn reached(left: u32, insn: &Insn, moved: &Insn) -> Option<Change>
                 off: at,
                 ..
             },
-        )
-        | (
+        ) => reaches(
+            left,
+            size.bytes(),
+            Displaced { base: dst, off },
+            Displaced { base, off: at },
+        ),
+        (
             Insn::StoreImm { size, dst, off, .. },
             Insn::StoreImm {
                 dst: base,
@@ -246,34 +257,44 @@ fn pin_of_slot(facts: &[Fact], size: Size, from: Displaced) -> Option<Term>
     pinned(facts, Holder::Slot(n))
 }
 
+/// What makes 0 with the result of an operation.
+fn pin_of_alu(facts: &[Fact], op: AluOp, width: Width, dst: Reg, src: Operand) -> Option<Term>
+    ensures { result ≡ pin_of facts.now (Alu op width dst src) }
+{
+    match op {
+        AluOp::Mov => match (width, src) {
+            (Width::W64, Operand::Imm(imm)) => Some(negated(constant(extended(imm)))),
+            (Width::W64, Operand::Reg(r)) => pinned(facts, Holder::Register(r)),
+            (Width::W32, _) => None,
+        },
+        AluOp::Add => match (width, src) {
+            (Width::W64, Operand::Imm(imm)) => pin_of_sum(facts, dst, imm),
+            (Width::W64, Operand::Reg(_r)) => None,
+            (Width::W32, _) => None,
+        },
+        AluOp::Sub | AluOp::Mul | AluOp::Div | AluOp::SDiv | AluOp::Mod | AluOp::SMod => None,
+        AluOp::Or | AluOp::And | AluOp::Xor | AluOp::Lsh | AluOp::Rsh | AluOp::Arsh => None,
+    }
+}
+
 /// What makes 0 with what an instruction puts or stores, if that is known by itself.
 pub fn pin_of(facts: &[Fact], insn: &Insn) -> Option<Term>
     ensures { result ≡ pin_of facts.now insn.now }
 {
     match *insn {
         Insn::Alu {
-            op: AluOp::Mov,
-            width: Width::W64,
-            src: Operand::Imm(imm),
-            ..
-        }
-        | Insn::StoreImm { imm, .. } => Some(negated(constant(extended(imm)))),
-        Insn::Alu {
-            op: AluOp::Mov,
-            width: Width::W64,
-            src: Operand::Reg(src),
-            ..
-        }
-        | Insn::Store { src, .. } => pinned(facts, Holder::Register(src)),
-        Insn::Alu {
-            op: AluOp::Add,
-            width: Width::W64,
+            op,
+            width,
             dst,
-            src: Operand::Imm(imm),
-        } => pin_of_sum(facts, dst, imm),
+            src,
+        } => pin_of_alu(facts, op, width, dst, src),
         Insn::LoadImm64 { value, .. } => Some(negated(constant(value))),
         Insn::Load { size, src, off, .. } => pin_of_slot(facts, size, Displaced { base: src, off }),
-        _ => None,
+        Insn::Store { src, .. } => pinned(facts, Holder::Register(src)),
+        Insn::StoreImm { imm, .. } => Some(negated(constant(extended(imm)))),
+        Insn::Neg { .. } | Insn::MovSx { .. } | Insn::End { .. } | Insn::LoadSx { .. } => None,
+        Insn::Atomic { .. } | Insn::Ja { .. } | Insn::JaLong { .. } => None,
+        Insn::JumpIf { .. } | Insn::CallLocal { .. } | Insn::Exit => None,
     }
 }
 
@@ -339,7 +360,10 @@ fn puts_slot(facts: &[Fact], insn: &Insn) -> Option<Change>
             off,
             imm,
         } => puts_constant(facts, size, Displaced { base: dst, off }, imm),
-        _ => None,
+        Insn::Alu { .. } | Insn::Neg { .. } | Insn::MovSx { .. } | Insn::End { .. } => None,
+        Insn::LoadImm64 { .. } | Insn::Load { .. } | Insn::LoadSx { .. } => None,
+        Insn::Atomic { .. } | Insn::Ja { .. } | Insn::JaLong { .. } => None,
+        Insn::JumpIf { .. } | Insn::CallLocal { .. } | Insn::Exit => None,
     }
 }
 

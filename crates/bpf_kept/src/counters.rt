@@ -4,7 +4,7 @@ ghost use Rattle.std.specs.Prelude.{◌≡◌, ℕ, ◌+◌, ◌-◌, None, fals
 ghost use Rattle.std.specs.Option.{option_map_or};
 ghost use Rattle.std.specs.List.{list_all};
 ghost use Rattle.bpf_insn.specs.Arithmetic.{extended};
-ghost use Rattle.bpf_insn.specs.declared.instruction.AluOp.TheVariants.{Add};
+ghost use Rattle.bpf_insn.specs.declared.instruction.AluOp.TheVariants.{Add, Mov};
 ghost use Rattle.bpf_insn.specs.declared.instruction.Insn.TheVariants.{Alu, Load};
 ghost use Rattle.bpf_insn.specs.declared.instruction.Operand.TheVariants.{Imm};
 ghost use Rattle.bpf_insn.specs.declared.instruction.Reg.{Reg};
@@ -95,36 +95,65 @@ fn takes_turn(counters: &[Option<TurnsLeft>], dst: Reg, imm: i32, want: TurnsLef
     imm == -1 && is_counted(counters, Holder::Register(dst), 1, want)
 }
 
+/// Whether a sum does.
+fn adds_counter(
+    counters: &[Option<TurnsLeft>],
+    width: Width,
+    dst: Reg,
+    src: Operand,
+    want: TurnsLeft,
+) -> bool
+    ensures { (turns : ℕ) → result ≡ makes_counter turns counters.now (Alu Add width dst src) want }
+{
+    match (width, src) {
+        (Width::W64, Operand::Imm(imm)) => takes_turn(counters, dst, imm, want),
+        (Width::W64, Operand::Reg(_r)) => false,
+        (Width::W32, _) => false,
+    }
+}
+
+/// Whether a move does.
+fn moves_counter(
+    turns: u64,
+    counters: &[Option<TurnsLeft>],
+    width: Width,
+    src: Operand,
+    want: TurnsLeft,
+) -> bool
+    ensures { (dst : Reg) → result ≡ makes_counter turns counters.now (Alu Mov width dst src) want }
+{
+    match (width, src) {
+        (Width::W64, Operand::Imm(imm)) => turns <= extended(imm),
+        (Width::W64, Operand::Reg(r)) => is_counted(counters, Holder::Register(r), 0, want),
+        (Width::W32, _) => false,
+    }
+}
+
 /// Whether what an extra instruction puts counts as wanted: it begins with all turns, is moved, or loses one.
 fn makes_counter(turns: u64, counters: &[Option<TurnsLeft>], insn: &Insn, want: TurnsLeft) -> bool
     ensures { result ≡ makes_counter turns counters.now insn.now want }
 {
     match *insn {
         Insn::Alu {
-            op: AluOp::Mov,
-            width: Width::W64,
-            src: Operand::Imm(imm),
-            ..
-        }
-        | Insn::StoreImm { imm, .. } => turns <= extended(imm),
-        Insn::Alu {
-            op: AluOp::Mov,
-            width: Width::W64,
-            src: Operand::Reg(src),
-            ..
-        }
-        | Insn::Store { src, .. } => is_counted(counters, Holder::Register(src), 0, want),
-        Insn::Alu {
-            op: AluOp::Add,
-            width: Width::W64,
+            op,
+            width,
             dst,
-            src: Operand::Imm(imm),
-        } => takes_turn(counters, dst, imm, want),
+            src,
+        } => match op {
+            AluOp::Add => adds_counter(counters, width, dst, src, want),
+            AluOp::Mov => moves_counter(turns, counters, width, src, want),
+            AluOp::Sub | AluOp::Mul | AluOp::Div | AluOp::SDiv | AluOp::Mod | AluOp::SMod => false,
+            AluOp::Or | AluOp::And | AluOp::Xor | AluOp::Lsh | AluOp::Rsh | AluOp::Arsh => false,
+        },
         Insn::LoadImm64 { value, .. } => turns <= value,
         Insn::Load { size, src, off, .. } => {
             loads_counter(counters, size, Displaced { base: src, off }, want)
         }
-        _ => false,
+        Insn::Store { src, .. } => is_counted(counters, Holder::Register(src), 0, want),
+        Insn::StoreImm { imm, .. } => turns <= extended(imm),
+        Insn::Neg { .. } | Insn::MovSx { .. } | Insn::End { .. } | Insn::LoadSx { .. } => false,
+        Insn::Atomic { .. } | Insn::Ja { .. } | Insn::JaLong { .. } => false,
+        Insn::JumpIf { .. } | Insn::CallLocal { .. } | Insn::Exit => false,
     }
 }
 

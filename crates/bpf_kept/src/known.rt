@@ -227,12 +227,15 @@ fn hands_frame(insn: &Insn) -> bool
     ensures { result ≡ hands_frame insn.now }
 {
     match *insn {
-        Insn::Alu {
-            src: Operand::Reg(r),
-            ..
-        } => r.is_frame_pointer(),
+        Insn::Alu { src, .. } => match src {
+            Operand::Imm(_imm) => false,
+            Operand::Reg(r) => r.is_frame_pointer(),
+        },
         Insn::Store { src, .. } => src.is_frame_pointer(),
-        _ => false,
+        Insn::Neg { .. } | Insn::MovSx { .. } | Insn::End { .. } => false,
+        Insn::LoadImm64 { .. } | Insn::Load { .. } | Insn::LoadSx { .. } => false,
+        Insn::StoreImm { .. } | Insn::Atomic { .. } | Insn::Ja { .. } => false,
+        Insn::JaLong { .. } | Insn::JumpIf { .. } | Insn::CallLocal { .. } | Insn::Exit => false,
     }
 }
 

@@ -4,10 +4,11 @@ ghost use Rattle.std.specs.Prelude.{◌≡◌, true, option_and_then};
 ghost use Rattle.std.specs.List.{list_all};
 ghost use Rattle.std.specs.Option.{option_map_or};
 ghost use Rattle.bpf_insn.specs.Effects.{registers_read};
+ghost use Rattle.bpf_insn.specs.Instruction.{byte_count};
 ghost use Rattle.bpf_insn.specs.declared.instruction.AluOp.TheVariants.{Xor};
 ghost use Rattle.bpf_insn.specs.declared.instruction.Insn.TheVariants.{Alu, Load};
 ghost use Rattle.bpf_insn.specs.declared.instruction.Reg.{Reg};
-ghost use Rattle.bpf_kept.specs.Rules.{put_into, operand_term, linear, computed, by_constant, by_terms, own, own_in, is_mask, reads_low, reads_same, loads_common, result_term, keeps_low, is_same, is_low, has_low_result, low_result};
+ghost use Rattle.bpf_kept.specs.Rules.{put_into, operand_term, linear, computed, by_constant, by_terms, own, own_in, is_mask, reads_low, reads_same, loads_common, is_common, result_term, keeps_low, is_same, is_low, has_low_result, low_result};
 ghost use Rattle.bpf_kept.specs.Knowns.{known_of};
 
 use crate::commons::is_common;
@@ -244,16 +245,26 @@ pub fn reads_same(facts: &[Fact], insn: &Insn) -> bool
     all_same(facts, insn) || (reads_low(insn) && all_low(facts, insn))
 }
 
+/// Whether the bytes at an address are the same.
+fn is_common_at(known: &KnownHere<'_>, size: Size, from: Displaced) -> bool
+    ensures { result ≡ is_common (known_of known.now) (byte_count size) from.base from.off from.base from.off }
+{
+    is_common(known, size.bytes(), from, from)
+}
+
 /// Whether the bytes that it loads are the same.
 fn loads_common(known: &KnownHere<'_>, insn: &Insn) -> bool
     ensures { result ≡ loads_common (known_of known.now) insn.now }
 {
     match *insn {
-        Insn::Load { size, src, off, .. } | Insn::LoadSx { size, src, off, .. } => {
-            let from = Displaced { base: src, off };
-            is_common(known, size.bytes(), from, from)
+        Insn::Load { size, src, off, .. } => is_common_at(known, size, Displaced { base: src, off }),
+        Insn::LoadSx { size, src, off, .. } => {
+            is_common_at(known, size, Displaced { base: src, off })
         }
-        _ => true,
+        Insn::Alu { .. } | Insn::Neg { .. } | Insn::MovSx { .. } | Insn::End { .. } => true,
+        Insn::LoadImm64 { .. } | Insn::Store { .. } | Insn::StoreImm { .. } => true,
+        Insn::Atomic { .. } | Insn::Ja { .. } | Insn::JaLong { .. } => true,
+        Insn::JumpIf { .. } | Insn::CallLocal { .. } | Insn::Exit => true,
     }
 }
 

@@ -1,12 +1,13 @@
 //! What is noted of a slot of the new program: an instruction that stands for an old one, or an extra one.
 
-ghost use Rattle.std.specs.Prelude.{◌≡◌, ◌<◌, ◌≤◌, ◌↔◌, ◌-◌, IsTrue, Some, None, option_and_then, if◌then◌else◌};
+ghost use Rattle.std.specs.Prelude.{◌≡◌, ◌<◌, ◌≤◌, ◌↔◌, ◌-◌, IsTrue, Some, None, option_map, option_and_then, if◌then◌else◌};
 ghost use Rattle.bpf_insn.specs.Effects.{is_frame_pointer};
 ghost use Rattle.bpf_kept.specs.Rules.{put_into};
-ghost use Rattle.bpf_kept.specs.declared.notes.Holder.TheVariants.{Register};
+ghost use Rattle.bpf_kept.specs.declared.notes.Holder.TheVariants.{Register, Slot};
 ghost use Rattle.bpf_insn.specs.Limits.{max_slots};
 ghost use Rattle.bpf_kept.specs.Fronts.{front};
 ghost use Rattle.bpf_kept.specs.Knowns.{known_of, known_for};
+ghost use Rattle.bpf_kept.specs.Slots.{slot_at};
 ghost use Rattle.bpf_kept.specs.Shown.{bounds_of};
 ghost use Rattle.bpf_kept.specs.Matching.{left_alone, led, falls, leads, stands, made_in, makes, extra, adds, IsBody, IsExtra, HoldsAt};
 
@@ -20,7 +21,7 @@ use crate::known::{KnownHere, facts_at};
 use crate::notes::{Change, Holder, Note};
 use crate::results::put_into;
 use crate::slots::{Displaced, slot_at};
-use bpf_insn::{Code, Insn, target};
+use bpf_insn::{Code, Insn, Size, target};
 
 /// The greatest number of extra instructions in front of one.
 const MOST_EXTRAS: u32 = 128;
@@ -106,16 +107,26 @@ fn written_by(moved: &Insn) -> Option<Holder>
     Some(Holder::Register(into))
 }
 
+/// The slot of the frame to which it stores eight bytes by r10.
+fn stored_in(size: Size, to: Displaced) -> Option<Holder>
+    ensures { result ≡ option_map Slot (slot_at size to.base to.off) }
+{
+    let n = slot_at(size, to)?;
+    Some(Holder::Slot(n))
+}
+
 /// Into what an extra instruction puts something, by r10 where it is a slot of the frame.
 fn made_in(moved: &Insn) -> Option<Holder>
     ensures { result ≡ made_in moved.now }
 {
     match *moved {
-        Insn::Store { size, dst, off, .. } | Insn::StoreImm { size, dst, off, .. } => {
-            let n = slot_at(size, Displaced { base: dst, off })?;
-            Some(Holder::Slot(n))
-        }
-        _ => written_by(moved),
+        Insn::Store { size, dst, off, .. } => stored_in(size, Displaced { base: dst, off }),
+        Insn::StoreImm { size, dst, off, .. } => stored_in(size, Displaced { base: dst, off }),
+        Insn::Alu { .. } | Insn::Neg { .. } | Insn::MovSx { .. } => written_by(moved),
+        Insn::End { .. } | Insn::LoadImm64 { .. } => written_by(moved),
+        Insn::Load { .. } | Insn::LoadSx { .. } => written_by(moved),
+        Insn::Atomic { .. } | Insn::Ja { .. } | Insn::JaLong { .. } => None,
+        Insn::JumpIf { .. } | Insn::CallLocal { .. } | Insn::Exit => None,
     }
 }
 
