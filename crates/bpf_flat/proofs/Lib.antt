@@ -7,3 +7,6 @@ pub mod FlowLemmas
 pub mod PlaceLemmas
 pub mod StepLemmas
 pub mod RunLemmas
+pub mod OpcodeLemmas
+pub mod RegisterLemmas
+pub mod WideLemmas

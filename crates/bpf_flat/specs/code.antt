@@ -2,3 +2,4 @@
 pub mod Parts
 pub mod Frames
 pub mod Stops
+pub mod Opcodes

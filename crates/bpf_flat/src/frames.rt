@@ -20,7 +20,7 @@ pub(crate) const MAX_CALLS: usize = MAX_FRAMES - 1;
 /// What a call keeps for its return: the slot after it, and r6 to r10.
 #[derive(Clone, Copy)]
 pub(crate) struct Caller {
-    pub(crate) slot: u32,
+    pub(crate) slot: usize,
     pub(crate) r6: u64,
     pub(crate) r7: u64,
     pub(crate) r8: u64,

@@ -2,11 +2,16 @@
 #![tactic(auto)]
 
 mod dispatch;
+mod fetch;
 mod frames;
+mod image;
 mod machine;
+mod op;
 mod runs;
 mod seldom;
 mod standing;
 mod step;
 
-pub use runs::run;
+pub use fetch::Fetch;
+pub use image::{fetched_in, opcode_in, wide_in};
+pub use runs::{run, run_fetched};

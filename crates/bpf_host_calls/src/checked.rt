@@ -7,7 +7,7 @@ ghost use Rattle.bpf_host_calls.specs.Told.{order_named};
 
 use crate::ordered::Ordered;
 use crate::prepared::found_in;
-use bpf_flat::run;
+use bpf_flat::run_fetched;
 use bpf_insn::Order;
 use bpf_semantics::{finish_is_last, runs_are_one, stuck_has_reason};
 
@@ -20,7 +20,7 @@ fn end_in<const ORDER: u32>(image: &[u8], context: &[u8]) -> u64
     stuck_has_reason();
     runs_are_one();
     let program: Ordered<'_, ORDER> = Ordered::of(image);
-    run(&program, context, u32::MAX)
+    run_fetched(&program, context, u32::MAX)
 }
 
 /// The number with which the program of a verified image ends on a context.
