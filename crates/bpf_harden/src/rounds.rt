@@ -1,4 +1,5 @@
-//! Rounds: the new text is written and judged, and the plan mended by what is said of it, until it has a certificate.
+//! Rounds: the new text is written and judged, and the plan mended by what is said of it, until it has a certificate. This
+//! is counterexample-guided refinement: of the program, and not of the abstraction.
 
 use crate::heads::heads_of;
 use crate::judge::{JudgedText, LoopVerdict};
