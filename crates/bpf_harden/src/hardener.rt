@@ -1,4 +1,4 @@
-//! Hardened programs.
+//! Hardened programs: what comes out as it is, and what goes through rounds.
 
 ghost use Rattle.std.specs.Prelude.{◌<◌, ◌≤◌, IfOk, IfErr};
 ghost use Rattle.bpf_insn.specs.Instruction.{slots};

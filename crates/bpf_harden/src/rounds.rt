@@ -125,7 +125,7 @@ impl<'a> WidenedPlan<'a> {
         Err(HardenError::NoBudget { slot: 0 })
     }
 
-    /// Takes the tests away that never hold, and folds offsets that are always the same; where there is nothing of these, loosens
+    /// Takes the tests away that never hold, and folds constant offsets; where there is nothing of these, loosens
     /// guards. Whether there was something.
     fn trim(&mut self, trial: &JudgedText) -> bool {
         let old = self.old;

@@ -147,7 +147,7 @@ impl<'a> TextWriter<'a> {
         is_out || self.plan.at(site.slot).is_hopeless
     }
 
-    /// Puts an access at an offset that is always the same, if it can be put so.
+    /// Puts an access at a constant offset, if it can be put so.
     fn access_at(&mut self, site: &AccessSite, at: i64) -> Result<bool, AllocError> {
         let from_origin = at.saturating_sub(site.region.origin);
         let Some(pointer) = site.register_for(site.region.base) else {
