@@ -1,7 +1,7 @@
 #!/usr/bin/env python3
 """Whether docs/README.md shows the crates as crates.txt has them. Its list names each crate once, with the crates that it uses, but for
 those that one of these uses already. Its picture is what `tests/crates.py --picture` prints: a box for each part of the list, and an
-arrow where a crate of one box uses a crate of another. And whether each type's name stands in one crate alone, but for those that
+arrow where a crate of one box uses a crate of another. No two boxes use one another. And whether each type's name stands in one crate alone, but for those that
 tests/types.txt lists, in as many crates as it says."""
 import collections
 import pathlib
@@ -56,12 +56,24 @@ def is_led(arrows, start, end):
     return end in seen
 
 
+def arrows_between(boxes, uses):
+    """From box to box, where a crate of one uses a crate of another."""
+    box_of = {name: number for number, names in enumerate(boxes.values()) for name in names}
+    arrows = {(box_of[name], box_of[used]) for name in uses for used in uses[name] if name in box_of and used in box_of}
+    return {(a, b) for a, b in arrows if a != b}
+
+
+def circles(uses):
+    """The boxes that use one another: then the picture has no top, and lacks arrows."""
+    boxes = parts()
+    arrows, names = arrows_between(boxes, uses), list(boxes)
+    return [f"the parts \"{names[a]}\" and \"{names[b]}\" use one another" for a, b in sorted(arrows) if a < b and is_led(arrows, a, b) and is_led(arrows, b, a)]
+
+
 def picture(uses):
     """The boxes and the arrows between them, as Mermaid draws them: an arrow leads to what is used, and none stands for what others lead to."""
     boxes = parts()
-    box_of = {name: number for number, names in enumerate(boxes.values()) for name in names}
-    arrows = {(box_of[name], box_of[used]) for name in uses for used in uses[name] if name in box_of and used in box_of}
-    arrows = {(a, b) for a, b in arrows if a != b}
+    arrows = arrows_between(boxes, uses)
     shown = sorted(arrow for arrow in arrows if not is_led(arrows - {arrow}, *arrow))
     rows = ["flowchart TD"]
     for number, (heading, names) in enumerate(boxes.items()):
@@ -110,6 +122,7 @@ def main():
     faults += [f"{name} stands {listed.count(name)} times in the list" for name in uses if listed.count(name) != 1]
     if f"```mermaid\n{picture(uses)}\n```" not in page():
         faults.append("the picture in docs/README.md isn't what tests/crates.py --picture prints")
+    faults += circles(uses)
     faults += type_faults()
     shared = f"{len(types())} names of types stand in several crates"
     print("\n".join(faults) or f"the list of crates in docs/README.md is that of crates.txt: {len(listed)} crates; {shared}")

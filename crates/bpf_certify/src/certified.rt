@@ -1,4 +1,4 @@
-//! Certified programs.
+//! Certified programs: searches propose and rewrite, and then `check` and `follows` judge what came out.
 
 ghost use Rattle.std.specs.Prelude.{◌≡◌, ◌<◌, ◌≤◌, ◌↔◌, ℕ, false, IsTrue, IfOk, IfErr, IfSome};
 ghost use Rattle.bpf_insn.specs.Instruction.{slots};

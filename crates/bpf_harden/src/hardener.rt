@@ -1,4 +1,4 @@
-//! Hardened programs.
+//! Hardened programs: what comes out as it is, and what goes through rounds.
 
 ghost use Rattle.std.specs.Prelude.{◌<◌, ◌≤◌, IfOk, IfErr};
 ghost use Rattle.bpf_insn.specs.Instruction.{slots};
@@ -81,6 +81,8 @@ pub fn lengths(length: u32, options: &Options) -> Result<(u32, u32), HardenError
     }
 }
 
+/// What hardening answers. A program comes out unchanged if a certificate is found for it as it stands; else a plan is
+/// made, and mended in rounds. Programs for blocks always get a plan, and so do those whose guards are forced.
 fn hardened(
     alloc: Global,
     program: &Program,

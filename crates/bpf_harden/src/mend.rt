@@ -189,7 +189,7 @@ impl<'a> Mender<'a> {
         start.map_or(RegState::Any, |new| self.trial.survey.register(new, r))
     }
 
-    /// Takes note of the offsets that are always the same. Whether one is new.
+    /// Takes note of constant offsets. Whether one is new.
     pub fn fold(&self, plan: &mut Plan) -> bool {
         let mut is_changed = false;
         for slot in 0..self.old.program.slots() {
@@ -200,7 +200,7 @@ impl<'a> Mender<'a> {
         is_changed
     }
 
-    /// Takes note of the offset of an access, if it is always the same.
+    /// Takes note of the offset of an access, if it is a constant.
     fn fold_at(&self, plan: &mut Plan, slot: u32, insn: &Insn) -> bool {
         let Some(access) = insn.access() else {
             return false;

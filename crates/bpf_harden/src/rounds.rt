@@ -1,4 +1,5 @@
-//! Rounds: the new text is written and judged, and the plan mended by what is said of it, until it has a certificate.
+//! Rounds: the new text is written and judged, and the plan mended by what is said of it, until it has a certificate. This
+//! is counterexample-guided refinement: of the program, and not of the abstraction.
 
 use crate::heads::heads_of;
 use crate::judge::{JudgedText, LoopVerdict};
@@ -124,7 +125,7 @@ impl<'a> WidenedPlan<'a> {
         Err(HardenError::NoBudget { slot: 0 })
     }
 
-    /// Takes the tests away that never hold, and folds offsets that are always the same; where there is nothing of these, loosens
+    /// Takes the tests away that never hold, and folds constant offsets; where there is nothing of these, loosens
     /// guards. Whether there was something.
     fn trim(&mut self, trial: &JudgedText) -> bool {
         let old = self.old;

@@ -1,4 +1,4 @@
-//! Where the base of an access gets its offset: by a sum in front of it, of what is always the same and a number that isn't.
+//! Where the base of an access gets its offset: by a sum in front of it, of a constant and a number that varies.
 
 use crate::mend::Mender;
 use bpf_harden_text::{ByteSpan, Early, Plan, RegisterKind};

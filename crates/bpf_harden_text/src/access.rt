@@ -1,4 +1,13 @@
 //! Accesses by offsets: guards, and pointers that are made for one access.
+//!
+//! What is tested has a span, from a first byte to an end, counted from the base. A guard leads to the trap unless the
+//! span lies in its region. It is one of three tests:
+//!
+//! - of the base itself, which lies between the least and the greatest offset with which the span lies there;
+//! - of a copy that is moved to the span's first byte, if the offset may be below 0 (an exact guard);
+//! - of a copy that is moved to the span's end, if the region's end is known only as the program runs.
+//!
+//! The order is: the test of the base; copy and move; the test of the copy; the region's start is added; the access.
 
 use crate::edits::{loaded, with_base};
 use crate::parts::{add, add_constant, alu, constant, copy, displacement, fetch, is_near};
@@ -138,7 +147,7 @@ impl<'a> TextWriter<'a> {
         is_out || self.plan.at(site.slot).is_hopeless
     }
 
-    /// Puts an access at an offset that is always the same, if it can be put so.
+    /// Puts an access at a constant offset, if it can be put so.
     fn access_at(&mut self, site: &AccessSite, at: i64) -> Result<bool, AllocError> {
         let from_origin = at.saturating_sub(site.region.origin);
         let Some(pointer) = site.register_for(site.region.base) else {

@@ -1,4 +1,5 @@
-//! What is planned for a program.
+//! The plan: what is done at each old instruction and in each function. It begins empty, mends of `bpf_harden` add to it,
+//! and `emit` writes the text that it asks for.
 
 use crate::kinds::RegisterKind;
 use crate::old::Old;
@@ -84,7 +85,7 @@ pub struct AtSlot {
     pub guard: Option<Guard>,
     /// The test in front of the sum.
     pub early: Option<Early>,
-    /// The offset in the base of the access, where it is always the same.
+    /// The offset in the base of the access, if it is a constant.
     pub constant: Option<i64>,
     /// Whether a counter of turns stands in front.
     pub counts: bool,

@@ -1,4 +1,5 @@
-//! Where functions keep what hardening adds: registers that they don't use, and bytes of the frame below their own.
+//! Where functions keep what hardening adds: registers that they don't use, and bytes of the frame below their own. It is
+//! a register allocation, made anew for each plan. Each value has a place for the whole function, so none interfere.
 
 use crate::old::Old;
 use crate::plan::Plan;

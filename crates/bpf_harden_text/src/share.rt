@@ -1,4 +1,5 @@
-//! Pointers that several accesses go by: those by one base that follow one another, with nothing that is tested in between.
+//! Pointers that several accesses go by: those by one base that follow one another, with nothing that is tested in
+//! between. They are local common subexpressions.
 
 use crate::access::AccessSite;
 use crate::edits::with_base;
