@@ -23,8 +23,6 @@ import sys
 
 ROOT = pathlib.Path(__file__).resolve().parent.parent
 FOLDER = "wrong"
-# `rt ci` tries the edits of these crates itself, in must-fail/, and proves each of the crates a second time for them.
-BY_THE_KIT = {"bpf_flat"}
 # The wrong bodies of these crates are tried by hand, by the crate's name: the gate would take too long with them.
 BY_NAME = {"bpf_c", "bpf_command_core", "bpf_answers", "bpf_explain", "bpf_command", "bpf_host_calls", "bpf_host"}
 # Those of these crates that the gate tries all the same.
@@ -323,18 +321,12 @@ def looked_at():
         except BadEdit as why:
             faults.append(f"{path.relative_to(ROOT)}: {why}")
     faults += [f"{path.relative_to(ROOT)}: the kit would prove this crate a second time for it: wrong bodies stand in {FOLDER}/" for path in strays()]
-    by_the_kit = {f"{path.parent.parent.name}/{path.stem}" for path in kits()}
-    return good, faults + faults_of_lists(by_the_kit | {edit.name for edit in good})
-
-
-def kits():
-    """The edits in folders of the kit."""
-    return sorted(ROOT.glob("crates/*/must-fail*/*.edit"))
+    return good, faults + faults_of_lists({edit.name for edit in good})
 
 
 def strays():
-    """The edits in folders of the kit, of crates that it is not to prove a second time."""
-    return [it for it in kits() if it.parent.name != "must-fail" or it.parent.parent.name not in BY_THE_KIT]
+    """The edits in folders of the kit, for which it would prove their crate a second time."""
+    return sorted(ROOT.glob("crates/*/must-fail*/*.edit"))
 
 
 def name_functions():
