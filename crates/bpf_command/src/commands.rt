@@ -9,6 +9,6 @@ mod trace;
 
 pub use certify::{Assessed, Assessment, certified};
 pub use explain::explained;
-pub use harden::{Attempt, Kept, hardened};
+pub use harden::{Attempt, KeptMeaning, hardened};
 pub use infer::{Inference, inferred};
 pub use trace::Trace;

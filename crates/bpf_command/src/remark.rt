@@ -3,7 +3,7 @@
 ghost use Rattle.std.specs.Prelude.{◌≡◌};
 ghost use Rattle.bpf_command.specs.Remarks.{remark_of, remark_of_answer, remark_of_assessment, remark_of_attempt, remark_of_refusal, remark_of_runs, remark_of_search};
 
-use crate::commands::{Assessment, Attempt, Inference, Kept};
+use crate::commands::{Assessment, Attempt, Inference, KeptMeaning};
 use crate::finding::Finding;
 use bpf_answers::{Answer, REFUSED, Reply};
 use bpf_captures::CaptureRefusal;
@@ -106,7 +106,7 @@ fn remark_of_search<'a>(asked: Inferring<'a>, found: Inference) -> Remark<'a>
 }
 
 /// What is told of a hardened program, by what fails of its notes.
-fn remark_of_runs<'a>(kept: Kept) -> Remark<'a>
+fn remark_of_runs<'a>(kept: KeptMeaning) -> Remark<'a>
     ensures { result ≡ remark_of_runs kept.bounds kept.mismatch }
 {
     match kept.mismatch {

@@ -64,7 +64,7 @@ struct PricedTurns {
 #[derive(Drop)]
 enum Tried {
     Fits(Fitted),
-    PricedTurns(PricedTurns),
+    Dear(PricedTurns),
 }
 
 /// The bound of a hardened program.

@@ -180,7 +180,7 @@ impl Budgets {
             span,
             paths_from,
             paths_to: self.paths.len(),
-            ..Plan::NONE
+            ..LabelBudget::NONE
         };
         put(&mut self.plans, block, plan);
         Ok(())

@@ -265,7 +265,7 @@ fn say_hardened<'a, W: Write, H: Watch>(
 #[derive(Clone, Copy)]
 pub enum ExplainTask<'t> {
     /// A certificate.
-    CertificateSearch(CertificateSearch<'t>),
+    Search(CertificateSearch<'t>),
     /// A hardened program.
     Harden(HardeningAsked<'t>),
 }
