@@ -1,5 +1,5 @@
-//! What the checker sees, in words: the listing of a program with what is known at each instruction, and why an input
-//! is refused. Who writes that a program is accepted requires that the certificate certifies it.
+//! What the checker sees, in words: the listing of a program with what is known at each instruction, and why an input is
+//! refused. A function that writes that a program is accepted requires that the certificate certifies it.
 #![tactic(auto)]
 
 mod certificate;

@@ -1,6 +1,6 @@
-//! What is known of a program that is to be hardened, and what is planned for it: kinds of registers, liveness,
-//! frames, and the places that guards and counters need; and the new text: templates in the place of old instructions,
-//! and where they come to stand. It makes no claim but to be safe and to end.
+//! What is known of a program that is to be hardened, and what is planned for it: kinds of registers, liveness, frames,
+//! and the places of guards and counters. Then the new text: templates in place of old instructions, and where they
+//! stand. It makes no claim but to be safe and to end.
 #![tactic(auto)]
 
 mod access;

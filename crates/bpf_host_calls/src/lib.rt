@@ -1,5 +1,5 @@
-//! The calls for hosts, on what C hands over, and the answers that C sees: programs are judged, prepared, loaded and
-//! run; filters are converted; whoever writes a program is helped. `bpf_host` exports them under C's names.
+//! The calls for hosts, on what C hands over, and the answers that C sees. Programs are judged, prepared, loaded and run;
+//! filters are converted; certificates are proposed, and refusals explained. `bpf_host` exports them under C's names.
 #![tactic(auto)]
 
 mod advising;
