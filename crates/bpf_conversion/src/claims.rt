@@ -18,6 +18,7 @@ use bpf_cert::{Budget, CertError, Certificate, Function, Label, Measure, Place, 
 use bpf_classic::{Converted, Layout};
 use bpf_insn::{Code, Reg};
 use bpf_num::{Num, WordDomain};
+use bpf_state::State;
 use std::alloc::Global;
 
 /// A turn for each that is left, where there are loops.
@@ -67,25 +68,32 @@ fn wants_label(found: &Outline, layout: &Layout, part: Stretch, slot: u32) -> bo
     }
 }
 
-/// The label at a slot of a part.
+/// A slot of a part.
+#[derive(Clone, Copy)]
+struct PartSlot {
+    part: Stretch,
+    slot: u32,
+}
+
+/// The label at a slot of a part, with room for its state.
 fn label_in(
     alloc: Global,
     converted: &Converted,
     found: &Outline,
-    part: Stretch,
-    slot: u32,
+    at: PartSlot,
+    room: &mut State,
 ) -> Result<Label, CertError>
     requires { IsFound converted.now.program.list found.now }
-    ensures ok { IfOk result (λ label. label_view label ≡ label_in converted.now.layout converted.now.marked converted.now.program.list part slot) }
+    ensures ok { IfOk result (λ label. label_view label ≡ label_in converted.now.layout converted.now.marked converted.now.program.list at.part at.slot) }
     ensures err { IfErr result (λ e. e ≡ Memory) }
 {
     let layout = converted.layout();
-    let state = known_at(layout, converted.list(), part, slot);
+    known_at(layout, converted.list(), at.part, at.slot, room);
     let budget = Budget {
-        base: base_at(found, layout, part, slot),
-        terms: terms_at(layout, found.turn, part),
+        base: base_at(found, layout, at.part, at.slot),
+        terms: terms_at(layout, found.turn, at.part),
     };
-    Label::new(alloc, slot, &state, budget)
+    Label::new(alloc, at.slot, room, budget)
 }
 
 /// The labels, by their slots.
@@ -96,6 +104,7 @@ fn labels(alloc: Global, converted: &Converted, found: &Outline) -> Result<Vec<L
     ensures err { IfErr result (λ e. e ≡ Memory) }
 {
     let mut labels = Vec::new(alloc);
+    let mut room = State::blank();
     let mut templates = 0;
     for slot in 0..converted.program().slots() {
         templates = begun(converted.starts(), templates, slot);
@@ -103,7 +112,7 @@ fn labels(alloc: Global, converted: &Converted, found: &Outline) -> Result<Vec<L
         if !wants_label(found, converted.layout(), part, slot) {
             continue;
         }
-        let label = label_in(alloc, converted, found, part, slot)?;
+        let label = label_in(alloc, converted, found, PartSlot { part, slot }, &mut room)?;
         if labels.push(label).is_err() {
             return Err(CertError::Memory);
         }

@@ -3,7 +3,7 @@
 //! jump back.
 
 ghost use Rattle.std.specs.Prelude.{◌≡◌, ◌≤◌};
-ghost use Rattle.bpf_state.specs.State.{IsRegister};
+ghost use Rattle.bpf_state.specs.State.{IsRegister, blank};
 ghost use Rattle.bpf_conversion.specs.Known.{between, with_cells, room_known, entry_room, number_if, index_known, may_turn, turns_known, cell_known, cells_known, entry_known, template_known, known_at};
 
 use crate::parts::Stretch;
@@ -11,7 +11,7 @@ use bpf_classic::layout::bytes;
 use bpf_classic::{Annotated, Classic, Form, Layout};
 use bpf_insn::Reg;
 use bpf_num::{KnownBits, Num, Signed, Unsigned, WordDomain};
-use bpf_state::{Area, Pointer, RegState, SlotState, State};
+use bpf_state::{RegState, SlotState, State};
 
 /// A number from `least` to `most`; the checker finds what its bits and its sign are.
 fn between(least: u32, most: u32) -> RegState
@@ -135,36 +135,46 @@ fn set_cells(state: &mut State, list: &[Annotated])
     }
 }
 
-fn entry_known(layout: &Layout, slot: u32) -> State
-    ensures { result ≡ entry_known layout.now slot }
+fn entry_known(layout: &Layout, slot: u32, state: &mut State)
+    ensures { state.new ≡ entry_known layout.now slot }
 {
-    let mut state = State::blank();
-    state.set_reg(Reg::R1, RegState::Ptr(Pointer::start_of(Area::Context)));
+    state.begin(layout.length, layout.length);
     state.set_reg(Reg::R2, entry_room(layout, slot));
-    state
 }
 
-fn template_known(layout: &Layout, list: &[Annotated], a: &Annotated, offset: u32) -> State
-    ensures { result ≡ template_known layout.now list.now a.now offset }
+fn template_known(
+    layout: &Layout,
+    list: &[Annotated],
+    a: &Annotated,
+    offset: u32,
+    state: &mut State,
+)
+    ensures { state.new ≡ template_known layout.now list.now a.now offset }
 {
-    let mut state = State::blank();
+    state.begin(layout.length, layout.length);
     state.set_reg(Reg::R0, number_if(a.a));
-    state.set_reg(Reg::R1, RegState::Ptr(Pointer::start_of(Area::Context)));
     state.set_reg(Reg::R2, room_known(layout));
     state.set_reg(Reg::R3, number_if(a.x));
     state.set_reg(Reg::R4, index_known(layout, &a.insn, offset));
     state.set_reg(Reg::R5, turns_known(layout, &a.insn, offset));
-    set_cells(&mut state, list);
-    state
+    set_cells(state, list);
 }
 
-/// What is known at a slot.
-pub fn known_at(layout: &Layout, list: &[Annotated], part: Stretch, slot: u32) -> State
-    ensures { result ≡ known_at layout.now list.now part slot }
+fn trap_known(layout: &Layout, state: &mut State)
+    ensures { state.new ≡ blank }
+{
+    state.begin(layout.length, layout.length);
+    state.set_reg(Reg::R1, RegState::Any);
+    state.set_reg(Reg::R2, RegState::Any);
+}
+
+/// Makes a state what is known at a slot. It stays in its place, since a state is large.
+pub fn known_at(layout: &Layout, list: &[Annotated], part: Stretch, slot: u32, state: &mut State)
+    ensures { state.new ≡ known_at layout.now list.now part slot }
 {
     match part {
-        Stretch::Entry => entry_known(layout, slot),
-        Stretch::Template { a, offset } => template_known(layout, list, &a, offset),
-        Stretch::Trap { .. } => State::blank(),
+        Stretch::Entry => entry_known(layout, slot, state),
+        Stretch::Template { a, offset } => template_known(layout, list, &a, offset, state),
+        Stretch::Trap { .. } => trap_known(layout, state),
     }
 }
