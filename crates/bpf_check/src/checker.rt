@@ -5,6 +5,7 @@ ghost use Rattle.bpf_safety.specs.Certified.{IsLeastFlaw};
 ghost use Rattle.bpf_check.specs.CheckedProgram.{IsCertifiedBy, checked};
 ghost use Rattle.bpf_check.specs.RefusalNumbers.{refusal_number, refusal_slot};
 
+use crate::arrival::Walk;
 use crate::checked::Checked;
 use crate::index::Index;
 use crate::least::lesser;
@@ -15,7 +16,7 @@ use crate::start::start_flaw;
 use bpf_cert::Certificate;
 use bpf_insn::Code;
 use bpf_safety::{certified_work, comparisons_are_few};
-use bpf_state::{State, Work};
+use bpf_state::Work;
 
 /// Judges whether a certificate certifies a program, in one pass over the program and without memory. C1 to C13 at the
 /// lowest slot where a condition fails, and there the lowest number, if it doesn't.
@@ -34,10 +35,12 @@ pub fn check<'a, C: Code>(
     comparisons_are_few();
     let mut work = Work::new();
     let index = Index::of(certificate);
-    let mut room = State::blank();
-    let start = start_flaw(&index, &mut room, &mut work);
-    let visits = visit_flaw(program, &index, &mut work);
-    let labels = label_flaw(program, &index, &mut room);
+    let by_slot = &index;
+    // Both of its states are large: no others are made.
+    let mut walk = Walk::new();
+    let start = start_flaw(&index, &mut walk.state, &mut work);
+    let visits = visit_flaw(program, &*by_slot, &mut walk, &mut work);
+    let labels = label_flaw(program, &index, &mut walk.state);
     match lesser(lesser(start, visits), labels) {
         Some(refusal) => Err(refusal),
         None => Ok(Checked {
