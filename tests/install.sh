@@ -97,7 +97,7 @@ echo "$(basename "$PWD") $1" >>"$(dirname "$0")/asked"
 exit "${RT_FAILS:-0}"
 RT
     chmod +x "$dir/kit/bin/rt" "$dir/kit/bin/rattle"
-    for tool in env bash dirname readlink find grep sha256sum sort xargs cut tail mktemp mv rm cat cp install basename realpath stat touch chmod sleep mkdir ln; do
+    for tool in env bash dirname readlink find du grep sha256sum sort xargs cut tail mktemp mv rm cat cp install basename realpath touch chmod sleep mkdir ln; do
         ln -s "$(builtin command -v "$tool")" "$dir/bin"
     done
     # Each sum that is asked for is written down.
@@ -166,7 +166,19 @@ tries_stamp() {
     # Of a clock that was ahead, and copied.
     runs one without
     touch -d '+1 hour' "$tree/.compared"
+    rm -f "$dir/sums"
+    runs one without
+    [ -e "$dir/sums" ] || complains "what was changed later than now is taken for old"
     echo two >"$main"
+    refuses "$changed" without "$tree/bpf"
+    # As many bytes, of an older time, in the same file.
+    touch -d 2001-01-01 "$main"
+    refuses "$changed" without "$tree/bpf"
+    echo one >"$main"
+    runs one without
+    echo two >"$dir/older"
+    touch -d 2001-01-01 "$dir/older"
+    cp -p "$dir/older" "$main"
     refuses "$changed" without "$tree/bpf"
     echo one >"$main"
     runs one without
@@ -184,16 +196,36 @@ tries_stamp() {
     [ -e "$dir/sums" ] || complains "what another machine compared is taken"
     ln -s "$tree/bpf" "$dir/linked"
     [ "$(cd / && without "$dir/linked")" = one ] && [ "$(cd "$tree" && without /bin/sh bpf)" = one ] || complains "a link to ./bpf, or sh bpf, runs something else"
-    # A folder of sources that is gone, or one more.
+    # A folder of sources that is gone, or one more; a file more.
     mv "$tree/crates/bpf/src" "$dir/src"
     refuses "$changed" without "$tree/bpf"
     mv "$dir/src" "$tree/crates/bpf/src"
     runs one without
+    for more in "$tree/crates/bpf/src/more.rt" "$tree/crates/bpf/src/deep/more.rt"; do
+        mkdir -p "${more%/*}"
+        : >"$more"
+        refuses "$changed" without "$tree/bpf"
+        rm "$more"
+        runs one without
+    done
+    rmdir "$tree/crates/bpf/src/deep"
+    # No code comes of a definition, so it is seen where all is compared again, and by ./install.
+    runs one without
     mkdir "$tree/crates/bpf/specs"
     echo more >"$tree/crates/bpf/specs/More.antt"
+    runs one without
+    refuses "$changed" without "$tree/install" "$dir/none"
+    rm "$tree/.compared"
     refuses "$changed" without "$tree/bpf"
     rm -r "$tree/crates/bpf/specs"
     runs one without
+    # What was looked at isn't told any more, or is told of less.
+    for said in '' 'crates.txt'; do
+        printf '%s' "$said" >"$tree/.compared.of"
+        rm -f "$dir/sums"
+        runs one without
+        [ -e "$dir/sums" ] || complains "nothing says what was looked at, and it is taken for untouched"
+    done
     # A link in the place of the command: what it leads to is looked at.
     mv "$tree/crates/bpf/out/bpf" "$dir/led"
     ln -s "$dir/led" "$tree/crates/bpf/out/bpf"
@@ -205,7 +237,7 @@ tries_stamp() {
     does with "$tree/build"
     runs one without
     # Words that nobody wrote there.
-    for said in 'vm 1 1 /bin/false' '' 'vm'; do
+    for said in "$(cat /proc/sys/kernel/hostname) ../false" "$(cat /proc/sys/kernel/hostname) ../false"$'\n1\t1.0\ttotal' '' 'vm'; do
         echo "$said" >"$tree/.compared"
         runs one without
     done
@@ -223,13 +255,16 @@ tries_prebuilt() {
     runs one without
     installs without
     [ ! -e "$dir/prefix/lib/libbpf_host.so.0" ] && grep -q 'the shared library libbpf_host.so.0 is left out' "$dir/said" || complains "it isn't told that no shared library is made without cc"
-    for source in crates/bpf/src/main.rt crates/bpf_host/src/lib.rt crates/bpf_host/specs/Lib.antt include/bpf.h crates.txt; do
+    for source in crates/bpf/src/main.rt crates.txt HANDLES; do
         changed_and_back "$changed" "$tree/$source" "$tree/bpf"
     done
-    changed_and_back "$changed" "$tree/include/bpf.h" "$tree/install" "$dir/prefix"
-    touch "$tree/crates/bpf_host/src/more.rt"
+    # The command isn't made of the library, which ./install takes along.
+    for source in crates/bpf_host/src/lib.rt crates/bpf_host/specs/Lib.antt include/bpf.h; do
+        changed_and_back "$changed" "$tree/$source" "$tree/install" "$dir/prefix"
+    done
+    touch "$tree/crates/bpf/src/more.rt"
     refuses "$changed" without "$tree/bpf"
-    rm "$tree/crates/bpf_host/src/more.rt"
+    rm "$tree/crates/bpf/src/more.rt"
     runs one without
     # A processor that can't run it, one of another kind, an older C library; nothing is left behind.
     rm "$tree/.compared"

@@ -75,7 +75,7 @@ CASES = [
     ("harden full.img 16 out --untouched 16", 0, "shown to keep the meaning of runs that come to no instruction more than 65536 times, and to the lowest 16 bytes of a frame by r10 alone"),
     ("harden full.img 16 out", 0, "shown to keep the meaning of runs that come to no instruction more than 65536 times, and to the lowest 16 bytes of a frame by r10 alone"),
     ("harden index.img 128 out --padded", 0, "shown to keep the meaning of runs that come to no instruction more than 65536 times"),
-    ("harden order.img 16 out --unproved", 0, "not shown to keep the meaning: M5 at slot 3"),
+    ("harden order.img 16 out --unproved", 0, "not shown to keep the meaning: M4 at slot 3"),
     ("harden order.img 16 out", 1, "`bpf explain order.img --harden 16` tells why"),
     ("harden order.img 16 out --padded", 1, "`bpf explain order.img --harden 16 --padded` tells why"),
     ("harden itself.img 0 out", 1, "`bpf explain itself.img --harden 0` tells why"),

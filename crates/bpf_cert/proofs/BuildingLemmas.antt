@@ -16,7 +16,7 @@ use Rattle.bpf_cert.specs.Spelling.{contents}
 use Rattle.bpf_cert.specs.code.Building.{Puts, index_of}
 use Rattle.bpf_cert.specs.code.Sound.{IsLabelState}
 use Rattle.bpf_cert.specs.declared.building.Builder.{Builder}
-use Rattle.bpf_cert.proofs.WritingLemmas.{length-contents}
+use Rattle.bpf_cert.proofs.WritingLemmas.{front_length, length-contents}
 
 -- the contents of a state with a register changed
 pub contents_register : (registers : List RegState) (slots : List SlotState) (i : ℕ) (value : RegState) (content : SlotState) → i ≤ 9 → length registers ≡ 11 → value_slot value ≡ content
@@ -28,9 +28,6 @@ contents_register registers slots i value content few long e =
 
 pub contents_slot : (front slots : List SlotState) (k : ℕ) (content : SlotState) → length front ≡ 10 → 1 ≤ k → k ≤ 64 → front ++ set slots (k - 1) content ≡ set (front ++ slots) (9 + k) content
 contents_slot front slots k content long low high = let same : 9 + k - 10 ≡ k - 1 = omega arith in ap (λ i. front ++ set slots i content) (sym same) ∙ sym (set-append_right front slots 10 (9 + k) content long (omega arith))
-
-pub front_length : (s : AbstractState) → IsAbstractState s → length (map value_slot (take 10 s.registers)) ≡ 10
-front_length s st = let long : length s.registers ≡ 11 = st.register_count in omega (arith, length-map (take 10 s.registers) value_slot, length-take-le 10 s.registers (omega arith))
 
 -- a register of which nothing is said, and a slot
 no_value : (v : RegState) → value_slot v ≡ slot.Bytes 0 → v ≡ reg.Any

@@ -1,12 +1,14 @@
 -- One write after another.
-use Rattle.std.proofs.Common.{◌≡◌, ℕ, ◌+◌, ◌<◌, List, [], ◌++◌, length, get_or, map, take, drop, Option, Result, Ok, Err, ◌≤◌, arith, length-append, length-take, refl, sym, ap, ◌∙◌, subst, append_assoc, append-nil}
+use Rattle.std.proofs.Common.{◌≡◌, ℕ, zero, suc, ◌+◌, ◌-◌, ◌<◌, List, [], ◌++◌, length, get_or, map, take, drop, replicate, Option, Result, Ok, Err, ◌≤◌, arith, length-append, refl, sym, ap, ◌∙◌, subst, append_assoc, append-nil}
 use Rattle.std.specs.Prelude.{flat_map, OnOk, OnErr}
 use Rattle.std.specs.Io.KnownBytes.{Appends}
-use Rattle.std.proofs.lemmas.List.{at_drop_more, at_drop_all, length-map}
+use Rattle.std.proofs.Math.Seq.{drop-append-add}
+use Rattle.std.proofs.lemmas.List.{at_drop_more, at_drop_all, drop-replicate, length-map, length-take-le}
 use Rattle.std.proofs.lemmas.Grind.{flat_map-append}
 use Rattle.bpf_insn.specs.Written.{AppendsBeginning, Gathers}
 use Rattle.bpf_insn.proofs.WriteLemmas.{gathers_nothing, gathers_more, waits_first, waits_later, gathered_all, gathered_some}
 use Rattle.bpf_state.specs.declared.known.SlotState.{SlotState}
+use Rattle.bpf_state.specs.declared.known.SlotState.TheVariants.{Bytes}
 use Rattle.bpf_state.specs.State.{AbstractState, IsAbstractState, value_slot}
 use Rattle.bpf_cert.specs.Written.{Puts, Writes}
 use Rattle.bpf_cert.specs.declared.header.Header.{Header}
@@ -77,14 +79,28 @@ next_entry cs j place value d inside at holds =
     ∙ ap (λ v. lines_text (entry_lines place v ++ lines_from (j + 1) (drop (j + 1) cs))) (sym holds)
     ∙ flat_map-append line_with_end (entry_lines place value) (lines_from (j + 1) (drop (j + 1) cs))
 
-pub no_entry : (cs : List SlotState) (j : ℕ) → length cs ≤ j → lines_text (lines_from j (drop j cs)) ≡ []
-no_entry cs j all = at_drop_all (λ ys. lines_text (lines_from j ys)) cs j all
+pub no_entry : (cs : List SlotState) (j : ℕ) → length cs ≤ j → lines_from j (drop j cs) ≡ []
+no_entry cs j all = at_drop_all (λ ys. lines_from j ys) cs j all
+
+pub front_length : (s : AbstractState) → IsAbstractState s → length (map value_slot (take 10 s.registers)) ≡ 10
+front_length s st = let long : length s.registers ≡ 11 = st.register_count in omega (arith, length-map (take 10 s.registers) value_slot, length-take-le 10 s.registers (omega arith))
 
 pub length-contents : (s : AbstractState) → IsAbstractState s → length (contents s) ≡ 74
-length-contents s h =
-    length-append (map value_slot (take 10 s.registers)) s.slots
-    ∙ ap (λ n. n + length s.slots) (length-map (take 10 s.registers) value_slot)
-    ∙ omega (arith, length-take 10 s.registers, h.register_count, h.slot_count)
+length-contents s h = length-append (map value_slot (take 10 s.registers)) s.slots ∙ omega (arith, front_length s h, h.slot_count)
+
+-- places of which nothing is known have no lines
+none_said : (n j : ℕ) → lines_from j (replicate n (Bytes 0)) ≡ []
+none_said zero j = refl
+none_said (suc n) j = none_said n (j + 1)
+
+-- where nothing is known of a slot, no line is behind those of the registers
+pub no_slot_entry : (s : AbstractState) (j : ℕ) → IsAbstractState s → s.slots ≡ replicate 64 (Bytes 0) → 10 ≤ j → lines_from j (drop j (contents s)) ≡ []
+no_slot_entry s j h none behind =
+    let front : List SlotState = map value_slot (take 10 s.registers) in
+    let at : j ≡ length front + (j - 10) = omega (arith, front_length s h) in
+    let rest : drop j (contents s) ≡ replicate (64 - (j - 10)) (Bytes 0) =
+    ap (λ n. drop n (contents s)) at ∙ drop-append-add front s.slots (j - 10) ∙ ap (drop (j - 10)) none ∙ drop-replicate (j - 10) 64 (Bytes 0) in
+    ap (lines_from j) rest ∙ none_said (64 - (j - 10)) j
 
 -- the lines of a certificate: its header, and those behind it
 pub header_first : (h : Header) (c : CertificateView) (functions : List FunctionView) (t : List ℕ) → t ≡ line_with_end (header_line h) → h ≡ header_of c → functions ≡ c.functions

@@ -252,6 +252,9 @@ fn has_limited_slots(state: &Entries) -> bool
     ensures { result ≡ list_all limits.is_limited_slot state.now.slots }
 {
     state.valid();
+    if state.knows_no_slot() {
+        return true;
+    }
     for k in 1..65u8 {
         if !is_limited_slot(state.slot(k)) {
             return false;

@@ -1,6 +1,6 @@
 //! Writing a certificate.
 
-ghost use Rattle.std.specs.Prelude.{◌≡◌, ◌≤◌, ◌<◌, ◌∷◌, [], map, flat_map, get_or};
+ghost use Rattle.std.specs.Prelude.{◌≡◌, ◌≤◌, ◌<◌, ◌∷◌, [], ℕ, drop, map, flat_map, get_or};
 ghost use Rattle.bpf_cert.specs.Written.{Puts, Writes};
 ghost use Rattle.bpf_cert.specs.View.{function_view, label_view};
 ghost use Rattle.bpf_state.specs.declared.known.SlotState.TheVariants.{Bytes};
@@ -74,11 +74,20 @@ fn put_entry<W: Write>(
     }
 }
 
+// Nothing is known of the places from here on: of the slots, where nothing is known of any.
+fn places_said(state: &Entries) -> u8
+    ensures most { result ≤ 74 }
+    ensures rest { (j : ℕ) → result ≤ j → lines_from j (drop j (contents state.now)) ≡ [] }
+{
+    state.valid();
+    if state.knows_no_slot() { 10 } else { 74 }
+}
+
 fn put_entries<W: Write>(pending: &mut Pending, out: &mut W, state: &Entries) -> io::Result<()>
     ensures { Puts (W.contents out.old) (W.contents out.new) pending.old pending.new (lines_text (lines_from 0 (contents state.now))) result }
 {
     state.valid();
-    for j in 0..74u8 {
+    for j in 0..places_said(state) {
         put_entry(pending, out, place_at(j), content_at(state, j))?;
     }
     Ok(())

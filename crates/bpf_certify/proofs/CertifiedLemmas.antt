@@ -1,5 +1,5 @@
 -- What is certified, and what is refused, from what the parts tell.
-use Rattle.std.proofs.Common.{◌≡◌, ℕ, ◌<◌, ◌≤◌, List, Option, Some, None, Result, Ok, Err, IfErr, IsTrue, inl, inr, sym, subst, ◌∙◌}
+use Rattle.std.proofs.Common.{◌≡◌, ℕ, ◌<◌, ◌≤◌, List, false, Option, Some, None, IfSome, Result, Ok, Err, IfErr, IsTrue, inl, inr, sym, subst, ◌∙◌}
 use Rattle.std.proofs.lemmas.Bool.{cases_lt}
 use Rattle.std.proofs.lemmas.Option.{none-some}
 use Rattle.std.proofs.lemmas.List.{get_or_past}
@@ -14,25 +14,37 @@ use Rattle.bpf_follows.specs.Matching.{Matches}
 use Rattle.bpf_follows.specs.Mismatches.{IsMismatch, mismatch_slot}
 use Rattle.bpf_follows.specs.declared.mismatch.Mismatch.{Mismatch}
 use Rattle.bpf_follows.specs.declared.mismatch.Mismatch.TheVariants.{Order, Start, At}
-use Rattle.bpf_certify.specs.Certified.{AreWished, IsPaid, IsRefused, IsRewritten, certify_slot, runs_for, runs_of}
+use Rattle.bpf_kept.specs.Laws.{CertifiedKeepsFlatMeaning, FlatMeaningIsFar, FlatMeaningIsExact}
+use Rattle.bpf_kept.specs.Matching.{Matches as MatchesThere, StandsForExit}
+use Rattle.bpf_kept.specs.Shown.{Keeps}
+use Rattle.bpf_certify.specs.Certified.{AreWished, IsPaid, IsRefused, IsRewritten, certify_slot, on_plain, runs_for, runs_of}
 use Rattle.bpf_certify.specs.declared.certified.Certified.{Certified}
 use Rattle.bpf_certify.specs.declared.certified.Rewritten.{Rewritten}
 use Rattle.bpf_certify.specs.declared.wish.Wish.{Wish}
 use Rattle.bpf_certify.specs.declared.error.CertifyError.{CertifyError}
 use Rattle.bpf_certify.specs.declared.error.CertifyError.TheVariants.{Unhardened, Unshown, TooDear, Uncertified}
+use Rattle.bpf_certify.proofs.AddressLemmas.{by_either, exact_is_kept, if_some, keeps_on_addresses}
 
 -- notes that match show that the meaning is kept
-pub rewritten : (old : Instructions) (length : ℕ) (wish : Wish) (d : Certified) (r : Rewritten) (new : Instructions) → MatchingKeepsMeaning → IsProgram old.list → r.hardened.program ≡ new → IsPaid r.hardened.program d.certificate length wish.bound d.bound → new.order ≡ old.order → AreWished wish r.turns → r.untouched ≤ frame_bytes → (IsTrue r.is_shown → Matches old new r.notes.items (runs_of length wish r)) → IsRewritten old length wish d r
-rewritten old length wish d r new law program same paid order_is turns_are few matches =
+pub rewritten : (old : Instructions) (length : ℕ) (wish : Wish) (d : Certified) (r : Rewritten) (new : Instructions) → MatchingKeepsMeaning → CertifiedKeepsFlatMeaning → FlatMeaningIsFar → FlatMeaningIsExact
+    → IsProgram old.list → r.hardened.program ≡ new → IsPaid r.hardened.program d.certificate length wish.bound d.bound → new.order ≡ old.order → AreWished wish r.turns → r.untouched ≤ frame_bytes
+    → (IsTrue r.is_shown → r.on_addresses ≡ None → Matches old new r.notes.items (runs_of length wish r))
+    → IfSome r.on_addresses (λ notes. MatchesThere old new notes.items (on_plain (runs_of length wish r)))
+    → IsRewritten old length wish d r
+rewritten old length wish d r new law certified_law far exact program same paid order_is turns_are few matches addresses =
     let runs = runs_of length wish r in
-    let match : IsTrue r.is_shown → Matches old r.hardened.program r.notes.items runs = λ shown. subst (λ q. Matches old q r.notes.items runs) (sym same) (matches shown) in
+    let match : IsTrue r.is_shown → r.on_addresses ≡ None → Matches old r.hardened.program r.notes.items runs = λ shown none. subst (λ q. Matches old q r.notes.items runs) (sym same) (matches shown none) in
+    let there : IfSome r.on_addresses (λ notes. Keeps old r.hardened.program notes.items (on_plain runs)) =
+    if_some r.on_addresses addresses (λ notes m. keeps_on_addresses old r.hardened.program notes.items runs d.certificate certified_law far exact program paid.certified paid.least paid.greatest
+    (subst (λ q. MatchesThere old q notes.items (on_plain runs)) (sym same) m)) in
     record {
       paid = paid;
       order_is = subst (λ q. q.order ≡ old.order) (sym same) order_is;
       turns_are = turns_are;
       few = few;
       matches = match;
-      keeps = λ shown. law old r.hardened.program r.notes.items runs program (match shown);
+      addresses = there;
+      keeps = λ shown. by_either r.on_addresses there (λ notes k. exact_is_kept old r.hardened.program runs (StandsForExit old notes.items) (k.exact few)) (λ none. law old r.hardened.program r.notes.items runs program (match shown none));
     }
 
 -- where an instruction stands, there is a slot

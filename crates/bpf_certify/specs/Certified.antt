@@ -1,5 +1,7 @@
 -- What is answered of a program and a bound.
 use Rattle.std.specs.Prelude.{◌≡◌, ℕ, ◌<◌, ◌≤◌, List, false, Option, Some, None, IfSome, IsTrue}
+use Rattle.bpf_kept.specs.Meaning.{Bounds as BoundsOnAddresses}
+use Rattle.bpf_kept.specs.Shown.{Keeps}
 use Rattle.bpf_insn.specs.Instruction.{Instructions, slots}
 use Rattle.bpf_insn.specs.Limits.{frame_bytes}
 use Rattle.bpf_cert.specs.View.{CertificateView}
@@ -61,14 +63,19 @@ leaving runs untouched = record { length = runs.length; padded = runs.padded; tu
 abbrev pub runs_of : ℕ → Wish → Rewritten → Bounds
 runs_of length wish r = leaving (runs_for length wish r.turns) r.untouched
 
--- The certificate is that of the new program, which has the old one's byte order, for the turns that are wished. Where it is told so, the notes
--- show that it keeps the meaning of the old one, for the turns and the bytes that are told.
+-- the same runs, on plain addresses
+abbrev pub on_plain : Bounds → BoundsOnAddresses
+on_plain runs = record { length = runs.length; padded = runs.padded; turns = runs.turns; untouched = runs.untouched }
+
+-- The certificate is that of the new program, which has the old one's byte order, for the turns that are wished. Where it is told so, it keeps the
+-- meaning of the old one, for the turns and the bytes that are told: notes on plain addresses show it there, too, and else those with tags.
 pub record IsRewritten (old : Instructions) (length : ℕ) (wish : Wish) (c : Certified) (r : Rewritten) : Type 0 where
   pub paid : IsPaid r.hardened.program c.certificate length wish.bound c.bound
   pub order_is : r.hardened.program.order ≡ old.order
   pub turns_are : AreWished wish r.turns
   pub few : r.untouched ≤ frame_bytes
-  pub matches : IsTrue r.is_shown → Matches old r.hardened.program r.notes.items (runs_of length wish r)
+  pub matches : IsTrue r.is_shown → r.on_addresses ≡ None → Matches old r.hardened.program r.notes.items (runs_of length wish r)
+  pub addresses : IfSome r.on_addresses (λ notes. Keeps old r.hardened.program notes.items (on_plain (runs_of length wish r)))
   pub keeps : IsTrue r.is_shown → KeepsMeaning old r.hardened.program (runs_of length wish r)
 
 -- the certificate is the program's own, where nothing was rewritten and contexts aren't blocks

@@ -1,12 +1,14 @@
-//! Certified programs: searches propose and rewrite, and then `check` and `follows` judge what came out.
+//! Certified programs: searches propose and rewrite, and then `check` and one of two checkers of notes judge what came out. Notes of the machine with
+//! tags are tried first, and then notes of plain addresses.
 
-ghost use Rattle.std.specs.Prelude.{◌≡◌, ◌<◌, ◌≤◌, ◌↔◌, ℕ, false, IsTrue, IfOk, IfErr, IfSome};
+ghost use Rattle.std.specs.Prelude.{◌≡◌, ◌<◌, ◌≤◌, ◌↔◌, ◌⊎◌, ℕ, false, None, IsTrue, IsSomeAnd, IfOk, IfErr, IfSome};
 ghost use Rattle.bpf_insn.specs.Instruction.{slots};
 ghost use Rattle.bpf_insn.specs.Limits.{frame_bytes, max_context};
 ghost use Rattle.bpf_follows.specs.Matching.{Matches};
+ghost use Rattle.bpf_kept.specs.Matching.{Matches as MatchesOnAddresses};
 ghost use Rattle.bpf_changes.specs.declared.error.HardenError.TheVariants.{Memory, NoBudget};
-ghost use Rattle.bpf_certify.specs.Certified.{Answers, AreWished, IsPaid, IsRefused, IsUnjudged, IsUnpaid, certify_slot, leaving};
-ghost use Rattle.bpf_certify.specs.declared.error.CertifyError.TheVariants.{Unhardened};
+ghost use Rattle.bpf_certify.specs.Certified.{Answers, AreWished, IsPaid, IsRefused, IsUnjudged, IsUnpaid, certify_slot, leaving, on_plain};
+ghost use Rattle.bpf_certify.specs.declared.error.CertifyError.TheVariants.{Unhardened, Unshown};
 
 use crate::error::CertifyError;
 use crate::wish::Wish;
@@ -15,9 +17,14 @@ use bpf_check::check;
 use bpf_follows::{Bounds, Counterpart, Mismatch, matching_keeps_meaning};
 use bpf_harden::{Fitted, HardenError, Hardened, Options, Unfit, fit};
 use bpf_harden_follows::{Evidence, evidence_of};
+use bpf_harden_kept as on_addresses;
 use bpf_infer::{InferError, search};
 use bpf_infer_base::Unwatched;
 use bpf_insn::{Code, Order, Program};
+use bpf_kept::{
+    Note as NoteOnAddresses, RunBounds, certified_keeps_flat_meaning, flat_meaning_is_exact,
+    flat_meaning_is_far,
+};
 use std::alloc::Global;
 
 /// A program in the place of the one that was given, and what is shown of it.
@@ -31,10 +38,12 @@ pub struct Rewritten {
     pub untouched: u32,
     /// Whether it is shown that the new program keeps the meaning of the old one, on runs within both.
     pub is_shown: bool,
-    /// What of the notes fails where it isn't, if that was looked at.
+    /// What of the notes of the machine with tags fails where these don't show it, if that was looked at.
     pub mismatch: Option<Mismatch>,
-    /// The notes by which it is shown. Empty where nothing was to be shown and none were wanted.
+    /// The notes by which it is shown on the machine with tags. Empty where nothing was to be shown and none were wanted.
     pub notes: Vec<Option<Counterpart>>,
+    /// The notes by which it is shown on plain addresses; None where those with tags show it, or nothing does.
+    pub on_addresses: Option<Vec<Option<NoteOnAddresses>>>,
 }
 
 /// A certificate within a bound, and what it certifies.
@@ -61,6 +70,7 @@ struct ShownMeaning {
     is_shown: bool,
     mismatch: Option<Mismatch>,
     notes: Vec<Option<Counterpart>>,
+    on_addresses: Option<Vec<Option<NoteOnAddresses>>>,
 }
 
 /// The refusal where there is no certificate for a whole program.
@@ -134,12 +144,14 @@ fn as_it_stands(
 fn unseen(alloc: Global) -> ShownMeaning
     ensures few { result.untouched ≡ 0 }
     ensures unshown { result.is_shown ≡ false }
+    ensures tags { result.on_addresses ≡ None }
 {
     ShownMeaning {
         untouched: 0,
         is_shown: false,
         mismatch: None,
         notes: Vec::new(alloc),
+        on_addresses: None,
     }
 }
 
@@ -148,12 +160,14 @@ fn seen(found: Evidence, is_shown: bool) -> ShownMeaning
     ensures untouched { result.untouched ≡ found.untouched }
     ensures shown { result.is_shown ≡ is_shown }
     ensures notes { result.notes.items ≡ found.notes.items }
+    ensures tags { result.on_addresses ≡ None }
 {
     ShownMeaning {
         untouched: found.untouched,
         is_shown,
         mismatch: found.mismatch,
         notes: found.notes,
+        on_addresses: None,
     }
 }
 
@@ -175,6 +189,7 @@ fn judged(
     ensures order { IfOk result (λ _. new.now.program.order ≡ old.now.order) }
     ensures few { IfOk result (λ s. s.untouched ≤ frame_bytes) }
     ensures shows { IfOk result (λ s. IsTrue s.is_shown → Matches old.now new.now.program s.notes.items (leaving runs s.untouched)) }
+    ensures tags { IfOk result (λ s. s.on_addresses ≡ None) }
     ensures all { wish.unproved ≡ false → IfOk result (λ s. IsTrue s.is_shown) }
     ensures err { IfErr result (IsUnjudged old.now new.now.program runs) }
 {
@@ -191,6 +206,63 @@ fn judged(
         None => Ok(seen(found, true)),
         Some(_) if wish.unproved => Ok(seen(found, false)),
         Some(mismatch) => Err(CertifyError::Unshown(mismatch)),
+    }
+}
+
+/// What notes on plain addresses show of a hardened program, whose notes with tags have a mismatch.
+fn judged_on_addresses(
+    alloc: Global,
+    old: &Program,
+    new: &Hardened,
+    runs: Bounds,
+    mismatch: Mismatch,
+) -> Result<ShownMeaning, CertifyError>
+    ensures few { IfOk result (λ s. s.untouched ≤ frame_bytes) }
+    ensures shown { IfOk result (λ s. IsTrue s.is_shown) }
+    ensures matches { IfOk result (λ s. IsSomeAnd s.on_addresses (λ notes. MatchesOnAddresses old.now new.now.program notes.items (on_plain (leaving runs s.untouched)))) }
+    ensures err { IfErr result (λ e. (e ≡ Unhardened Memory) ⊎ (e ≡ Unshown mismatch)) }
+{
+    let plain = RunBounds {
+        length: runs.length,
+        padded: runs.padded,
+        turns: u64::from(runs.turns),
+        untouched: 0,
+    };
+    let Ok(found) = on_addresses::evidence_of(alloc, old, new, plain) else {
+        return Err(no_memory());
+    };
+    match found.fault {
+        None => Ok(ShownMeaning {
+            untouched: found.untouched,
+            is_shown: true,
+            mismatch: Some(mismatch),
+            notes: Vec::new(alloc),
+            on_addresses: Some(found.notes),
+        }),
+        Some(_) => Err(CertifyError::Unshown(mismatch)),
+    }
+}
+
+/// What is shown of a hardened program, by notes with tags, and else by notes on plain addresses, unless the text of notes is wanted.
+fn shown_of(
+    alloc: Global,
+    old: &Program,
+    new: &Hardened,
+    runs: Bounds,
+    wish: Wish,
+) -> Result<ShownMeaning, CertifyError>
+    ensures order { IfOk result (λ _. new.now.program.order ≡ old.now.order) }
+    ensures few { IfOk result (λ s. s.untouched ≤ frame_bytes) }
+    ensures shows { IfOk result (λ s. IsTrue s.is_shown → s.on_addresses ≡ None → Matches old.now new.now.program s.notes.items (leaving runs s.untouched)) }
+    ensures addresses { IfOk result (λ s. IfSome s.on_addresses (λ notes. MatchesOnAddresses old.now new.now.program notes.items (on_plain (leaving runs s.untouched)))) }
+    ensures all { wish.unproved ≡ false → IfOk result (λ s. IsTrue s.is_shown) }
+    ensures err { IfErr result (IsUnjudged old.now new.now.program runs) }
+{
+    match judged(alloc, old, new, runs, wish) {
+        Err(CertifyError::Unshown(mismatch)) if !wish.notes => {
+            judged_on_addresses(alloc, old, new, runs, mismatch)
+        }
+        shown => shown,
     }
 }
 
@@ -278,6 +350,9 @@ fn as_fitted(
 {
     let _slots = Code::slots(program);
     matching_keeps_meaning();
+    certified_keeps_flat_meaning();
+    flat_meaning_is_far();
+    flat_meaning_is_exact();
     let Fitted { hardened, turns } = fitted;
     let runs = Bounds {
         length,
@@ -285,7 +360,7 @@ fn as_fitted(
         turns,
         untouched: 0,
     };
-    let shown = judged(alloc, program, &hardened, runs, wish)?;
+    let shown = shown_of(alloc, program, &hardened, runs, wish)?;
     let (hardened, found) = taken(hardened);
     let Paid { certificate, bound } = within_bound(
         &hardened.program,
@@ -302,6 +377,7 @@ fn as_fitted(
             is_shown: shown.is_shown,
             mismatch: shown.mismatch,
             notes: shown.notes,
+            on_addresses: shown.on_addresses,
         }),
         certificate,
         bound,

@@ -1,8 +1,11 @@
 //! Hardened programs.
 
+ghost use Rattle.std.specs.Prelude.{◌≤◌};
+ghost use Rattle.bpf_insn.specs.Limits.{frame_bytes};
+
 use crate::notes::{FunctionNote, Note};
 use bpf_cert::Certificate;
-use bpf_insn::Program;
+use bpf_insn::{FRAME_BYTES, Program};
 
 /// A hardened program, and what was done.
 #[derive(Drop)]
@@ -17,4 +20,17 @@ pub struct Hardened {
     pub functions: Vec<FunctionNote>,
     /// By their slots in the new program. Empty where the program came out unchanged.
     pub notes: Vec<Note>,
+}
+
+impl Hardened {
+    /// How many of the lowest bytes of each frame hardening keeps accesses of the old program from.
+    pub fn taken(&self) -> u32
+        ensures { result ≤ frame_bytes }
+    {
+        let mut deepest = 0;
+        for function in &self.functions {
+            deepest = function.depth.max(deepest);
+        }
+        (FRAME_BYTES as u32).saturating_sub(deepest)
+    }
 }

@@ -32,6 +32,8 @@ pub enum Change {
     Widened,
     /// A constant in the place of the frame pointer: frames' pointers are offsets, from 0 to 512.
     Offset,
+    /// A test of offsets with their signs in the place of an order of pointers into the context without, or the other way round.
+    Order,
     /// Leads to the trap in the place of code that nothing reaches, or of an access that always leaves its region.
     Always,
     /// Tests whether a called function came back from its trap.

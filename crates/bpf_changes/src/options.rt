@@ -17,8 +17,13 @@ pub struct Options {
 }
 
 impl Options {
+    ghost use Rattle.std.specs.Prelude.{◌≡◌, if◌then◌else◌};
+    ghost use Rattle.bpf_semantics.specs.Blocks.{head_bytes};
+
     /// How many bytes of a context stand in front of the first one that the old program may access.
-    pub fn head(&self) -> u32 {
+    pub fn head(&self) -> u32
+        ensures { result ≡ (if self.now.padded then head_bytes else 0) }
+    {
         if self.padded { HEAD_BYTES } else { 0 }
     }
 }

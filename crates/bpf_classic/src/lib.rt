@@ -31,7 +31,7 @@ mod writing;
 pub use bytes::raws_in;
 pub use converter::{Converted, convert};
 pub use fault::TextFault;
-pub use filter::Filter;
+pub use filter::{Filter, MAX_FILTER};
 pub use instruction::{Auxiliary, Classic, LoadSize, Op, Register, Source, Test};
 pub use laws::{
     conversion_keeps_answers, more_turns_keep_answers, straight_filters_answer, turns_are_spent,

@@ -9,6 +9,7 @@ use crate::flow::{known_behind, sets_a, sets_x};
 use crate::instruction::Classic;
 use crate::layout::{Annotated, Layout, is_beyond};
 use crate::ways::from_on;
+use bpf_insn::MAX_CONTEXT;
 use std::alloc::{AllocError, Global};
 
 /// What is known behind an instruction.
@@ -16,7 +17,7 @@ fn behind(a: &Annotated) -> Annotated {
     Annotated {
         insn: a.insn,
         reached: true,
-        known: known_behind(a).min(4096) as u32,
+        known: known_behind(a).min(MAX_CONTEXT as u64) as u32,
         a: a.a || sets_a(&a.insn),
         x: a.x || sets_x(&a.insn),
         back: 0,

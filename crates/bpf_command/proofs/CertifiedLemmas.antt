@@ -1,12 +1,15 @@
 -- What is said of the names of a certification, from what is said of each.
-use Rattle.std.proofs.Common.{◌≡◌, ◌≤◌, Some, None, ℕ, List, false, Option, Result, Ok, Err, IfOk, IfErr, IfSome, IsTrue, refl, sym, subst, inl, inr}
+use Rattle.std.proofs.Common.{◌≡◌, ◌⊎◌, ◌≤◌, Some, None, ℕ, List, false, Option, Result, Ok, Err, IfOk, IfErr, IfSome, IsTrue, refl, sym, subst, inl, inr}
 use Rattle.bpf_insn.specs.Instruction.{Instructions}
 use Rattle.bpf_insn.specs.Image.{image}
 use Rattle.bpf_insn.specs.Limits.{max_context}
 use Rattle.bpf_cert.specs.View.{CertificateView}
 use Rattle.bpf_cert.specs.Spelling.{certificate_text}
 use Rattle.bpf_follows.specs.declared.notes.Counterpart.{Counterpart}
-use Rattle.bpf_certify.specs.Certified.{Answers as IsAnswer, IsPaid, StandsFor}
+use Rattle.bpf_follows.specs.Matching.{Matches}
+use Rattle.bpf_kept.specs.Matching.{Notes}
+use Rattle.bpf_kept.specs.Shown.{Keeps}
+use Rattle.bpf_certify.specs.Certified.{Answers as IsAnswer, IsPaid, StandsFor, on_plain, runs_of}
 use Rattle.bpf_certify.specs.declared.certified.Certified.{Certified}
 use Rattle.bpf_certify.specs.declared.certified.Rewritten.{Rewritten}
 use Rattle.bpf_request.specs.CommandLine.{hardening_of}
@@ -27,6 +30,11 @@ use Rattle.bpf_command.specs.Hardened.{BothStand, NotBothPut, NotBothStand}
 
 -- ---- what is certified
 
+-- notes with tags show it, or those on plain addresses
+either : {T P Q : Type 0} {K : T → Type 0} (o : Option T) → IfSome o K → (o ≡ None → P) → ((x : T) → K x → Q) → P ⊎ Q
+either None k none some = inl (none refl)
+either (Some x) k none some = inr (some x k)
+
 paid_for : (program : Instructions) (c : Certifying) (length : ℕ) (d : Certified) (rewritten : Option Rewritten) → StandsFor program length (wish_of c) d rewritten
     → IsPaid (program_of program rewritten) d.certificate length (most_of c) d.bound
 paid_for program c length d None stands = stands.1
@@ -36,7 +44,10 @@ made_for : (program : Instructions) (c : Certifying) (length : ℕ) (d : Certifi
     → (c.unproved ≡ false → IfSome rewritten (λ r. IsTrue r.is_shown)) → IsMadeOf program (program_of program rewritten) c length (notes_of rewritten) (rewriting_of c rewritten)
 made_for program c length d None stands shown = (refl, stands.0, refl)
 made_for program c length d (Some r) stands shown =
-    record { padded_is = refl; turns_are = stands.turns_are; order_is = stands.order_is; shown = shown; matches = stands.matches; keeps = stands.keeps }
+    record { padded_is = refl; turns_are = stands.turns_are; order_is = stands.order_is; shown = shown; shows = shows; keeps = stands.keeps }
+  where
+    shows : IsTrue r.is_shown → Matches program r.hardened.program r.notes.items (runs_of length (wish_of c) r) ⊎ ((there : Notes) × Keeps program r.hardened.program there (on_plain (runs_of length (wish_of c) r)))
+    shows told = either r.on_addresses stands.addresses (λ none. stands.matches told none) (λ there k. (there.items, k))
 
 -- what was found for the program at the name is certified as it is told
 pub certifies_of : {S : Type 0} (opening : Opening S) (old : S) (c : Certifying) (new : S) (program : Instructions) (length : ℕ) (d : Certified)

@@ -11,7 +11,9 @@ use Rattle.bpf_follows.specs.declared.notes.Counterpart.{Counterpart}
 use Rattle.bpf_follows.specs.Matching.{Matches}
 use Rattle.bpf_follows.specs.Meaning.{KeepsMeaning}
 use Rattle.bpf_follows.specs.NotesText.{notes_text}
-use Rattle.bpf_certify.specs.Certified.{IsPaid, IsRefused}
+use Rattle.bpf_kept.specs.Matching.{Notes}
+use Rattle.bpf_kept.specs.Shown.{Keeps}
+use Rattle.bpf_certify.specs.Certified.{IsPaid, IsRefused, on_plain}
 use Rattle.bpf_certify.specs.declared.certified.Certified.{Certified}
 use Rattle.bpf_certify.specs.declared.certified.Rewritten.{Rewritten}
 use Rattle.bpf_certify.specs.declared.error.CertifyError.{CertifyError}
@@ -63,7 +65,7 @@ pub record IsRewriting (program made : Instructions) (c : Certifying) (length : 
   pub turns_are : IfSome c.turns (λ asked. r.turns ≡ asked)
   pub order_is : made.order ≡ program.order
   pub shown : c.unproved ≡ false → IsTrue r.is_shown
-  pub matches : IsTrue r.is_shown → Matches program made notes (runs_told length r)
+  pub shows : IsTrue r.is_shown → Matches program made notes (runs_told length r) ⊎ ((there : Notes) × Keeps program made there (on_plain (runs_told length r)))
   pub keeps : IsTrue r.is_shown → KeepsMeaning program made (runs_told length r)
 
 -- the program is the one at IN, and contexts aren't blocks; or it was hardened

@@ -277,7 +277,7 @@ known_limited l marked (Trap offset) slot fits few = refl
 
 -- ---- budgets
 
-turn_few : (ways : List ℕ) (n slot : ℕ) (list : List Insn) → ((at : ℕ) → get_or ways at 0 ≤ n) → longest_turn ways slot list ≤ n
+pub turn_few : (ways : List ℕ) (n slot : ℕ) (list : List Insn) → ((at : ℕ) → get_or ways at 0 ≤ n) → longest_turn ways slot list ≤ n
 turn_few ways n slot [] few = omega arith
 turn_few ways n slot (i ∷ rest) few =
     let more = turn_few ways n (suc slot) rest few in

@@ -1,5 +1,5 @@
 -- The certificate of a converted filter has no flaw.
-use Rattle.std.proofs.Common.{◌≡◌, ℕ, zero, suc, ℤ, pos, negsuc, ◌+ℤ◌, ◌≤ℤ◌, ◌+◌, ◌-◌, ◌*◌, ◌<◌, ◌≤◌, List, [], ◌∷◌, ◌++◌, length, get_or, min, max, Bool, true, false, cond, Option, Some, None, refl, sym, ap, ap₂, ◌∙◌, subst, ⊎_elim, arith}
+use Rattle.std.proofs.Common.{◌≡◌, ℕ, zero, suc, ℤ, pos, ◌+ℤ◌, ◌≤ℤ◌, ◌+◌, ◌*◌, ◌<◌, ◌≤◌, List, [], ◌∷◌, ◌++◌, length, get_or, min, max, Bool, true, false, cond, Option, Some, None, refl, sym, ap, ap₂, ◌∙◌, subst, ⊎_elim, arith}
 use Rattle.std.specs.Prelude.{nat_lt, not, ◌==◌, ◌&&◌, ◌||◌, int_lt, flat_map, is_none, slice_get, option_map, Contains}
 use Rattle.std.specs.List.{list_any, range_with_len}
 use Rattle.std.proofs.lemmas.Bool.{cond-true, cond-false, cond_both, and_from, and_parts, or_from, false≢true, cases_lt, cases_Bool}
@@ -9,9 +9,8 @@ use Rattle.std.proofs.lemmas.Option.{slice_get-get_or}
 use Rattle.bpf_insn.specs.Image.{IsProgram}
 use Rattle.bpf_insn.specs.Instruction.{Instructions, insn_at}
 use Rattle.bpf_insn.specs.declared.instruction.Reg.TheVariants.{R0, R2, R3}
+use Rattle.bpf_insn.specs.declared.instruction.Insn.TheVariants.{Exit}
 use Rattle.std.specs.Option.{option_map_or}
-use Rattle.bpf_insn.specs.declared.instruction.Insn.{Insn}
-use Rattle.bpf_insn.specs.declared.instruction.Insn.TheVariants.{Alu as AluInsn, Neg as NegInsn, MovSx, End, LoadImm64, Load, LoadSx, Store as StoreInsn, StoreImm, Atomic, Ja, JaLong, JumpIf as JumpIfInsn, CallLocal, Exit}
 use Rattle.bpf_num.specs.Number.{Number, number}
 use Rattle.bpf_state.specs.State.{AbstractState, first_state, register, tightened, tightened_register}
 use Rattle.bpf_state.specs.Entails.{state_entails, register_entails}
@@ -27,7 +26,7 @@ use Rattle.bpf_safety.specs.Budget.{budget, greatest_budget, unsigned_bounds}
 use Rattle.bpf_safety.specs.Labels.{label_at}
 use Rattle.bpf_safety.specs.Flaw.{at, fails, flaws, begins_wrongly, begins_elsewhere, starts_over_budget, numbers_of_label, is_first_label, starts_at, is_bad_term, is_bad_limit, is_outside, is_not}
 use Rattle.bpf_safety.specs.Certified.{Certified}
-use Rattle.bpf_classic.specs.Longest.{longest_ways, longest_back, longest_turn, turn, longest}
+use Rattle.bpf_classic.specs.Longest.{longest_ways, turn, longest}
 use Rattle.bpf_classic.specs.Meaning.{Conversion}
 use Rattle.bpf_classic.specs.Template.{head, room, is_block, known_first, room_insns, turns_code, zero_if, zero_cell, code, entry}
 use Rattle.bpf_classic.specs.Flow.{starts_well, all_agree}
@@ -47,6 +46,7 @@ use Rattle.bpf_conversion.specs.declared.parts.Stretch.{Stretch}
 use Rattle.bpf_conversion.specs.declared.parts.Stretch.TheVariants.{Entry, Template, Trap}
 use Rattle.bpf_conversion.proofs.LongestLemmas.{ways_few, insn_is, slots_are}
 use Rattle.bpf_conversion.proofs.PartLemmas.{list_is, is_short, narrow}
+use Rattle.bpf_conversion.proofs.LimitLemmas.{turn_few}
 use Rattle.bpf_convert_law.proofs.Numbers.{IsIn, Tightened, tight_range, wider}
 use Rattle.bpf_convert_law.proofs.Lookups.{function_of, function_is, label_is, first_leads}
 use Rattle.bpf_convert_law.proofs.States.{InBounds, Sat, in_bounds, bounds_entail}
@@ -58,33 +58,6 @@ use Rattle.bpf_convert_law.proofs.Ways.{World, wants_start}
 use Rattle.bpf_convert_law.proofs.Traces.{written, last_state, First, first_of, first_slot, first_stands, first_has, first_agrees}
 use Rattle.bpf_convert_law.proofs.Entries.{CellsFew, cells_few, sets, from_room}
 use Rattle.bpf_convert_law.proofs.Rooms.{only_room, only_entails, only_tightened, filled, number_there, unset_sat, in_entry, packet_entry, packet_clean, block_clean}
-
--- ---- jumps back lead to short ways
-
-turn_few : (ways : List ℕ) (n slot : ℕ) (list : List Insn) → ((at : ℕ) → get_or ways at 0 ≤ n) → longest_turn ways slot list ≤ n
-turn_few ways n slot [] few = omega arith
-turn_few ways n slot (i ∷ rest) few =
-    let more = turn_few ways n (suc slot) rest few in
-    let here = back_few i in
-    omega (arith, clamps, more, here)
-  where
-    back_few : (i : Insn) → longest_back ways slot i ≤ n
-    back_few (Ja (negsuc d)) = few (slot - d)
-    back_few (Ja (pos d)) = omega arith
-    back_few (AluInsn op width dst src) = omega arith
-    back_few (NegInsn width dst) = omega arith
-    back_few (MovSx width bits dst src) = omega arith
-    back_few (End kind bits dst) = omega arith
-    back_few (LoadImm64 dst value) = omega arith
-    back_few (Load size dst src off) = omega arith
-    back_few (LoadSx size dst src off) = omega arith
-    back_few (StoreInsn size dst off src) = omega arith
-    back_few (StoreImm size dst off imm) = omega arith
-    back_few (Atomic wide op dst off src) = omega arith
-    back_few (JaLong off) = omega arith
-    back_few (JumpIfInsn test width dst src off) = omega arith
-    back_few (CallLocal off) = omega arith
-    back_few Exit = omega arith
 
 -- what is said of a conversion
 pub record Facts (c : Conversion) : Type 0 where

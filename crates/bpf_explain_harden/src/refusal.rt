@@ -5,8 +5,9 @@ use bpf_harden::HardenError;
 use bpf_refusals::NOT_SHOWN;
 use std::fmt::{self, Display};
 
-/// The number of the mismatch of an instruction that reads what may be something else, as where pointers are put in order.
-const READS_OTHER: u8 = 5;
+/// The numbers of the mismatches where pointers are put in order: another instruction stands there, or it reads what may be
+/// something else.
+const OF_ORDER: [u8; 2] = [4, 5];
 
 /// Why no hardened program comes out.
 #[derive(Clone, Copy)]
@@ -64,7 +65,7 @@ impl Display for Unshown {
     fn fmt<W: fmt::Write>(&self, f: &mut fmt::Formatter<W>) -> fmt::Result {
         let (number, slot) = (self.0.number(), self.0.slot());
         let text = mismatch_text(u32::from(number)).unwrap_or("its notes fail");
-        let advice = if number == READS_OTHER {
+        let advice = if OF_ORDER.contains(&number) {
             "; where it puts pointers in order, compare offsets, not pointers"
         } else {
             ""

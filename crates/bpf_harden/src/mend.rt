@@ -1,4 +1,5 @@
-//! What is changed where the new text is refused: all faults of a round together.
+//! What is changed where the new text is refused: the refinement in counterexample-guided refinement (`rounds.rt`). All
+//! faults of a round are mended together.
 
 use crate::judge::JudgedText;
 use crate::sums::GuardedSum;

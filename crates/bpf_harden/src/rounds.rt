@@ -1,5 +1,6 @@
-//! Rounds: the new text is written and judged, and the plan mended by what is said of it, until it has a certificate. This
-//! is counterexample-guided refinement: of the program, and not of the abstraction.
+//! Rounds: the new text is written and judged, and the plan mended by what is said of it, until it has a certificate.
+//! This is counterexample-guided refinement (Clarke and others, Counterexample-guided abstraction refinement, 2000): of
+//! the program, and not of the abstraction.
 
 use crate::heads::{heads_of, loop_heads};
 use crate::inner::InnerLoops;

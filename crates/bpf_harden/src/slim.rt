@@ -1,5 +1,5 @@
-//! Tests that never lead to the trap are taken away again: all at once, since what holds behind a test that never fails holds in
-//! front of it.
+//! Elimination of redundant checks (Gupta, Optimizing array bound checks using flow analysis, 1993): tests that never
+//! lead to the trap are taken away, all at once. What holds behind a test that never fails holds in front of it.
 
 use crate::judge::JudgedText;
 use bpf_changes::Change;

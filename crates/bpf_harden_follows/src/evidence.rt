@@ -9,7 +9,7 @@ use crate::places::places_within;
 use crate::search::{MOST_LOOKS, NotesSearch};
 use bpf_changes::Hardened;
 use bpf_follows::{Bounds, Counterpart, Mismatch, follows};
-use bpf_insn::{FRAME_BYTES, Program};
+use bpf_insn::Program;
 use std::alloc::{AllocError, Global};
 
 /// Notes of a hardened program, and what of them fails, if something does.
@@ -19,17 +19,6 @@ pub struct Evidence {
     /// How many of the lowest bytes of each frame runs of the old program have to leave to r10.
     pub untouched: u32,
     pub mismatch: Option<Mismatch>,
-}
-
-/// How many of the lowest bytes of each frame hardening keeps accesses of the old program from.
-fn taken(new: &Hardened) -> u32
-    ensures { result ≤ frame_bytes }
-{
-    let mut deepest = 0;
-    for function in &new.functions {
-        deepest = function.depth.max(deepest);
-    }
-    (FRAME_BYTES as u32).saturating_sub(deepest)
 }
 
 /// Notes for the runs of a search. What is looked at is taken from what is left.
@@ -93,7 +82,7 @@ fn found_by(
     };
     let fewer = NotesSearch {
         bounds: Bounds {
-            untouched: taken(new),
+            untouched: new.taken(),
             ..search.bounds
         },
         ..search

@@ -124,7 +124,7 @@ impl<'a> Finder<'a> {
     fn is_body(&self, slot: u32) -> bool {
         matches!(
             get_or(&self.changes, slot as usize, None),
-            None | Some(Change::Access | Change::Widened | Change::Offset)
+            None | Some(Change::Access | Change::Widened | Change::Offset | Change::Order)
         )
     }
 

@@ -1,4 +1,5 @@
-//! Where new instructions stand, and programs of them.
+//! Where new instructions stand, and programs of them: the distances of jumps, once all places are known, as the second
+//! pass of an assembler finds them.
 
 use crate::parts::displacement;
 use crate::piece::{Goal, Piece};

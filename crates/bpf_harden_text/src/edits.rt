@@ -1,7 +1,7 @@
 //! Old instructions with a field changed.
 
 use crate::parts::alu;
-use bpf_insn::{FRAME_BYTES, Insn, Operand, Reg, Size};
+use bpf_insn::{Cond, FRAME_BYTES, Insn, Operand, Reg, Size, Width};
 
 /// The offset that stands for the frame pointer: offsets into a frame go from 0 to this.
 pub const FRAME_END: i32 = FRAME_BYTES as i32;
@@ -123,4 +123,40 @@ pub fn with_offset(insn: &Insn) -> Insn {
         };
     }
     with_operand(insn)
+}
+
+/// The test that compares with signs as this one does without them, and the other way round.
+fn turned(cond: Cond) -> Option<Cond> {
+    match cond {
+        Cond::Gt => Some(Cond::SGt),
+        Cond::Ge => Some(Cond::SGe),
+        Cond::Lt => Some(Cond::SLt),
+        Cond::Le => Some(Cond::SLe),
+        Cond::SGt => Some(Cond::Gt),
+        Cond::SGe => Some(Cond::Ge),
+        Cond::SLt => Some(Cond::Lt),
+        Cond::SLe => Some(Cond::Le),
+        Cond::Eq | Cond::Ne | Cond::Set => None,
+    }
+}
+
+/// A test that orders two pointers of 64 bits, as one of their offsets: what begins in the middle of the addresses is
+/// ordered without signs as offsets are with them. None of another instruction.
+pub fn with_signs(insn: &Insn) -> Option<Insn> {
+    match *insn {
+        Insn::JumpIf {
+            cond,
+            width: Width::W64,
+            dst,
+            src: Operand::Reg(src),
+            off,
+        } => Some(Insn::JumpIf {
+            cond: turned(cond)?,
+            width: Width::W64,
+            dst,
+            src: Operand::Reg(src),
+            off,
+        }),
+        _ => None,
+    }
 }

@@ -1,8 +1,9 @@
-//! The text of a program under a plan.
+//! The text of a program under a plan: templates in place of old instructions, in one pass over these.
 
 use crate::access::AccessSite;
 use crate::draft::Draft;
-use crate::edits::{widened, with_offset};
+use crate::edits::{widened, with_offset, with_signs};
+use crate::kinds::RegisterKind;
 use crate::old::Old;
 use crate::parts::{add_constant, fetch, keep};
 use crate::piece::Goal;
@@ -180,11 +181,31 @@ impl<'a> TextWriter<'a> {
         }
     }
 
+    /// Whether a register that holds a pointer into the context has its offset in the new program.
+    fn is_offset(&self, slot: u32, r: Reg) -> bool {
+        self.plan.offsets && self.old.kind(slot, r) == RegisterKind::Context
+    }
+
+    /// The order of two pointers into the context, as one of the offsets that stand for them.
+    fn ordered(&self, slot: u32, insn: &Insn) -> Option<Insn> {
+        match *insn {
+            Insn::JumpIf {
+                dst,
+                src: Operand::Reg(src),
+                ..
+            } if self.is_offset(slot, dst) && self.is_offset(slot, src) => with_signs(insn),
+            _ => None,
+        }
+    }
+
     /// Puts an instruction as it was, or with offsets or 64 bits.
     fn put_edited(&mut self, slot: u32, insn: &Insn, goal: Goal) -> Result<(), HardenError> {
         let edited = self.edited(insn);
         if self.plan.at(slot).widens {
             return Ok(self.put(slot, widened(&edited), goal, Some(Change::Widened))?);
+        }
+        if let Some(ordered) = self.ordered(slot, insn) {
+            return Ok(self.put(slot, ordered, goal, Some(Change::Order))?);
         }
         let takes_offset = edited != *insn;
         Ok(self.put(slot, edited, goal, takes_offset.then_some(Change::Offset))?)

@@ -1,5 +1,6 @@
-//! Where functions keep what hardening adds: registers that they don't use, and bytes of the frame below their own. It is
-//! a register allocation, made anew for each plan. Each value has a place for the whole function, so none interfere.
+//! Where functions keep what hardening adds: registers that they don't use, and bytes of the frame below their own. It
+//! is a register allocation with spilling, made anew for each plan. Each value has a place for the whole function, so
+//! none interfere, and there is no graph to colour (Chaitin and others, Register allocation via coloring, 1981).
 
 use crate::old::Old;
 use crate::plan::Plan;

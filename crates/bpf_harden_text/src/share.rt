@@ -1,5 +1,5 @@
 //! Pointers that several accesses go by: those by one base that follow one another, with nothing that is tested in
-//! between. They are local common subexpressions.
+//! between. They are local common subexpressions (Cocke, Global common subexpression elimination, 1970).
 
 use crate::access::AccessSite;
 use crate::edits::with_base;

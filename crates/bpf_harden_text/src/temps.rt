@@ -1,4 +1,5 @@
-//! Registers that are taken for a while.
+//! Registers that are taken for a while: one that holds nothing more that is read, by liveness (`live.rt`), or one that
+//! is saved to the frame meanwhile.
 
 use crate::kinds::RegisterKind;
 use crate::parts::{fetch, keep};

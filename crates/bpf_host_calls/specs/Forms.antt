@@ -25,8 +25,11 @@ may_have Seccomp size = size == 64
 may_have Extended size = nat_le 72 size && nat_le size max_context
 
 -- the low 16 bits of what is asked for are the form's number, the high 16 how often a run may jump back, 0 as often as is usual
+abbrev pub turn : ℕ
+turn = 2 ^ 16
+
 abbrev pub form_part : ℕ → ℕ
-form_part asked = asked % 2 ^ 16
+form_part asked = asked % turn
 
 abbrev pub form_asked : ℕ → Form
 form_asked asked = form_named (form_part asked)
@@ -35,7 +38,7 @@ abbrev pub turns_of : Form → ℕ → ℕ → ℕ
 turns_of form size told = if told == 0 then usual_turns form size else told
 
 abbrev pub wanted_by : ℕ → ℕ → Order → Wanted
-wanted_by asked size order = record { form = form_asked asked; length = size; order = order; turns = turns_of (form_asked asked) size (asked / 2 ^ 16) }
+wanted_by asked size order = record { form = form_asked asked; length = size; order = order; turns = turns_of (form_asked asked) size (asked / turn) }
 
 -- the same by what is asked of the call
 abbrev pub wanted_as : ConvertAsked → Wanted

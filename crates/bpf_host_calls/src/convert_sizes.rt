@@ -3,8 +3,7 @@
 ghost use Rattle.std.specs.Prelude.{◌≡◌};
 ghost use Rattle.bpf_host_calls.specs.ConvertSizes.{convert_size};
 
-/// The most instructions of a filter.
-const MOST: usize = 4096;
+use bpf_classic::MAX_FILTER;
 
 /// A header, a function and the last line, and the labels of the entry and of the exit that answers 0.
 const ENDS: usize = 1024;
@@ -16,5 +15,5 @@ const LABELS: usize = 3 * 192;
 pub fn convert_size(count: usize) -> usize
     ensures { result ≡ convert_size count }
 {
-    ENDS + LABELS * count.min(MOST)
+    ENDS + LABELS * count.min(MAX_FILTER)
 }

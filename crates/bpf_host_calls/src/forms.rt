@@ -43,11 +43,14 @@ pub(crate) fn may_have(form: Form, size: u32) -> bool
     }
 }
 
+/// What one turn counts in what is asked for: the form's number has the 16 bits below.
+const TURN: u32 = 65_536;
+
 /// The number of the form among what is asked for.
 pub(crate) fn form_part(asked: u32) -> u32
     ensures { result ≡ form_part asked }
 {
-    asked % 65_536
+    asked % TURN
 }
 
 /// How often a run may jump back: as often as is told, 0 as is usual.
@@ -71,6 +74,6 @@ pub(crate) fn wanted_by(form: Form, asked: u32, size: u32, order: Order) -> Want
         form,
         length: size,
         order,
-        turns: turns_of(form, size, (asked / 65_536) as u16),
+        turns: turns_of(form, size, (asked / TURN) as u16),
     }
 }

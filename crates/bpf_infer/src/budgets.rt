@@ -1,4 +1,5 @@
-//! Budgets: how many instructions may still be done from each label on.
+//! Budgets: how many instructions may still be done from each label on. They are linear ranking functions (Podelski and
+//! Rybalchenko, A complete method for the synthesis of linear ranking functions, 2004), by the longest paths.
 
 use crate::loops::{LoopBlocks, Loops, loops_of};
 use crate::rounds::Rounds;

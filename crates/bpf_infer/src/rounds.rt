@@ -1,4 +1,5 @@
-//! The states at the labels: rounds over each function until nothing changes, callers before callees.
+//! The states at the labels, a fixpoint with widening (Cousot and Cousot, Abstract interpretation, 1977): rounds over
+//! each function until nothing changes, callers before callees.
 
 use bpf_cert::Function;
 use bpf_infer_base::{

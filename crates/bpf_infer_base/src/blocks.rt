@@ -1,4 +1,4 @@
-//! Slots cut into basic blocks at their labels, and where the blocks lead.
+//! Slots cut into basic blocks at their labels, and where the blocks lead (Allen, Control flow analysis, 1970).
 
 use crate::flow::Flow;
 use crate::graph::{Arc, Graph};

@@ -1,4 +1,4 @@
-//! The calls of a program: how deep they go, and whether one leads back.
+//! The calls of a program: how deep they go, by longest paths of the call graph, and whether one leads back.
 
 use crate::blocks::Blocks;
 use crate::condition::ForeseenCondition;

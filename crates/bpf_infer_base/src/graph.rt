@@ -1,4 +1,5 @@
-//! Graphs of labels, their strongly connected components, and longest paths, by Bellman and Ford.
+//! Graphs of labels, their strongly connected components, and longest paths, by Bellman and Ford (Bellman, On a routing
+//! problem, 1958).
 
 use crate::component_search::ComponentSearch;
 use crate::lists::{get_or, put};

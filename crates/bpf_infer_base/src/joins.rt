@@ -1,4 +1,5 @@
-//! The join of two states; with thresholds their widening, by which bounds that move are moved on to the next one (`widen.rt`).
+//! The join of two states. With thresholds it is their widening (Cousot and Cousot, Abstract interpretation, 1977), by
+//! which bounds that move are moved on to the next one (`widen.rt`).
 
 ghost use Rattle.std.specs.Prelude.{◌≤ℤ◌, IfSome};
 ghost use Rattle.bpf_state.specs.State.{IsRegister, IsPointer, IsSlot};

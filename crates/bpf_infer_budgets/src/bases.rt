@@ -1,4 +1,5 @@
-//! The bases of budgets: longest paths over the components of a function, from the last to the first.
+//! The bases of budgets: longest paths (Bellman and Ford), over the components of a function from the last to the
+//! first.
 
 use crate::paths::Path;
 use crate::plan::{BudgetTerms, FunctionBudgets, Part};

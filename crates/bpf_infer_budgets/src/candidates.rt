@@ -1,4 +1,5 @@
-//! What may count the rounds of a component.
+//! What may count the rounds of a component. Where a number rises on one path and falls on another, heights of the
+//! labels even it out: longest paths by Bellman and Ford (`graph.rt`).
 
 use crate::components::Component;
 use crate::plan::FunctionBudgets;

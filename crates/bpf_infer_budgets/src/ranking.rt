@@ -1,5 +1,6 @@
-//! Budgets for a draft: linear ranking functions (Podelski and Rybalchenko 2004), flattened over nested loops. Which counters the
-//! loops have, what they weigh, and what is left for the bases.
+//! Budgets for a draft: linear ranking functions (Podelski and Rybalchenko, A complete method for the synthesis of
+//! linear ranking functions, 2004), flattened over nested loops. Which counters the loops have, what they weigh, and
+//! what is left for the bases.
 
 ghost use Rattle.std.specs.Prelude.{◌≤◌};
 

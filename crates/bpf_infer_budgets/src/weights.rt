@@ -1,4 +1,4 @@
-//! How often the counters of a group are counted: longest paths to their steps, and halving for the least weights.
+//! How often the counters of a group are counted: longest paths to their steps, and bisection for the least weights.
 
 use crate::candidates::least_step;
 use crate::groups::{CounterGroup, GroupCounter};

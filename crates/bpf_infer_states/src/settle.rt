@@ -1,5 +1,6 @@
-//! The states of a function's labels: the recursive iteration strategy over a weak topological order (Bourdoncle 1993). The head
-//! of a loop is widened with thresholds until it stands, and then narrowed; loops inside are settled anew in each turn.
+//! The states of a function's labels: the recursive iteration strategy over a weak topological order (Bourdoncle 1993,
+//! `nest.rt`). The head of a loop is widened with thresholds until it stands, and then narrowed (Cousot and Cousot
+//! 1977). Loops inside are settled anew in each turn.
 
 use crate::nest::{Loop, Nest};
 use crate::sums::Sums;

@@ -1,4 +1,6 @@
-//! The states of a program's labels: function by function, with labels for dead code, until what functions return stands.
+//! The states of a program's labels: function by function, with labels for dead code, until what functions return
+//! stands. This is an interprocedural data flow with one state for all calls of a function (Sharir and Pnueli, Two
+//! approaches to interprocedural data flow analysis, 1981, have one for each).
 
 mod outcome;
 mod surveys;

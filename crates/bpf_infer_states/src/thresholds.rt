@@ -1,4 +1,5 @@
-//! Thresholds of the widening: the numbers at which the bounds of a loop's states may stop.
+//! Thresholds of the widening (Blanchet and others 2003, `widen.rt`): the numbers at which the bounds of a loop's
+//! states may stop.
 
 use bpf_infer_base::{Stops, WRITABLE, compared, held, join, join_register, join_slots};
 use bpf_insn::{Insn, Operand, Reg};

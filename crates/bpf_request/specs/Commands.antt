@@ -1,5 +1,5 @@
 -- The commands and their arguments, as their parser sees them.
-use Rattle.std.specs.Prelude.{◌≡◌, [], ◌∷◌, Some, pos, codes, ℤ, Result, IfOk, true, false}
+use Rattle.std.specs.Prelude.{◌≡◌, [], ◌∷◌, Some, pos, codes, ℕ, ℤ, Result, IfOk, true, false}
 use Rattle.clap.specs.Words.{App, Rule, Text, app_of, new_app, new_rule, with_rule, with_subcommand}
 use Rattle.std.specs.declared.alloc.AllocError.{AllocError}
 use Rattle.clap.specs.declared.builder.command.Command.{Command}
@@ -24,14 +24,18 @@ option id = record (new_rule id) { long = Some id; value_names = 1 }
 abbrev pub number : Text → (least most : ℤ) → Rule
 number id least most = record (option id) { parser = Some (parser.Signed least most) }
 
--- the required option `--steps`, with a number below 2 ^ 32
-abbrev pub steps : Rule
-steps = record (number (codes "steps") (pos 0) (pos 4294967295)) { required = true }
+-- the greatest number of 32 bits
+abbrev pub greatest : ℕ
+greatest = 4294967295
 
--- the option `--trace`, with a number from 1, below 2 ^ 32, or 1000 where it is given without one
+-- the required option `--steps`, with such a number at most
+abbrev pub steps : Rule
+steps = record (number (codes "steps") (pos 0) (pos greatest)) { required = true }
+
+-- the option `--trace`, with a number from 1 to the greatest, or 1000 where it is given without one
 abbrev pub trace : Rule
 trace =
-    record (number (codes "trace") (pos 1) (pos 4294967295)) {
+    record (number (codes "trace") (pos 1) (pos greatest)) {
       range = Some (record { start_inclusive = 0; end_inclusive = 1 });
       missing = codes "1000" ∷ [];
     }
@@ -93,9 +97,9 @@ infer_places = with_rule (with_rule (with_rule (new_app (codes "infer")) (place 
 abbrev pub infer : App
 infer = with_rule (with_rule (with_rule infer_places most) (flag (codes "deep"))) big
 
--- the option `--turns`, with a number from 1, below 2 ^ 32
+-- the option `--turns`, with a number from 1 to the greatest
 abbrev pub turns : Rule
-turns = number (codes "turns") (pos 1) (pos 4294967295)
+turns = number (codes "turns") (pos 1) (pos greatest)
 
 -- the option `--untouched`, with a number up to the bytes of a frame
 abbrev pub untouched : Rule
@@ -113,9 +117,9 @@ harden =
     with_rule (with_rule (with_rule (with_rule (with_rule (with_rule (with_rule (with_rule harden_places turns) untouched) otherwise) (flag (codes "padded")))
     (flag (codes "unproved"))) (option (codes "notes"))) (option (codes "changes"))) big
 
--- the option `--bound`, with a number from 1, below 2 ^ 32
+-- the option `--bound`, with a number from 1 to the greatest
 abbrev pub bound : Rule
-bound = number (codes "bound") (pos 1) (pos 4294967295)
+bound = number (codes "bound") (pos 1) (pos greatest)
 
 abbrev pub certify_places : App
 certify_places =

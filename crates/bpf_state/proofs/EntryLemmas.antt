@@ -1,7 +1,7 @@
 -- States in entries.
-use Rattle.std.proofs.Common.{◌≡◌, ℕ, ◌+◌, ◌-◌, ◌<◌, ◌≤◌, List, [], ◌∷◌, ◌++◌, length, get_or, take, refl, sym, ◌∙◌, ap, subst, arith}
+use Rattle.std.proofs.Common.{◌≡◌, ℕ, ◌+◌, ◌-◌, ◌<◌, ◌≤◌, List, [], ◌∷◌, ◌++◌, length, get_or, take, replicate, refl, sym, ◌∙◌, ap, subst, arith}
 use Rattle.std.specs.Prelude.{All}
-use Rattle.std.proofs.lemmas.List.{take_more, length-set, get_or-set_same, get_or-set_other, get_or-replicate}
+use Rattle.std.proofs.lemmas.List.{take_more, take_all, length-set, get_or-set_same, get_or-set_other, get_or-replicate}
 use Rattle.std.proofs.lemmas.List.Elements.{All-set, All-append, All-nil, All-cons, All-get_or}
 use Rattle.bpf_insn.specs.declared.instruction.Reg.{Reg}
 use Rattle.bpf_insn.specs.declared.instruction.Reg.TheVariants.{R10}
@@ -130,3 +130,20 @@ slot_past es i e j k v each low h is at apart e' =
 pub slot_past_register : (es : List Entry) (i : ℕ) (e : Entry) (q : Reg) (k : ℕ) (v : RegState) → i < length es → e ≡ get_or es i e → e ≡ Register q v → slot (state_of (take i es)) k ≡ Bytes 0
     → slot (state_of (take (i + 1) es)) k ≡ Bytes 0
 slot_past_register es i e q k v h is at e' = ap (λ s. slot s k) (state_next es i e h is ∙ ap (put (state_of (take i es))) at) ∙ e'
+
+-- ---- entries of registers alone
+
+pub no_slot_past : (es : List Entry) (i : ℕ) (e : Entry) (q : Reg) (v : RegState) → i < length es → e ≡ get_or es i e → e ≡ Register q v → (state_of (take i es)).slots ≡ replicate 64 (Bytes 0)
+    → (state_of (take (i + 1) es)).slots ≡ replicate 64 (Bytes 0)
+no_slot_past es i e q v h is at e' = ap (λ s. s.slots) (state_next es i e h is ∙ ap (put (state_of (take i es))) at) ∙ e'
+
+pub no_slot_in : (es : List Entry) (i : ℕ) → length es ≤ i → (state_of (take i es)).slots ≡ replicate 64 (Bytes 0) → (state_of es).slots ≡ replicate 64 (Bytes 0)
+no_slot_in es i all e' = ap (λ l. (state_of l).slots) (sym (take_all i es all)) ∙ e'
+
+-- an entry of a slot says what the state knows
+pub slot_said : (es : List Entry) (i : ℕ) (e : Entry) (k : ℕ) (v : SlotState) → AreEntries es → i < length es → e ≡ get_or es i e → e ≡ Slot k v → (state_of es).slots ≡ replicate 64 (Bytes 0) → ⊥
+slot_said es i e k v are h is at none =
+    let x : IsEntry (state_of es) (Slot k v) = subst (IsEntry (state_of es)) (sym is ∙ at) (are.each i e h) in
+    let low = x.placed.0 in
+    let high = x.placed.1 in
+    x.known (sym x.said ∙ ap (λ ss. get_or ss (k - 1) (Bytes 0)) none ∙ get_or-replicate 64 (k - 1) (Bytes 0) (Bytes 0) (omega arith))

@@ -1,6 +1,6 @@
 //! What is known of places, entry by entry.
 
-ghost use Rattle.std.specs.Prelude.{◌≡◌, ◌==◌, ◌≢◌, ◌≤◌, ◌<◌, ◌++◌, ◌∷◌, [], take, replicate, IfOk};
+ghost use Rattle.std.specs.Prelude.{◌≡◌, ◌↔◌, ◌==◌, ◌≢◌, ◌≤◌, ◌<◌, ◌++◌, ◌∷◌, [], take, replicate, IfOk, IsTrue};
 ghost use Rattle.bpf_insn.specs.Instruction.{register_number};
 ghost use Rattle.bpf_state.specs.State.{IsRegister, IsSlot, IsPlace, start_of, blank, register, slot};
 ghost use Rattle.bpf_state.specs.Held.{held};
@@ -94,6 +94,20 @@ fn slot_in(entries: &[Entry], k: u8) -> SlotState
         }
     }
     SlotState::Bytes(0)
+}
+
+/// Whether no entry is of a slot.
+fn are_registers(entries: &[Entry]) -> bool
+    requires { AreEntries entries.now }
+    ensures { IsTrue result ↔ ((state_of entries.now).slots ≡ replicate 64 (Bytes 0)) }
+{
+    for entry in entries {
+        match *entry {
+            Entry::Slot(_, _) => return false,
+            Entry::Register(_, _) => {}
+        }
+    }
+    true
 }
 
 fn put_entries(entries: &[Entry], state: &mut State)
@@ -199,6 +213,13 @@ impl Entries {
         ensures ordered { IsSlot result }
     {
         slot_in(&self.entries, k)
+    }
+
+    /// Whether nothing is known of any slot.
+    pub fn knows_no_slot(&self) -> bool
+        ensures { IsTrue result ↔ (self.now.slots ≡ replicate 64 (Bytes 0)) }
+    {
+        are_registers(&self.entries)
     }
 
     /// What is known of a register, or of a slot as a whole. A slot's number is from 1 to 64.

@@ -30,7 +30,7 @@ const WORDS: usize = 64;
 
 /// What a line asks for.
 #[derive(Clone, Copy)]
-struct Case<'a> {
+struct FilterCase<'a> {
     form: Form,
     /// The length of the contexts in bytes.
     length: u32,
@@ -60,14 +60,14 @@ fn length_and_turns(form: Form, word: Option<&str>) -> (u32, u16)
     };
     let length = number_of(length).min(MAX_CONTEXT as u32);
     match turns {
-        Some(turns) => (length, number_of(Some(turns)).min(65_535) as u16),
+        Some(turns) => (length, number_of(Some(turns)).min(u16::MAX as u32) as u16),
         None => (length, usual_turns(form, length)),
     }
 }
 
-impl<'a> Case<'a> {
+impl<'a> FilterCase<'a> {
     /// The case that words begin with.
-    fn of(words: &mut SplitWhitespace<'a>) -> Case<'a> {
+    fn of(words: &mut SplitWhitespace<'a>) -> FilterCase<'a> {
         let form = match words.next() {
             Some("plain") => Form::Plain,
             Some("seccomp") => Form::Seccomp,
@@ -75,7 +75,7 @@ impl<'a> Case<'a> {
             _ => Form::Blocks,
         };
         let (length, turns) = length_and_turns(form, words.next());
-        Case {
+        FilterCase {
             form,
             length,
             turns,
@@ -111,7 +111,7 @@ fn raws_of_word(alloc: Global, word: &str) -> Result<Vec<Raw>, NotConverted> {
 }
 
 /// The program of a case.
-fn converted(alloc: Global, case: Case<'_>) -> Result<Converted, NotConverted>
+fn converted(alloc: Global, case: FilterCase<'_>) -> Result<Converted, NotConverted>
     ensures { IfOk result IsConversion }
 {
     let raws = raws_of_word(alloc, case.filter)?;
@@ -183,7 +183,7 @@ fn tell_end(out: &mut impl Write, outcome: Outcome) -> io::Result<()> {
 }
 
 /// The context that holds a packet, or none where the word isn't one.
-fn context_of(alloc: Global, case: Case<'_>, word: &str) -> Option<Vec<u8>>
+fn context_of(alloc: Global, case: FilterCase<'_>, word: &str) -> Option<Vec<u8>>
     ensures { IfSome result (λ context. length context.items ≤ max_context) }
 {
     let text = if word == "none" { "" } else { word };
@@ -201,7 +201,7 @@ fn context_of(alloc: Global, case: Case<'_>, word: &str) -> Option<Vec<u8>>
 }
 
 /// A context of the case's length: the packet's length in front of a block, as much of the packet as there is room for, zeros.
-fn filled(alloc: Global, case: Case<'_>, packet: &[u8]) -> Result<Vec<u8>, AllocError> {
+fn filled(alloc: Global, case: FilterCase<'_>, packet: &[u8]) -> Result<Vec<u8>, AllocError> {
     let mut context = Vec::new(alloc);
     let words = if matches!(case.form, Form::Extended) {
         WORDS
@@ -229,7 +229,7 @@ fn filled(alloc: Global, case: Case<'_>, packet: &[u8]) -> Result<Vec<u8>, Alloc
 /// Answers a line.
 pub fn answer(alloc: Global, out: &mut impl Write, line: &str) -> io::Result<()> {
     let mut words = line.split_whitespace();
-    let case = Case::of(&mut words);
+    let case = FilterCase::of(&mut words);
     let converted = match converted(alloc, case) {
         Ok(converted) => converted,
         Err(stop) => return tell_stop(out, stop),

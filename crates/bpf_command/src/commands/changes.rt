@@ -22,6 +22,7 @@ fn word_of(change: Change) -> &'static str {
         Change::Access => "access",
         Change::Widened => "widened",
         Change::Offset => "offset",
+        Change::Order => "order",
         Change::Always => "always",
         Change::Returned => "returned",
         Change::Trap => "trap",

@@ -4,7 +4,8 @@ use Rattle.bpf_insn.specs.Instruction.{register_number}
 use Rattle.bpf_state.specs.State.{value_slot, with_register, with_slot}
 use Rattle.bpf_state.specs.declared.known.Place.TheVariants.{Register, Slot}
 use Rattle.bpf_cert.proofs.Bools.{both_true}
-use Rattle.bpf_cert.proofs.BuildingLemmas.{contents_register, contents_slot, front_length, register_unsaid, slot_unsaid, puts}
+use Rattle.bpf_cert.proofs.BuildingLemmas.{contents_register, contents_slot, register_unsaid, slot_unsaid, puts}
+use Rattle.bpf_cert.proofs.WritingLemmas.{front_length}
 use Rattle.bpf_cert.proofs.sound.SoundStates.{state_register, state_slot}
 use Rattle.bpf_cert.proofs.building.Builder.put.Goals as goal
 
