@@ -12,8 +12,8 @@ use Rattle.bpf_kept.specs.Matching.{StandsForExit}
 use Rattle.bpf_kept.proofs.Law.{matching_keeps_flat_meaning}
 
 pub certified_keeps_flat_meaning : CertifiedIsSafe → CertifiedKeepsFlatMeaning
-certified_keeps_flat_meaning safe old new notes bounds c old_valid new_valid limits certified least most plain matches =
-    matching_keeps_flat_meaning old new notes bounds old_valid new_valid plain matches
+certified_keeps_flat_meaning safe old new notes bounds c old_valid new_valid limits certified least most matches =
+    matching_keeps_flat_meaning old new notes bounds old_valid new_valid matches
     (λ context k s bytes long run stuck. (safe new c new_valid limits certified).never_stuck context k s (record { bytes = bytes; length_within = (subst (λ n. c.least ≤ n) (sym long) least, subst (λ n. n ≤ c.most) (sym long) most) }) run stuck)
 
 -- a run that is longer has a step there

@@ -14,7 +14,8 @@ use Rattle.bpf_kept.specs.Anywhere.{IsFar, turns_along, EndsAnyhow}
 use Rattle.bpf_kept.specs.Laws.{NearAndWideAreFar, ZeroRunEnds, FlatMeaningIsFar}
 use Rattle.bpf_kept.proofs.FarLaw.{far_frame, far_is_placement}
 use Rattle.bpf_kept.proofs.ZeroLaw.{zero_start_fits, zero_step_is_step}
-use Rattle.bpf_kept.proofs.ExactLaw.{step_some, given_is}
+use Rattle.bpf_kept.proofs.ExactLaw.{step_some}
+use Rattle.bpf_kept.proofs.PacketLaw.{given_is}
 
 -- ---- the two placements
 

@@ -1,5 +1,5 @@
 -- What the simulation is given: both programs, notes that match, a context, the old program's two runs, and that the new one is never stuck.
-use Rattle.std.proofs.Common.{◌≡◌, ℕ, false, List, length}
+use Rattle.std.proofs.Common.{◌≡◌, ℕ, ◌+◌, List, length}
 use Rattle.bpf_insn.specs.Image.{IsProgram}
 use Rattle.bpf_insn.specs.Laws.{AreBytes}
 use Rattle.bpf_insn.specs.declared.order.Order.{Order}
@@ -7,8 +7,9 @@ use Rattle.bpf_insn.specs.declared.instruction.Insn.{Insn}
 use Rattle.bpf_semantics.specs.State.{State, start}
 use Rattle.bpf_semantics.specs.Step.{IsStuck}
 use Rattle.bpf_semantics.specs.Run.{Steps}
-use Rattle.bpf_kept.specs.Far.{near, wide}
-use Rattle.bpf_kept.specs.Meaning.{Bounds, FlatEnds}
+use Rattle.bpf_kept.specs.Far.{middle, bytes_before, near, wide}
+use Rattle.bpf_kept.specs.Meaning.{Bounds, FlatEnds, AreGiven}
+use Rattle.bpf_kept.specs.Terms.{Packet}
 use Rattle.bpf_kept.specs.Matching.{Notes, Matches}
 use Rattle.bpf_kept.proofs.Simulation.{program}
 
@@ -20,13 +21,19 @@ pub record Setting : Type 0 where
   pub bounds : Bounds
   pub old_valid : IsProgram is
   pub new_valid : IsProgram js
-  pub matches : Matches (program order is) (program order js) notes bounds.length
+  pub matches : Matches (program order is) (program order js) notes bounds
+  pub own : List ℕ
   pub context : List ℕ
+  pub own_is : AreGiven bounds.padded order own context
   pub bytes : AreBytes context
   pub long : length context ≡ bounds.length
   pub never : (k : ℕ) (s : State) → Steps (program order js) k (start context) s → IsStuck (program order js) s → ⊥
   pub v : ℕ
   pub k : ℕ
   pub l : ℕ
-  pub near_ends : FlatEnds (near false) (program order is) context bounds v k
-  pub wide_ends : FlatEnds (wide false) (program order is) context bounds v l
+  pub near_ends : FlatEnds (near bounds.padded) (program order is) own bounds v k
+  pub wide_ends : FlatEnds (wide bounds.padded) (program order is) own bounds v l
+
+-- what the old program is given
+abbrev pub packet_of : Setting → Packet
+packet_of given = record { first = middle + bytes_before given.bounds.padded; length = length given.own }

@@ -1,7 +1,7 @@
 -- The simulation: by induction on the old program's two runs, each step of which the new program follows by extra instructions and one of its own.
-use Rattle.std.proofs.Common.{◌≡◌, ℕ, zero, suc, ◌+◌, ◌*◌, ◌^◌, ◌<◌, ◌≤◌, refl, sym, ap, ap₂, ◌∙◌, subst, arith, Bool, true, false, List, [], ◌∷◌, length, Option, Some, None, cond}
-use Rattle.std.specs.Prelude.{ℤ, pos, ltb, option_and_then, option_map}
-use Rattle.std.proofs.lemmas.Bool.{cond-true, cond-false, le-ltb, false≢true}
+use Rattle.std.proofs.Common.{◌≡◌, ◌⊎◌, inl, inr, ℕ, zero, suc, ◌+◌, ◌*◌, ◌^◌, ◌<◌, ◌≤◌, refl, sym, ap, ap₂, ◌∙◌, subst, arith, Bool, true, false, List, [], ◌∷◌, length, Option, Some, None, cond}
+use Rattle.std.specs.Prelude.{ℤ, pos, ◌&&◌, ◌||◌, ltb, option_and_then, option_map}
+use Rattle.std.proofs.lemmas.Bool.{and_parts, cond-true, cond-false, le-ltb, false≢true}
 use Rattle.std.proofs.lemmas.Option.{none-some, option_and_then_some}
 use Rattle.std.specs.List.{list_any}
 use Rattle.bpf_insn.specs.Arithmetic.{extended, jumps}
@@ -12,11 +12,11 @@ use Rattle.bpf_insn.specs.declared.order.Order.{Order}
 use Rattle.bpf_insn.specs.declared.instruction.Reg.{Reg}
 use Rattle.bpf_insn.specs.declared.instruction.Reg.TheVariants.{R0}
 use Rattle.bpf_insn.specs.declared.instruction.Operand.{Operand}
-use Rattle.bpf_insn.specs.declared.instruction.Operand.TheVariants.{Imm}
+use Rattle.bpf_insn.specs.declared.instruction.Operand.TheVariants.{Imm, Reg as FromReg}
 use Rattle.bpf_insn.specs.declared.instruction.Width.{Width}
 use Rattle.bpf_insn.specs.declared.instruction.Width.TheVariants.{W64}
 use Rattle.bpf_insn.specs.declared.instruction.Cond.{Cond}
-use Rattle.bpf_insn.specs.declared.instruction.Cond.TheVariants.{Gt}
+use Rattle.bpf_insn.specs.declared.instruction.Cond.TheVariants.{Gt, Lt}
 use Rattle.bpf_insn.specs.declared.instruction.Insn.{Insn}
 use Rattle.bpf_insn.specs.declared.instruction.Insn.TheVariants.{Ja, JaLong, JumpIf, CallLocal, Exit}
 use Rattle.bpf_semantics.specs.State.{State, StackFrame, IsState, start, register, number_of_register}
@@ -35,10 +35,10 @@ use Rattle.bpf_semantics.proofs.StateLemmas.{exit_is, left_is, value_fits, opera
 use Rattle.bpf_kept.specs.Zero.{zero_does}
 use Rattle.bpf_kept.specs.Terms.{Facts}
 use Rattle.bpf_kept.specs.Rules.{put_into, undirected, is_jump}
-use Rattle.bpf_kept.specs.Guards.{Front, guarded, passes}
+use Rattle.bpf_kept.specs.Guards.{Front, guarded, guards_sum, has_end, register_reached, number_reached, guarded_below, passes}
 use Rattle.bpf_kept.specs.Meaning.{most_for_one}
 use Rattle.bpf_kept.specs.Matching.{most_extras, most_at_start, led}
-use Rattle.bpf_kept.proofs.PutLaw.{put_value}
+use Rattle.bpf_kept.proofs.PutValue.{put_value}
 
 -- ---- instructions that neither call nor exit
 
@@ -69,31 +69,73 @@ no_waiting place (w ∷ ws) [] h e = absurd h
 no_waiting place (w ∷ ws) (r ∷ rs) h e = let bad : suc (length rs) ≡ 0 = ap length e in absurd (omega arith)
 
 -- what a guard tests is a number, or the machine would be stuck
-tests_number : (a : Value) (y : ℕ) (taken : Bool) → test_of_values W64 Gt a (Number y) ≡ Some taken → (x : ℕ) × (a ≡ Number x)
-tests_number (Number x) y taken e = (x, refl)
-tests_number (Pointer region off) y taken e = absurd (none-some _ e)
+tests_number : (a b : Value) (taken : Bool) → test_of_values W64 Gt a b ≡ Some taken → (x : ℕ) × (a ≡ Number x)
+tests_number (Number x) b taken e = (x, refl)
+tests_number (Pointer region off) (Number y) taken e = absurd (none-some _ e)
+tests_number (Pointer region off) (Pointer other at) taken e = absurd (none-some _ e)
 
-pub guard_number : (order : Order) (s t : State) (dst : Reg) (imm off : ℤ) → does order (JumpIf Gt W64 dst (Imm imm) off) s ≡ Some t → (x : ℕ) × (register s dst ≡ Some (Number x))
+pub guard_number : (order : Order) (s t : State) (dst : Reg) (src : Operand) (off : ℤ) → does order (JumpIf Gt W64 dst src off) s ≡ Some t → (x : ℕ) × (register s dst ≡ Some (Number x))
 unfolding does
-guard_number order s t dst imm off e =
-    option_and_then_some _ (register s dst) t e (λ a ea e1. option_and_then_some _ (test_of_values W64 Gt a (Number (extended imm))) t e1 (λ taken et e2.
-    let n = tests_number a (extended imm) taken et in (n.0, ea ∙ ap Some n.1)))
+guard_number order s t dst src off e =
+    option_and_then_some _ (register s dst) t e (λ a ea e1. option_and_then_some _ (operand s src) t e1 (λ b eb e2. option_and_then_some _ (test_of_values W64 Gt a b) t e2 (λ taken et e3.
+    let n = tests_number a b taken et in (n.0, ea ∙ ap Some n.1))))
 
 pub record IsGuard (front : Front) (facts : Facts) (m : Insn) : Type 0 where
   pub dst : Reg
   pub imm : ℤ
   pub off : ℤ
   pub is : m ≡ JumpIf Gt W64 dst (Imm imm) off
-  pub tested : list_any (guarded front dst (extended imm)) facts ≡ true
+  pub tested : (list_any (guarded front dst (extended imm)) facts || guards_sum front facts dst (extended imm)) ≡ true
 
-pub guard_is : (front : Front) (facts : Facts) (m : Insn) → passes front facts m ≡ true → IsGuard front facts m
+-- by the packet's end
+pub record IsEndGuard (front : Front) (facts : Facts) (m : Insn) : Type 0 where
+  pub dst : Reg
+  pub src : Reg
+  pub off : ℤ
+  pub is : m ≡ JumpIf Gt W64 dst (FromReg src) off
+  pub ends : has_end facts src ≡ true
+  pub reached : list_any (register_reached front dst) facts ≡ true
+
+-- of the packet's end, or against low offsets
+pub record IsLeastGuard (front : Front) (facts : Facts) (m : Insn) : Type 0 where
+  pub dst : Reg
+  pub imm : ℤ
+  pub off : ℤ
+  pub is : m ≡ JumpIf Lt W64 dst (Imm imm) off
+  pub tested : ((has_end facts dst && list_any (number_reached front (extended imm)) facts) || list_any (guarded_below front dst (extended imm)) facts) ≡ true
+
+pub guard_is : (front : Front) (facts : Facts) (m : Insn) → passes front facts m ≡ true → IsGuard front facts m ⊎ (IsEndGuard front facts m ⊎ IsLeastGuard front facts m)
 unfolding passes
-guard_is front facts (JumpIf Gt W64 dst (Imm imm) off) e = record { dst = dst; imm = imm; off = off; is = refl; tested = e }
+guard_is front facts (JumpIf Gt W64 dst (Imm imm) off) e = inl (record { dst = dst; imm = imm; off = off; is = refl; tested = e })
+guard_is front facts (JumpIf Gt W64 dst (FromReg src) off) e =
+    let c = and_parts (has_end facts src) (list_any (register_reached front dst) facts) e in
+    inr (inl (record { dst = dst; src = src; off = off; is = refl; ends = c.0; reached = c.1 }))
+guard_is front facts (JumpIf Lt W64 dst (Imm imm) off) e = inr (inr (record { dst = dst; imm = imm; off = off; is = refl; tested = e }))
 guard_is front facts m e = absurd (false≢true e)
+
+pub end_does : (order : Order) (dst src : Reg) (off : ℤ) (g : FlatState) → flat_register g dst ≤ flat_register g src → flat_does order (JumpIf Gt W64 dst (FromReg src) off) g ≡ Some (flat_next (JumpIf Gt W64 dst (FromReg src) off) g)
+unfolding flat_does
+end_does order dst src off g le = cond-false (ltb (flat_register g src) (flat_register g dst)) (flat_jump g off) (Some (flat_next (JumpIf Gt W64 dst (FromReg src) off) g)) (le-ltb (flat_register g src) (flat_register g dst) le)
+
+pub least_does : (order : Order) (dst : Reg) (imm off : ℤ) (g : FlatState) → extended imm ≤ flat_register g dst → flat_does order (JumpIf Lt W64 dst (Imm imm) off) g ≡ Some (flat_next (JumpIf Lt W64 dst (Imm imm) off) g)
+unfolding flat_does
+least_does order dst imm off g le = cond-false (ltb (flat_register g dst) (extended imm)) (flat_jump g off) (Some (flat_next (JumpIf Lt W64 dst (Imm imm) off) g)) (le-ltb (flat_register g dst) (extended imm) le)
 
 pub guard_does : (order : Order) (dst : Reg) (imm off : ℤ) (g : FlatState) → flat_register g dst ≤ extended imm → flat_does order (JumpIf Gt W64 dst (Imm imm) off) g ≡ Some (flat_next (JumpIf Gt W64 dst (Imm imm) off) g)
 unfolding flat_does
 guard_does order dst imm off g le = cond-false (ltb (extended imm) (flat_register g dst)) (flat_jump g off) (Some (flat_next (JumpIf Gt W64 dst (Imm imm) off) g)) (le-ltb (extended imm) (flat_register g dst) le)
+
+-- so is what is tested for being less
+less_number : (a b : Value) (taken : Bool) → test_of_values W64 Lt a b ≡ Some taken → (x : ℕ) × (a ≡ Number x)
+less_number (Number x) b taken e = (x, refl)
+less_number (Pointer region off) (Number y) taken e = absurd (none-some _ e)
+less_number (Pointer region off) (Pointer other at) taken e = absurd (none-some _ e)
+
+pub least_number : (order : Order) (s t : State) (dst : Reg) (imm off : ℤ) → does order (JumpIf Lt W64 dst (Imm imm) off) s ≡ Some t → (x : ℕ) × (register s dst ≡ Some (Number x))
+unfolding does
+least_number order s t dst imm off e =
+    option_and_then_some _ (register s dst) t e (λ a ea e1. option_and_then_some _ (test_of_values W64 Lt a (Number (extended imm))) t e1 (λ taken et e2.
+    let n = less_number a (Number (extended imm)) taken et in (n.0, ea ∙ ap Some n.1)))
 
 -- what an exact test answers
 pub record Answers (s : State) (cond : Cond) (width : Width) (dst : Reg) (src : Operand) : Type 0 where
@@ -235,6 +277,12 @@ module _ (order : Order) (js : List Insn) (valid : IsProgram js) (context : List
   exits_there : (s : State) (m : Insn) (v : ℕ) → insn_at js s.top.slot ≡ Some m → Finish new s v → (s.waiting ≡ []) × (m ≡ Exit) × (number_of_register s R0 ≡ Some v)
   unfolding finish_of
   exits_there s m v stands finish = exit_is s.waiting (number_of_register s R0) m v (ap (option_and_then (λ i. result_of_exit s.waiting (number_of_register s R0) i)) (sym stands) ∙ finish)
+
+  pub new_state : (n : ℕ) (s : State) → Steps new n (start context) s → IsState s
+  new_state n s run = state_is n s run
+
+  pub new_placed : (place : Placement) (n : ℕ) (s : State) → Steps new n (start context) s → IsPlacement (length context) place → IsPlacement (length s.context) place
+  new_placed place n s run placed = subst (λ c. IsPlacement (length c) place) (sym (context_same n s run)) placed
 
   -- it isn't stuck, so it steps
   pub steps_on : (n : ℕ) (s : State) (m : Insn) → Steps new n (start context) s → insn_at js s.top.slot ≡ Some m → (m ≡ Exit → ⊥) → (t : State) × Step new s t

@@ -277,7 +277,7 @@ start_fits place context (suc (suc (suc (suc (suc (suc (suc (suc (suc zero))))))
 start_fits place context (suc (suc (suc (suc (suc (suc (suc (suc (suc (suc zero)))))))))) h = omega arith
 start_fits place context (suc (suc (suc (suc (suc (suc (suc (suc (suc (suc (suc r))))))))))) h = absurd (omega arith)
 
-start_memory : (place : Placement) (context : List ℕ) (j : ℕ) → j < length context → zero_memory place context (place.context + j) ≡ slice_index context j
+pub start_memory : (place : Placement) (context : List ℕ) (j : ℕ) → j < length context → zero_memory place context (place.context + j) ≡ slice_index context j
 start_memory place context j h =
     let low : leb place.context (place.context + j) ≡ true = le-leb place.context (place.context + j) (omega arith) in
     let high : ltb (place.context + j) (place.context + length context) ≡ true = lt-ltb (place.context + j) (place.context + length context) (omega arith) in

@@ -8,10 +8,14 @@ use Rattle.bpf_semantics.specs.Blocks.{head_bytes}
 abbrev pub middle : ℕ
 middle = 2 ^ 63
 
+-- so many bytes of a block lie before the packet
+abbrev pub bytes_before : Bool → ℕ
+bytes_before padded = if padded then head_bytes else 0
+
 abbrev pub far_placement : Bool → ℕ → Placement
 far_placement padded gap =
     record {
-      context = middle + (if padded then head_bytes else 0);
+      context = middle + bytes_before padded;
       frames = gap * 1 ∷ gap * 2 ∷ gap * 3 ∷ gap * 4 ∷ gap * 5 ∷ gap * 6 ∷ gap * 7 ∷ gap * 8 ∷ [];
     }
 

@@ -8,15 +8,19 @@ use Rattle.bpf_insn.specs.Effects.{Access, access_of, register_written}
 use Rattle.bpf_insn.specs.Limits.{frame_bytes}
 use Rattle.bpf_insn.specs.Instruction.{Instructions, register_number, byte_count, slot_count, insn_at, is_straight}
 use Rattle.bpf_insn.specs.declared.instruction.Reg.{Reg}
-use Rattle.bpf_insn.specs.declared.instruction.Operand.TheVariants.{Imm}
+use Rattle.bpf_insn.specs.declared.instruction.Operand.TheVariants.{Imm, Reg as FromReg}
 use Rattle.bpf_insn.specs.declared.instruction.Width.TheVariants.{W64}
-use Rattle.bpf_insn.specs.declared.instruction.Cond.TheVariants.{Gt}
+use Rattle.bpf_insn.specs.declared.instruction.AluOp.TheVariants.{Add}
+use Rattle.bpf_insn.specs.declared.instruction.Cond.TheVariants.{Gt, Lt}
 use Rattle.bpf_insn.specs.declared.instruction.Insn.{Insn}
-use Rattle.bpf_insn.specs.declared.instruction.Insn.TheVariants.{JumpIf}
+use Rattle.bpf_insn.specs.declared.instruction.Insn.TheVariants.{Alu, JumpIf}
+use Rattle.bpf_semantics.specs.Blocks.{head_bytes}
 use Rattle.bpf_semantics.specs.Flat.{addresses}
-use Rattle.bpf_kept.specs.Far.{middle}
+use Rattle.bpf_kept.specs.Far.{middle, bytes_before}
 use Rattle.bpf_kept.specs.Terms.{Facts}
-use Rattle.bpf_kept.specs.Rules.{is_register}
+use Rattle.bpf_kept.specs.Rules.{same_register, is_holder, is_register, is_same, pinned, of_number}
+use Rattle.bpf_kept.specs.declared.notes.Holder.{Holder}
+use Rattle.bpf_kept.specs.declared.notes.Holder.TheVariants.{Register, Slot, Length}
 use Rattle.bpf_kept.specs.declared.notes.Term.{Term}
 use Rattle.bpf_kept.specs.declared.notes.Fact.{Fact}
 use Rattle.bpf_kept.specs.declared.notes.Need.{Need}
@@ -44,11 +48,12 @@ farthest_ahead = 33
 
 -- ---- the guard's rule
 
--- In front of which old instruction it stands, and how many bytes a context has.
+-- In front of which old instruction it stands, and how many bytes a context has, or a block.
 pub record Front : Type 0 where
   pub old : Instructions
   pub slot : ℕ
   pub length : ℕ
+  pub padded : Bool
 
 abbrev pub is_met : Need → Access → Bool
 is_met (Below offset) a = int_le a.offset offset
@@ -68,12 +73,79 @@ is_tested_by front limit t r =
     (t.frames == 0 && are_accessed front front.length limit (cast_signed w64 ((t.moved + middle) % addresses)) r)
     || (t.frames == 1 && are_accessed front frame_bytes limit (cast_signed w64 (t.moved % addresses)) r)
 
+abbrev pub is_tested_in : Front → ℕ → Term → Holder → Bool
+is_tested_in front limit t (Register r) = is_tested_by front limit t r
+is_tested_in front limit t h = false
+
 abbrev pub is_tested : Front → ℕ → Fact → Bool
-is_tested front limit fact = option_map_or (λ t. option_map_or (is_tested_by front limit t) fact.base false) fact.by false
+is_tested front limit fact = option_map_or (λ t. option_map_or (is_tested_in front limit t) fact.base false) fact.by false
 
 abbrev pub guarded : Front → Reg → ℕ → Fact → Bool
 guarded front dst limit fact = is_register dst fact.of && is_tested front limit fact
 
+-- A number is tested, and then the old program adds it to a pointer whose address is known. So the number is the pointer behind the sum, moved. Of a
+-- pointer that an index has moved before, the number alone says nothing.
+abbrev pub is_added : Front → Facts → Reg → ℕ → Insn → Bool
+is_added front facts dst limit (Alu Add W64 to (FromReg r)) =
+    same_register r dst && (is_same facts dst && option_map_or (λ t. is_tested_by (record { old = front.old; slot = front.slot + 1; length = front.length; padded = front.padded }) limit t to) (pinned facts (Register to)) false)
+is_added front facts dst limit i = false
+
+unfoldable pub guards_sum : Front → Facts → Reg → ℕ → Bool
+guards_sum front facts dst limit = option_map_or (is_added front facts dst limit) (insn_at front.old.list front.slot) false
+
+-- ---- guards against low offsets
+
+-- An access by the pointer begins so low in what is given that the number which is tested isn't below the limit.
+abbrev pub is_low_access : Front → ℕ → ℕ → ℤ → Reg → Bool
+is_low_access front before limit moved r = is_ahead front.old r front.slot (Below ((moved +ℤ pos before) -ℤ pos limit))
+
+abbrev pub is_least_by : Front → ℕ → Term → Reg → Bool
+is_least_by front limit t r =
+    (t.frames == 0 && is_low_access front (bytes_before front.padded) limit (cast_signed w64 ((t.moved + middle) % addresses)) r)
+    || (t.frames == 1 && is_low_access front 0 limit (cast_signed w64 (t.moved % addresses)) r)
+
+abbrev pub is_least_in : Front → ℕ → Term → Holder → Bool
+is_least_in front limit t (Register r) = is_least_by front limit t r
+is_least_in front limit t h = false
+
+abbrev pub is_least : Front → ℕ → Fact → Bool
+is_least front limit fact = option_map_or (λ t. option_map_or (is_least_in front limit t) fact.base false) fact.by false
+
+abbrev pub guarded_below : Front → Reg → ℕ → Fact → Bool
+guarded_below front dst limit fact = is_register dst fact.of && is_least front limit fact
+
+-- ---- guards by where the packet ends, which the new program keeps as an offset into the block
+
+-- it is there: the packet's length, behind the head
+abbrev pub is_end_term : Term → Bool
+is_end_term t = t.frames == 0 && t.moved == head_bytes
+
+abbrev pub is_end : Reg → Fact → Bool
+is_end r fact = is_register r fact.of && (is_holder Length fact.base && option_map_or is_end_term fact.by false)
+
+unfoldable pub has_end : Facts → Reg → Bool
+has_end facts r = list_any (is_end r) facts
+
+-- The offset of a pointer, moved, isn't behind that end: an access by the pointer begins there or below, and one ends there or behind.
+abbrev pub is_reached_by : Front → ℤ → Reg → Bool
+is_reached_by front moved r = is_ahead front.old r front.slot (Below moved) && is_ahead front.old r front.slot (Above moved)
+
+abbrev pub is_reached_in : Front → Term → Holder → Bool
+is_reached_in front t (Register r) = t.frames == 0 && is_reached_by front (cast_signed w64 ((t.moved + middle) % addresses)) r
+is_reached_in front t h = false
+
+abbrev pub is_reached : Front → Fact → Bool
+is_reached front fact = option_map_or (λ t. option_map_or (is_reached_in front t) fact.base false) fact.by false
+
+-- what a register has, and a constant
+abbrev pub register_reached : Front → Reg → Fact → Bool
+register_reached front dst fact = is_register dst fact.of && is_reached front fact
+
+abbrev pub number_reached : Front → ℕ → Fact → Bool
+number_reached front n fact = option_map_or (is_reached front) (of_number n fact) false
+
 unfoldable pub passes : Front → Facts → Insn → Bool
-passes front facts (JumpIf Gt W64 dst (Imm imm) off) = list_any (guarded front dst (extended imm)) facts
+passes front facts (JumpIf Gt W64 dst (Imm imm) off) = list_any (guarded front dst (extended imm)) facts || guards_sum front facts dst (extended imm)
+passes front facts (JumpIf Gt W64 dst (FromReg src) off) = has_end facts src && list_any (register_reached front dst) facts
+passes front facts (JumpIf Lt W64 dst (Imm imm) off) = (has_end facts dst && list_any (number_reached front (extended imm)) facts) || list_any (guarded_below front dst (extended imm)) facts
 passes front facts i = false

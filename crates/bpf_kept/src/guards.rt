@@ -1,6 +1,6 @@
 //! Guards: extra tests that never lead to their trap, since an access of the old program surely follows.
 
-ghost use Rattle.std.specs.Prelude.{◌≡◌, ◌==◌, ◌+◌, ◌%◌, pos, ◌+ℤ◌, ◌-ℤ◌, false};
+ghost use Rattle.std.specs.Prelude.{◌≡◌, ◌==◌, ◌+◌, ◌%◌, ◌<◌, ◌&&◌, ◌||◌, ℤ, pos, ◌+ℤ◌, ◌-ℤ◌, false};
 ghost use Rattle.std.specs.Option.{option_map_or};
 ghost use Rattle.bpf_insn.specs.Arithmetic.{extended};
 ghost use Rattle.bpf_insn.specs.Effects.{register_written};
@@ -10,22 +10,31 @@ ghost use Rattle.std.specs.List.{list_any};
 ghost use Rattle.bpf_semantics.specs.Flat.{addresses};
 ghost use Rattle.bpf_kept.specs.Far.{middle};
 ghost use Rattle.bpf_kept.specs.Fronts.{front};
-ghost use Rattle.bpf_kept.specs.Guards.{if_by, accesses_by, is_passed, is_met, is_ahead, are_accessed, is_tested_by, is_tested, guarded, passes};
+ghost use Rattle.bpf_kept.specs.Guards.{if_by, accesses_by, is_passed, is_met, is_ahead, are_accessed, is_tested_by, is_tested, guarded, is_added, guards_sum, is_low_access, is_least_by, is_least, guarded_below, is_end_term, is_end, has_end, is_reached_by, is_reached, register_reached, number_reached, passes};
+ghost use Rattle.bpf_kept.specs.Rules.{pinned};
+ghost use Rattle.bpf_kept.specs.declared.notes.Holder.TheVariants.{Register};
+ghost use Rattle.bpf_insn.specs.declared.instruction.Width.TheVariants.{W64};
+ghost use Rattle.bpf_insn.specs.declared.instruction.Insn.TheVariants.{JumpIf};
+ghost use Rattle.bpf_insn.specs.Limits.{max_slots};
 
 use crate::code::insn_at;
-use crate::facts::{is_register, same_register};
-use crate::notes::{Fact, Need, Term};
+use crate::cut::bytes_before;
+use crate::facts::{is_holder, is_register, is_same, pinned, same_register};
+use crate::made::of_number;
+use crate::notes::{Fact, Holder, Need, Term};
 use crate::terms::MIDDLE;
-use bpf_insn::{Access, Code, Cond, FRAME_BYTES, Insn, Operand, Reg, Size, Width, extended};
+use bpf_insn::{Access, AluOp, Code, Cond, FRAME_BYTES, Insn, Operand, Reg, Size, Width, extended};
+use bpf_semantics::HEAD_BYTES;
 
 /// How many instructions are looked at.
 const FARTHEST_AHEAD: u32 = 33;
 
-/// In front of which old instruction a guard stands, and how many bytes a context has.
+/// In front of which old instruction a guard stands, and how many bytes a context has, or a block.
 #[derive(Clone, Copy)]
 pub struct GuardSite {
     pub slot: u32,
     pub length: u32,
+    pub padded: bool,
 }
 
 // ---- accesses that surely follow
@@ -42,7 +51,7 @@ fn is_met(need: Need, access: Access) -> bool
     ensures { result ≡ is_met need access }
 {
     match need {
-        Need::Below { offset } => i64::from(access.off) <= offset,
+        Need::Below { offset } => i128::from(access.off) <= offset,
         Need::Above { offset } => offset <= end_of(access.off, access.size),
     }
 }
@@ -123,10 +132,10 @@ struct Tested {
 
 /// Whether accesses follow that keep the number within the limit.
 fn are_accessed<C: Code>(old: &C, site: GuardSite, tested: Tested, r: Reg) -> bool
-    ensures { result ≡ are_accessed (front (C.program old.now) site.slot site.length) tested.size tested.limit tested.moved r }
+    ensures { result ≡ are_accessed (front (C.program old.now) site.slot site.length site.padded) tested.size tested.limit tested.moved r }
 {
     let below = Need::Below {
-        offset: tested.moved,
+        offset: i128::from(tested.moved),
     };
     let above = Need::Above {
         offset: needed_end(tested.size, tested.moved, tested.limit),
@@ -150,7 +159,7 @@ fn of_frame(moved: u64) -> i64
 
 /// Whether a number passes that is so far from a pointer of the old program.
 fn is_tested_by<C: Code>(old: &C, site: GuardSite, limit: u64, t: Term, r: Reg) -> bool
-    ensures { result ≡ is_tested_by (front (C.program old.now) site.slot site.length) limit t r }
+    ensures { result ≡ is_tested_by (front (C.program old.now) site.slot site.length site.padded) limit t r }
 {
     let context = Tested {
         size: site.length,
@@ -168,45 +177,313 @@ fn is_tested_by<C: Code>(old: &C, site: GuardSite, limit: u64, t: Term, r: Reg) 
 
 /// Whether a number passes of which a fact is known.
 fn is_tested<C: Code>(old: &C, site: GuardSite, limit: u64, fact: Fact) -> bool
-    ensures { result ≡ is_tested (front (C.program old.now) site.slot site.length) limit fact }
+    ensures { result ≡ is_tested (front (C.program old.now) site.slot site.length site.padded) limit fact }
 {
     match (fact.by, fact.base) {
-        (Some(t), Some(r)) => is_tested_by(old, site, limit, t, r),
+        (Some(t), Some(Holder::Register(r))) => is_tested_by(old, site, limit, t, r),
         _ => false,
     }
 }
 
 /// Whether a register passes by a fact of it.
 fn guarded<C: Code>(old: &C, site: GuardSite, dst: Reg, limit: u64, fact: Fact) -> bool
-    ensures { result ≡ guarded (front (C.program old.now) site.slot site.length) dst limit fact }
+    ensures { result ≡ guarded (front (C.program old.now) site.slot site.length site.padded) dst limit fact }
 {
     is_register(dst, fact.of) && is_tested(old, site, limit, fact)
 }
 
-/// Whether a register is known to be no greater than a constant.
-fn is_below<C: Code>(old: &C, site: GuardSite, facts: &[Fact], dst: Reg, imm: i32) -> bool
-    ensures { result ≡ list_any (guarded (front (C.program old.now) site.slot site.length) dst (extended imm)) facts.now }
+/// A register, and the greatest number of it that passes.
+#[derive(Clone, Copy)]
+struct TestedRegister {
+    dst: Reg,
+    limit: u64,
+}
+
+/// Whether a register is known to be no greater than what passes.
+fn is_below<C: Code>(old: &C, site: GuardSite, facts: &[Fact], tested: TestedRegister) -> bool
+    ensures { result ≡ list_any (guarded (front (C.program old.now) site.slot site.length site.padded) tested.dst tested.limit) facts.now }
 {
-    let limit = extended(imm);
     facts
         .iter()
-        .any(|fact| guarded(old, site, dst, limit, *fact))
+        .any(|fact| guarded(old, site, tested.dst, tested.limit, *fact))
+}
+
+/// Whether the sum of a pointer, whose address is known, and a number passes.
+fn is_sum_tested<C: Code>(old: &C, site: GuardSite, facts: &[Fact], limit: u64, to: Reg) -> bool
+    requires { site.slot < max_slots }
+    ensures { result ≡ option_map_or (λ t. is_tested_by (front (C.program old.now) (site.slot + 1) site.length site.padded) limit t to) (pinned facts.now (Register to)) false }
+{
+    let behind = GuardSite {
+        slot: site.slot + 1,
+        length: site.length,
+        padded: site.padded,
+    };
+    match pinned(facts, Holder::Register(to)) {
+        Some(t) => is_tested_by(old, behind, limit, t, to),
+        None => false,
+    }
+}
+
+/// Whether an old instruction adds what is tested to a pointer, and the sum passes.
+fn is_added<C: Code>(
+    old: &C,
+    site: GuardSite,
+    facts: &[Fact],
+    tested: TestedRegister,
+    insn: &Insn,
+) -> bool
+    requires { site.slot < max_slots }
+    ensures { result ≡ is_added (front (C.program old.now) site.slot site.length site.padded) facts.now tested.dst tested.limit insn.now }
+{
+    let Insn::Alu {
+        op: AluOp::Add,
+        width: Width::W64,
+        dst: to,
+        src: Operand::Reg(r),
+    } = *insn
+    else {
+        return false;
+    };
+    same_register(r, tested.dst)
+        && is_same(facts, tested.dst)
+        && is_sum_tested(old, site, facts, tested.limit, to)
+}
+
+/// Whether the old instruction that the guard stands in front of does.
+#[tactic(auto, unfolding(crate::specs::Guards::guards_sum))]
+fn guards_sum<C: Code>(old: &C, site: GuardSite, facts: &[Fact], tested: TestedRegister) -> bool
+    ensures { result ≡ guards_sum (front (C.program old.now) site.slot site.length site.padded) facts.now tested.dst tested.limit }
+{
+    match insn_at(old, site.slot) {
+        Some(insn) => is_added(old, site, facts, tested, &insn),
+        None => false,
+    }
+}
+
+// ---- against low offsets
+
+/// Where an access has to begin, so that a number isn't below the limit that is moved so from its offset.
+fn needed_start(before: u64, moved: i64, limit: u64) -> i128
+    ensures { result ≡ ((moved +ℤ pos before) -ℤ pos limit) }
+{
+    i128::from(moved) + i128::from(before) - i128::from(limit)
+}
+
+/// What a guard tests: a number by how much a pointer's offset is moved, behind so many bytes that aren't given, and the least that passes.
+#[derive(Clone, Copy)]
+struct TestedLeast {
+    before: u64,
+    limit: u64,
+    moved: i64,
+}
+
+/// Whether an access follows that keeps the number from being below the limit.
+fn is_low_access<C: Code>(old: &C, site: GuardSite, tested: TestedLeast, r: Reg) -> bool
+    ensures { result ≡ is_low_access (front (C.program old.now) site.slot site.length site.padded) tested.before tested.limit tested.moved r }
+{
+    let begins = Need::Below {
+        offset: needed_start(tested.before, tested.moved, tested.limit),
+    };
+    is_ahead(old, site.slot, r, begins)
+}
+
+/// Whether a number isn't that is so far from a pointer of the old program.
+fn is_least_by<C: Code>(old: &C, site: GuardSite, limit: u64, t: Term, r: Reg) -> bool
+    ensures { result ≡ is_least_by (front (C.program old.now) site.slot site.length site.padded) limit t r }
+{
+    let context = TestedLeast {
+        before: bytes_before(site.padded),
+        limit,
+        moved: of_context(t.moved),
+    };
+    let frame = TestedLeast {
+        before: 0,
+        limit,
+        moved: of_frame(t.moved),
+    };
+    (t.frames == 0 && is_low_access(old, site, context, r))
+        || (t.frames == 1 && is_low_access(old, site, frame, r))
+}
+
+/// Whether a number isn't of which a fact is known.
+fn is_least<C: Code>(old: &C, site: GuardSite, limit: u64, fact: Fact) -> bool
+    ensures { result ≡ is_least (front (C.program old.now) site.slot site.length site.padded) limit fact }
+{
+    match (fact.by, fact.base) {
+        (Some(t), Some(Holder::Register(r))) => is_least_by(old, site, limit, t, r),
+        _ => false,
+    }
+}
+
+/// Whether a register isn't, by a fact of it.
+fn guarded_below<C: Code>(old: &C, site: GuardSite, dst: Reg, limit: u64, fact: Fact) -> bool
+    ensures { result ≡ guarded_below (front (C.program old.now) site.slot site.length site.padded) dst limit fact }
+{
+    is_register(dst, fact.of) && is_least(old, site, limit, fact)
+}
+
+/// Whether a register is known to be no less than what passes.
+fn is_above<C: Code>(old: &C, site: GuardSite, facts: &[Fact], dst: Reg, limit: u64) -> bool
+    ensures { result ≡ list_any (guarded_below (front (C.program old.now) site.slot site.length site.padded) dst limit) facts.now }
+{
+    facts
+        .iter()
+        .any(|fact| guarded_below(old, site, dst, limit, *fact))
+}
+
+// ---- by where the packet ends
+
+/// Whether a number is that end, by the packet's length: the head lies in front.
+fn is_end_term(t: Term) -> bool
+    ensures { result ≡ is_end_term t }
+{
+    t.frames == 0 && t.moved == u64::from(HEAD_BYTES)
+}
+
+/// Whether a fact says that a register has it.
+fn is_end(r: Reg, fact: Fact) -> bool
+    ensures { result ≡ is_end r fact }
+{
+    is_register(r, fact.of)
+        && is_holder(Holder::Length, fact.base)
+        && match fact.by {
+            Some(t) => is_end_term(t),
+            None => false,
+        }
+}
+
+/// Whether a register has it.
+#[tactic(auto, unfolding(crate::specs::Guards::has_end))]
+fn has_end(facts: &[Fact], r: Reg) -> bool
+    ensures { result ≡ has_end facts.now r }
+{
+    facts.iter().any(|fact| is_end(r, *fact))
+}
+
+/// Whether accesses follow that keep the offset of a pointer, moved so, from being behind that end.
+fn is_reached_by<C: Code>(old: &C, site: GuardSite, moved: i64, r: Reg) -> bool
+    ensures { result ≡ is_reached_by (front (C.program old.now) site.slot site.length site.padded) moved r }
+{
+    let begins = Need::Below {
+        offset: i128::from(moved),
+    };
+    let ends = Need::Above {
+        offset: i128::from(moved),
+    };
+    is_ahead(old, site.slot, r, begins) && is_ahead(old, site.slot, r, ends)
+}
+
+/// Whether a number isn't behind it of which a fact is known.
+fn is_reached<C: Code>(old: &C, site: GuardSite, fact: Fact) -> bool
+    ensures { result ≡ is_reached (front (C.program old.now) site.slot site.length site.padded) fact }
+{
+    match (fact.by, fact.base) {
+        (Some(t), Some(Holder::Register(r))) => {
+            t.frames == 0 && is_reached_by(old, site, of_context(t.moved), r)
+        }
+        _ => false,
+    }
+}
+
+/// Whether a register isn't, by a fact of it.
+fn register_reached<C: Code>(old: &C, site: GuardSite, dst: Reg, fact: Fact) -> bool
+    ensures { result ≡ register_reached (front (C.program old.now) site.slot site.length site.padded) dst fact }
+{
+    is_register(dst, fact.of) && is_reached(old, site, fact)
+}
+
+/// Whether a constant isn't, by what 0 is.
+fn number_reached<C: Code>(old: &C, site: GuardSite, n: u64, fact: Fact) -> bool
+    ensures { result ≡ number_reached (front (C.program old.now) site.slot site.length site.padded) n fact }
+{
+    match of_number(n, fact) {
+        Some(fact) => is_reached(old, site, fact),
+        None => false,
+    }
+}
+
+/// Whether a register isn't, by one of some facts.
+fn is_register_reached<C: Code>(old: &C, site: GuardSite, facts: &[Fact], dst: Reg) -> bool
+    ensures { result ≡ list_any (register_reached (front (C.program old.now) site.slot site.length site.padded) dst) facts.now }
+{
+    facts
+        .iter()
+        .any(|fact| register_reached(old, site, dst, *fact))
+}
+
+/// Whether a constant isn't, by one of some facts.
+fn is_number_reached<C: Code>(old: &C, site: GuardSite, facts: &[Fact], n: u64) -> bool
+    ensures { result ≡ list_any (number_reached (front (C.program old.now) site.slot site.length site.padded) n) facts.now }
+{
+    facts.iter().any(|fact| number_reached(old, site, n, *fact))
+}
+
+/// Whether a register passes that is tested against that end.
+fn passes_end<C: Code>(old: &C, site: GuardSite, facts: &[Fact], dst: Reg, end: Reg) -> bool
+    ensures { result ≡ (has_end facts.now end && list_any (register_reached (front (C.program old.now) site.slot site.length site.padded) dst) facts.now) }
+{
+    has_end(facts, end) && is_register_reached(old, site, facts, dst)
+}
+
+/// Whether that end passes, which is tested against a constant.
+fn passes_least<C: Code>(old: &C, site: GuardSite, facts: &[Fact], end: Reg, least: u64) -> bool
+    ensures { result ≡ (has_end facts.now end && list_any (number_reached (front (C.program old.now) site.slot site.length site.padded) least) facts.now) }
+{
+    has_end(facts, end) && is_number_reached(old, site, facts, least)
+}
+
+// ---- tests
+
+/// A test of 64 bits.
+#[derive(Clone, Copy)]
+struct Test {
+    cond: Cond,
+    dst: Reg,
+    src: Operand,
+}
+
+/// Whether a register passes that is tested against a constant.
+fn passes_limit<C: Code>(old: &C, site: GuardSite, facts: &[Fact], dst: Reg, limit: u64) -> bool
+    ensures { result ≡ (list_any (guarded (front (C.program old.now) site.slot site.length site.padded) dst limit) facts.now || guards_sum (front (C.program old.now) site.slot site.length site.padded) facts.now dst limit) }
+{
+    let tested = TestedRegister { dst, limit };
+    is_below(old, site, facts, tested) || guards_sum(old, site, facts, tested)
+}
+
+/// Whether a register passes that is tested for being less than a constant.
+fn passes_lower<C: Code>(old: &C, site: GuardSite, facts: &[Fact], dst: Reg, limit: u64) -> bool
+    ensures { result ≡ ((has_end facts.now dst && list_any (number_reached (front (C.program old.now) site.slot site.length site.padded) limit) facts.now) || list_any (guarded_below (front (C.program old.now) site.slot site.length site.padded) dst limit) facts.now) }
+{
+    passes_least(old, site, facts, dst, limit) || is_above(old, site, facts, dst, limit)
+}
+
+/// Whether a test is a guard that passes.
+#[tactic(auto, unfolding(crate::specs::Guards::passes))]
+fn passes_test<C: Code>(old: &C, site: GuardSite, facts: &[Fact], test: Test) -> bool
+    ensures { (off : ℤ) → result ≡ passes (front (C.program old.now) site.slot site.length site.padded) facts.now (JumpIf test.cond W64 test.dst test.src off) }
+{
+    match (test.cond, test.src) {
+        (Cond::Gt, Operand::Imm(imm)) => passes_limit(old, site, facts, test.dst, extended(imm)),
+        (Cond::Gt, Operand::Reg(end)) => passes_end(old, site, facts, test.dst, end),
+        (Cond::Lt, Operand::Imm(imm)) => passes_lower(old, site, facts, test.dst, extended(imm)),
+        _ => false,
+    }
 }
 
 /// Whether an instruction is a guard that passes.
 #[tactic(auto, unfolding(crate::specs::Guards::passes))]
 pub fn passes<C: Code>(old: &C, site: GuardSite, facts: &[Fact], insn: &Insn) -> bool
-    ensures { result ≡ passes (front (C.program old.now) site.slot site.length) facts.now insn.now }
+    ensures { result ≡ passes (front (C.program old.now) site.slot site.length site.padded) facts.now insn.now }
 {
     let Insn::JumpIf {
-        cond: Cond::Gt,
+        cond,
         width: Width::W64,
         dst,
-        src: Operand::Imm(imm),
+        src,
         off: _off,
     } = *insn
     else {
         return false;
     };
-    is_below(old, site, facts, dst, imm)
+    passes_test(old, site, facts, Test { cond, dst, src })
 }

@@ -1,20 +1,15 @@
-use Rattle.std.proofs.Common.{◌≡◌, false, None, ap, ◌∙◌, rules, tests}
-use Rattle.std.specs.List.{list_any}
-use Rattle.std.specs.Option.{option_map_or}
-use Rattle.std.proofs.lemmas.Iterator.{YieldsList-from_slice}
-use Rattle.std.proofs.lemmas.Iterator.Search.{any_from_yields_List}
-use Rattle.bpf_insn.specs.declared.instruction.Insn.TheVariants.{LoadImm64}
-use Rattle.bpf_kept.specs.Terms.{constant}
-use Rattle.bpf_kept.specs.Rules.{is_moved, known_number, of_number}
-use Rattle.bpf_kept.proofs.RuleLemmas.{or_else, made_constant}
+use Rattle.std.proofs.Common.{sym, ap, ◌∙◌, rules}
+use Rattle.std.specs.Int.{w16}
+use Rattle.std.proofs.lemmas.Int.{to_z-of_z}
+use Rattle.bpf_insn.specs.declared.instruction.Insn.TheVariants.{Load}
+use Rattle.bpf_kept.specs.Rules.{made}
 use Rattle.bpf_kept.proofs.made.made.Goals as goal
 
-pub returns-else-is_moved : goal.returns-else-is_moved
-returns-else-is_moved c =
-    let here : c.args.insn.now ≡ LoadImm64 c.in-LoadImm64.dst c.in-LoadImm64.value = cc in
-    let others : c.any.result ≡ list_any (λ fact. option_map_or (λ b. is_moved b c.args.want) (of_number c.in-LoadImm64.value fact) false) c.args.facts.now =
-    any_from_yields_List (λ fact. option_map_or (λ b. is_moved b c.args.want) (of_number c.in-LoadImm64.value fact) false) _ _ c.any.result c.any.ensures.ran (YieldsList-from_slice c.args.facts.now cc) (λ x b q k. search (rules, tests)) in
-    or_else c.is_moved.result (list_any (λ fact. option_map_or (λ b. is_moved b c.args.want) (of_number c.in-LoadImm64.value fact) false) c.args.facts.now)
-    (is_moved (known_number None (constant c.in-LoadImm64.value)) c.args.want) c.any.result
-    (c.is_moved.ensures ∙ ap (λ f. is_moved f c.args.want) (c.known_number.ensures ∙ ap (known_number None) c.constant.ensures)) c.if-is_moved.false others
-    ∙ made_constant c.args.facts.now c.args.insn.now c.in-LoadImm64.dst c.in-LoadImm64.value c.args.want here
+pub returns-in-LoadImm64 : goal.returns-in-LoadImm64
+returns-in-LoadImm64 c = c.made_constant.ensures c.in-LoadImm64.dst ∙ ap (λ i. made c.args.facts.now i c.args.want) (sym c.in-LoadImm64.is)
+
+pub returns-in-Load : goal.returns-in-Load
+returns-in-Load c =
+    let x = c.in-Load in
+    c.made_of_slot.ensures x.dst ∙ ap (λ off. made c.args.facts.now (Load x.size x.dst x.src off) c.args.want) (to_z-of_z w16 x.off (search rules))
+    ∙ ap (λ i. made c.args.facts.now i c.args.want) (sym x.is)
