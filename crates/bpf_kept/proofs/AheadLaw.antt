@@ -60,7 +60,7 @@ straight_slot order Exit f g s e = absurd (false≢true s)
 exit_turns : (i : Insn) → is_straight i ≡ true → i ≡ Exit → ⊥
 exit_turns i s e = false≢true (ap is_straight (sym e) ∙ s)
 
-access_near : (i : Insn) (a : Access) → HasEncoding i → access_of i ≡ Some a → FitsSigned w16 a.offset
+pub access_near : (i : Insn) (a : Access) → HasEncoding i → access_of i ≡ Some a → FitsSigned w16 a.offset
 access_near (Load size dst src off) a enc e = subst (λ a. FitsSigned w16 a.offset) (same_Some _ _ e) enc
 access_near (LoadSx DW dst src off) a enc e = absurd enc
 access_near (LoadSx size dst src off) a enc e = subst (λ a. FitsSigned w16 a.offset) (same_Some _ _ e) enc

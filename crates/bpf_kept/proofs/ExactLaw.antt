@@ -2,23 +2,22 @@
 use Rattle.std.proofs.Common.{◌≡◌, ℕ, zero, suc, ◌+◌, ◌%◌, ◌<◌, ◌≤◌, ◌==◌, inl, inr, refl, sym, ap, ◌∙◌, subst, arith, Bool, true, false, List, [], ◌∷◌, length, Some, None}
 use Rattle.std.specs.Prelude.{take, drop, ltb, ◌&&◌, option_and_then, option_map, if◌then◌else◌}
 use Rattle.std.proofs.lemmas.Bool.{cond_both, cond-true, lt-ltb, and_parts, cases_order, cases_eq}
-use Rattle.std.proofs.lemmas.Option.{none-some, same_Some, option_and_then_some}
+use Rattle.std.proofs.lemmas.Option.{none-some, same_Some}
 use Rattle.bpf_insn.specs.Effects.{Access, access_of}
 use Rattle.bpf_insn.specs.Image.{IsProgram}
-use Rattle.bpf_insn.specs.Instruction.{Instructions, byte_count, word_size, insn_at, target}
+use Rattle.bpf_insn.specs.Instruction.{Instructions, byte_count, insn_at, target}
 use Rattle.bpf_insn.specs.Laws.{AreBytes}
 use Rattle.bpf_insn.specs.declared.order.Order.{Order}
 use Rattle.bpf_insn.specs.declared.instruction.Reg.TheVariants.{R0}
 use Rattle.bpf_insn.specs.declared.instruction.Insn.{Insn}
-use Rattle.bpf_insn.specs.declared.instruction.Insn.TheVariants.{Load, LoadSx, Store, StoreImm, Atomic, CallLocal, Exit}
-use Rattle.bpf_semantics.specs.State.{State, IsState, depth, frame_bytes, max_frames, register, number_of_register, start}
-use Rattle.bpf_semantics.specs.Memory.{Location, location_of}
+use Rattle.bpf_insn.specs.declared.instruction.Insn.TheVariants.{CallLocal, Exit}
+use Rattle.bpf_semantics.specs.State.{State, IsState, depth, frame_bytes, max_frames, start}
+use Rattle.bpf_semantics.specs.Memory.{Location}
 use Rattle.bpf_semantics.specs.Memory.Location.{InContext, InFrame}
 use Rattle.bpf_semantics.specs.Step.{Step, step_of, does, Finish}
 use Rattle.bpf_semantics.specs.Run.{Steps, state_after}
 use Rattle.bpf_semantics.specs.Flat.{Placement, FlatState, FlatDoes, FlatStep, FlatReturn, FlatFinish, IsAmong, addresses, frame_start, flat_register}
 use Rattle.bpf_semantics.specs.Placement.{IsPlacement, Fits, StaysInside}
-use Rattle.bpf_semantics.specs.declared.value.Value.{Value}
 use Rattle.bpf_semantics.proofs.FlatAccess.{size_some}
 use Rattle.bpf_semantics.proofs.FlatBase.{stands}
 use Rattle.bpf_semantics.proofs.FlatCall.{returns_length}
@@ -34,6 +33,7 @@ use Rattle.bpf_kept.specs.Far.{near, wide}
 use Rattle.bpf_kept.specs.Meaning.{Bounds, AreGiven, FlatEnds, LeavesLowestFlat, counted, turns_to, turns_in_call}
 use Rattle.bpf_kept.specs.Exact.{is_at, visits, LeavesLowest}
 use Rattle.bpf_kept.specs.Laws.{ExactRunsAreFlat, FlatMeaningIsExact}
+use Rattle.bpf_kept.proofs.AccessesLemmas.{goes}
 use Rattle.bpf_kept.proofs.CertifiedLaw.{goes_on}
 use Rattle.bpf_kept.proofs.FarLaw.{far_is_placement}
 use Rattle.bpf_kept.proofs.ZeroLaw.{placed_short, zero_start_fits, zero_step_is_step}
@@ -60,27 +60,6 @@ step_some place p f g s =
     (d.0, ap (option_and_then (λ i. zero_does place p.order i f)) s.stands ∙ d.1)
 
 -- ---- accesses
-
--- where an instruction's access goes
-record Goes (s : State) (a : Access) : Type 0 where
-  base : Value
-  base_is : register s a.base ≡ Some base
-  location : Location
-  location_is : location_of s (byte_count a.size) a.offset base ≡ Some location
-
-goes : (order : Order) (i : Insn) (a : Access) (s t : State) → does order i s ≡ Some t → access_of i ≡ Some a → Goes s a
-unfolding does
-goes order (Load size dst src off) a s t e ea =
-    subst (Goes s) (same_Some _ _ ea) (option_and_then_some _ (register s src) t e (λ b eb e1. option_and_then_some _ (location_of s (byte_count size) off b) t e1 (λ l el e2. record { base = b; base_is = eb; location = l; location_is = el })))
-goes order (LoadSx size dst src off) a s t e ea =
-    subst (Goes s) (same_Some _ _ ea) (option_and_then_some _ (register s src) t e (λ b eb e1. option_and_then_some _ (location_of s (byte_count size) off b) t e1 (λ l el e2. record { base = b; base_is = eb; location = l; location_is = el })))
-goes order (Store size dst off src) a s t e ea =
-    subst (Goes s) (same_Some _ _ ea) (option_and_then_some _ (register s dst) t e (λ b eb e1. option_and_then_some _ (register s src) t e1 (λ x ex e2. option_and_then_some _ (location_of s (byte_count size) off b) t e2 (λ l el e3. record { base = b; base_is = eb; location = l; location_is = el }))))
-goes order (StoreImm size dst off imm) a s t e ea =
-    subst (Goes s) (same_Some _ _ ea) (option_and_then_some _ (register s dst) t e (λ b eb e1. option_and_then_some _ (location_of s (byte_count size) off b) t e1 (λ l el e2. record { base = b; base_is = eb; location = l; location_is = el })))
-goes order (Atomic wide op dst off src) a s t e ea =
-    subst (Goes s) (same_Some _ _ ea) (option_and_then_some _ (register s dst) t e (λ b eb e1. option_and_then_some _ (number_of_register s src) t e1 (λ x ex e2. option_and_then_some _ (location_of s (byte_count (word_size wide)) off b) t e2 (λ l el e3. record { base = b; base_is = eb; location = l; location_is = el }))))
-goes order i a s t e ea = absurd (none-some _ ea)
 
 -- one that lies in the context, or in a frame above its lowest bytes, isn't among the lowest bytes of any
 misses : (place : Placement) (len size b n untouched : ℕ) (s : State) (l : Location) → IsPlacement len place → len ≡ length s.context → depth s < max_frames → n ≤ depth s → b < size → untouched ≤ frame_bytes → ((m first : ℕ) → l ≡ InFrame m first → untouched ≤ first)

@@ -1,7 +1,7 @@
 -- An example that the definitions can be met: a filter that puts pointers in order before it reads, and what a hardener makes of it, with notes that
 -- match.
 use Rattle.std.proofs.Common.{ℕ, zero, suc, refl, sym, ap, subst, arith, Bool, true, false, [], ◌∷◌, Option, Some, None}
-use Rattle.std.specs.Prelude.{pos, negsuc}
+use Rattle.std.specs.Prelude.{pos, negsuc, option_map}
 use Rattle.std.proofs.lemmas.Bool.{false≢true}
 use Rattle.std.proofs.lemmas.Option.{none-some, same_Some}
 use Rattle.bpf_insn.specs.Instruction.{Instructions}
@@ -16,15 +16,27 @@ use Rattle.bpf_insn.specs.declared.instruction.Cond.TheVariants.{Gt, SGt}
 use Rattle.bpf_insn.specs.declared.instruction.Insn.{Insn}
 use Rattle.bpf_insn.specs.declared.instruction.Insn.TheVariants.{Alu, Load, StoreImm, JumpIf, Exit}
 use Rattle.bpf_kept.specs.Far.{middle}
+use Rattle.bpf_kept.specs.declared.notes.Holder.TheVariants.{Register}
 use Rattle.bpf_kept.specs.declared.notes.Fact.{Fact}
 use Rattle.bpf_kept.specs.declared.notes.Note.{Note}
-use Rattle.bpf_kept.specs.Rules.{own, reads_same, result_term, same_address, keeps, paired, made, holds_behind}
-use Rattle.bpf_kept.specs.Guards.{accesses_ahead, is_ahead, passes}
-use Rattle.bpf_kept.specs.Matching.{Notes, arrives, stands, extra, adds, IsBody, IsExtra, IsEither, HoldsAt, Matches}
+use Rattle.bpf_kept.specs.Meaning.{Bounds}
+use Rattle.bpf_kept.specs.Terms.{Facts}
+use Rattle.bpf_kept.specs.Rules.{own_in, pinned, numbered, reads_same, result_term, same_address, is_common, keeps, paired, made, holds_behind, are_told}
+use Rattle.bpf_kept.specs.Counters.{all_count_behind, has_turn}
+use Rattle.bpf_kept.specs.Guards.{accesses_ahead, is_ahead, guards_sum, passes}
+use Rattle.bpf_kept.specs.Matching.{Notes, facts_at, left_alone, known_at_start, arrives, stands, extra, adds, IsBody, IsExtra, IsEither, HoldsAt, Matches}
 
--- a fact with a term
+-- a fact of registers, with a term
 abbrev pub fact : Option Reg → Option Reg → ℕ → ℕ → Fact
-fact of base frames moved = record { of = of; base = base; by = Some (record { frames = frames; moved = moved }) }
+fact of base frames moved = record { of = option_map Register of; base = option_map Register base; by = Some (record { frames = frames; moved = moved }) }
+
+-- a note of registers alone
+abbrev pub noted : ℕ → ℕ → Facts → Note
+noted old extras facts = record { old = old; extras = extras; apart = []; zeros = []; facts = facts; counters = [] }
+
+-- of which runs it is said
+abbrev pub bounds : Bounds
+bounds = record { length = 64; padded = false; turns = 65536; untouched = 0 }
 
 -- what tells instructions apart
 abbrev pub compares_signed : Insn → Bool
@@ -53,125 +65,125 @@ abbrev pub new : Instructions
 new = record { order = Little; list = Alu Mov W64 R9 (FromReg R1) ∷ Alu Mov W64 R1 (Imm (pos 0)) ∷ Alu Mov W64 R3 (FromReg R1) ∷ Alu Add W64 R3 (Imm (pos 14)) ∷ Alu Add W64 R2 (FromReg R1) ∷ JumpIf SGt W64 R3 (FromReg R2) (pos 6) ∷ Alu Mov W64 R5 (FromReg R3) ∷ Alu Add W64 R5 (Imm (negsuc 1)) ∷ JumpIf Gt W64 R5 (Imm (pos 63)) (pos 5) ∷ Alu Add W64 R5 (FromReg R9) ∷ Load B R0 R5 (pos 0) ∷ Exit ∷ Alu Mov W64 R0 (Imm (pos 1)) ∷ Exit ∷ Alu Mov W64 R0 (Imm (pos 0)) ∷ Exit ∷ [] }
 
 abbrev note_0 : Note
-note_0 = record { old = 0; extras = 2; facts = fact (Some R1) (None) 0 middle ∷ fact (None) (Some R1) 0 middle ∷ fact (Some R2) (Some R2) 0 0 ∷ [] }
+note_0 = noted 0 2 (fact (Some R1) (None) 0 middle ∷ fact (None) (Some R1) 0 middle ∷ fact (Some R2) (Some R2) 0 0 ∷ [])
 
 abbrev note_1 : Note
-note_1 = record { old = 0; extras = 1; facts = fact (None) (Some R1) 0 middle ∷ fact (Some R9) (None) 0 middle ∷ fact (Some R2) (Some R2) 0 0 ∷ [] }
+note_1 = noted 0 1 (fact (None) (Some R1) 0 middle ∷ fact (Some R9) (None) 0 middle ∷ fact (Some R2) (Some R2) 0 0 ∷ [])
 
 abbrev note_2 : Note
-note_2 = record { old = 0; extras = 0; facts = fact (Some R1) (Some R1) 0 middle ∷ fact (Some R2) (Some R2) 0 0 ∷ fact (Some R9) (None) 0 middle ∷ [] }
+note_2 = noted 0 0 (fact (Some R1) (Some R1) 0 middle ∷ fact (Some R2) (Some R2) 0 0 ∷ fact (Some R9) (None) 0 middle ∷ [])
 
 abbrev note_3 : Note
-note_3 = record { old = 1; extras = 0; facts = fact (Some R1) (Some R1) 0 middle ∷ fact (Some R2) (Some R2) 0 0 ∷ fact (Some R3) (Some R3) 0 middle ∷ fact (Some R9) (None) 0 middle ∷ [] }
+note_3 = noted 1 0 (fact (Some R1) (Some R1) 0 middle ∷ fact (Some R2) (Some R2) 0 0 ∷ fact (Some R3) (Some R3) 0 middle ∷ fact (Some R9) (None) 0 middle ∷ [])
 
 abbrev note_4 : Note
-note_4 = record { old = 2; extras = 0; facts = fact (Some R1) (Some R1) 0 middle ∷ fact (Some R2) (Some R2) 0 0 ∷ fact (Some R3) (Some R3) 0 middle ∷ fact (Some R9) (None) 0 middle ∷ [] }
+note_4 = noted 2 0 (fact (Some R1) (Some R1) 0 middle ∷ fact (Some R2) (Some R2) 0 0 ∷ fact (Some R3) (Some R3) 0 middle ∷ fact (Some R9) (None) 0 middle ∷ [])
 
 abbrev note_5 : Note
-note_5 = record { old = 3; extras = 0; facts = fact (Some R2) (Some R2) 0 middle ∷ fact (Some R3) (Some R3) 0 middle ∷ fact (Some R9) (None) 0 middle ∷ [] }
+note_5 = noted 3 0 (fact (Some R2) (Some R2) 0 middle ∷ fact (Some R3) (Some R3) 0 middle ∷ fact (Some R9) (None) 0 middle ∷ [])
 
 abbrev note_6 : Note
-note_6 = record { old = 4; extras = 4; facts = fact (Some R2) (Some R2) 0 middle ∷ fact (Some R3) (Some R3) 0 middle ∷ fact (Some R9) (None) 0 middle ∷ [] }
+note_6 = noted 4 4 (fact (Some R2) (Some R2) 0 middle ∷ fact (Some R3) (Some R3) 0 middle ∷ fact (Some R9) (None) 0 middle ∷ [])
 
 abbrev note_7 : Note
-note_7 = record { old = 4; extras = 3; facts = fact (Some R2) (Some R2) 0 middle ∷ fact (Some R3) (Some R3) 0 middle ∷ fact (Some R9) (None) 0 middle ∷ fact (Some R5) (Some R3) 0 middle ∷ [] }
+note_7 = noted 4 3 (fact (Some R2) (Some R2) 0 middle ∷ fact (Some R3) (Some R3) 0 middle ∷ fact (Some R9) (None) 0 middle ∷ fact (Some R5) (Some R3) 0 middle ∷ [])
 
 abbrev note_8 : Note
-note_8 = record { old = 4; extras = 2; facts = fact (Some R2) (Some R2) 0 middle ∷ fact (Some R3) (Some R3) 0 middle ∷ fact (Some R9) (None) 0 middle ∷ fact (Some R5) (Some R3) 0 9223372036854775806 ∷ [] }
+note_8 = noted 4 2 (fact (Some R2) (Some R2) 0 middle ∷ fact (Some R3) (Some R3) 0 middle ∷ fact (Some R9) (None) 0 middle ∷ fact (Some R5) (Some R3) 0 9223372036854775806 ∷ [])
 
 abbrev note_9 : Note
-note_9 = record { old = 4; extras = 1; facts = fact (Some R2) (Some R2) 0 middle ∷ fact (Some R3) (Some R3) 0 middle ∷ fact (Some R9) (None) 0 middle ∷ fact (Some R5) (Some R3) 0 9223372036854775806 ∷ [] }
+note_9 = noted 4 1 (fact (Some R2) (Some R2) 0 middle ∷ fact (Some R3) (Some R3) 0 middle ∷ fact (Some R9) (None) 0 middle ∷ fact (Some R5) (Some R3) 0 9223372036854775806 ∷ [])
 
 abbrev note_10 : Note
-note_10 = record { old = 4; extras = 0; facts = fact (Some R2) (Some R2) 0 middle ∷ fact (Some R3) (Some R3) 0 middle ∷ fact (Some R9) (None) 0 middle ∷ fact (Some R5) (Some R3) 0 18446744073709551614 ∷ [] }
+note_10 = noted 4 0 (fact (Some R2) (Some R2) 0 middle ∷ fact (Some R3) (Some R3) 0 middle ∷ fact (Some R9) (None) 0 middle ∷ fact (Some R5) (Some R3) 0 18446744073709551614 ∷ [])
 
 abbrev note_11 : Note
-note_11 = record { old = 5; extras = 0; facts = fact (Some R0) (Some R0) 0 0 ∷ [] }
+note_11 = noted 5 0 (fact (Some R0) (Some R0) 0 0 ∷ [])
 
 abbrev note_12 : Note
-note_12 = record { old = 6; extras = 0; facts = fact (Some R9) (None) 0 middle ∷ [] }
+note_12 = noted 6 0 (fact (Some R9) (None) 0 middle ∷ [])
 
 abbrev note_13 : Note
-note_13 = record { old = 7; extras = 0; facts = fact (Some R0) (Some R0) 0 0 ∷ [] }
+note_13 = noted 7 0 (fact (Some R0) (Some R0) 0 0 ∷ [])
 
 abbrev pub notes : Notes
 notes = Some note_0 ∷ Some note_1 ∷ Some note_2 ∷ Some note_3 ∷ Some note_4 ∷ Some note_5 ∷ Some note_6 ∷ Some note_7 ∷ Some note_8 ∷ Some note_9 ∷ Some note_10 ∷ Some note_11 ∷ Some note_12 ∷ Some note_13 ∷ []
 
 -- ---- what is noted of each slot holds
 
-extra_0 : IsExtra old new notes 64 0 note_0 1
-unfolding own reads_same result_term same_address keeps paired made holds_behind accesses_ahead is_ahead passes arrives stands extra adds
+extra_0 : IsExtra old new notes bounds 0 note_0 1
+unfolding own_in pinned numbered reads_same result_term same_address is_common keeps paired made holds_behind are_told all_count_behind has_turn accesses_ahead is_ahead guards_sum passes facts_at left_alone known_at_start arrives stands extra adds
 extra_0 = record { moved = Alu Mov W64 R9 (FromReg R1); moved_is = refl; good = refl }
 
-extra_1 : IsExtra old new notes 64 1 note_1 0
-unfolding own reads_same result_term same_address keeps paired made holds_behind accesses_ahead is_ahead passes arrives stands extra adds
+extra_1 : IsExtra old new notes bounds 1 note_1 0
+unfolding own_in pinned numbered reads_same result_term same_address is_common keeps paired made holds_behind are_told all_count_behind has_turn accesses_ahead is_ahead guards_sum passes facts_at left_alone known_at_start arrives stands extra adds
 extra_1 = record { moved = Alu Mov W64 R1 (Imm (pos 0)); moved_is = refl; good = refl }
 
-body_2 : IsBody old new notes 2 note_2
-unfolding own reads_same result_term same_address keeps paired made holds_behind accesses_ahead is_ahead passes arrives stands extra adds
+body_2 : IsBody old new notes bounds 2 note_2
+unfolding own_in pinned numbered reads_same result_term same_address is_common keeps paired made holds_behind are_told all_count_behind has_turn accesses_ahead is_ahead guards_sum passes facts_at left_alone known_at_start arrives stands extra adds
 body_2 = record { insn = Alu Mov W64 R3 (FromReg R1); insn_is = refl; moved = Alu Mov W64 R3 (FromReg R1); moved_is = refl; same = true; same_is = (λ h. refl, λ h. refl); good = refl }
 
-body_3 : IsBody old new notes 3 note_3
-unfolding own reads_same result_term same_address keeps paired made holds_behind accesses_ahead is_ahead passes arrives stands extra adds
+body_3 : IsBody old new notes bounds 3 note_3
+unfolding own_in pinned numbered reads_same result_term same_address is_common keeps paired made holds_behind are_told all_count_behind has_turn accesses_ahead is_ahead guards_sum passes facts_at left_alone known_at_start arrives stands extra adds
 body_3 = record { insn = Alu Add W64 R3 (Imm (pos 14)); insn_is = refl; moved = Alu Add W64 R3 (Imm (pos 14)); moved_is = refl; same = true; same_is = (λ h. refl, λ h. refl); good = refl }
 
-body_4 : IsBody old new notes 4 note_4
-unfolding own reads_same result_term same_address keeps paired made holds_behind accesses_ahead is_ahead passes arrives stands extra adds
+body_4 : IsBody old new notes bounds 4 note_4
+unfolding own_in pinned numbered reads_same result_term same_address is_common keeps paired made holds_behind are_told all_count_behind has_turn accesses_ahead is_ahead guards_sum passes facts_at left_alone known_at_start arrives stands extra adds
 body_4 = record { insn = Alu Add W64 R2 (FromReg R1); insn_is = refl; moved = Alu Add W64 R2 (FromReg R1); moved_is = refl; same = true; same_is = (λ h. refl, λ h. refl); good = refl }
 
-body_5 : IsBody old new notes 5 note_5
-unfolding own reads_same result_term same_address keeps paired made holds_behind accesses_ahead is_ahead passes arrives stands extra adds
+body_5 : IsBody old new notes bounds 5 note_5
+unfolding own_in pinned numbered reads_same result_term same_address is_common keeps paired made holds_behind are_told all_count_behind has_turn accesses_ahead is_ahead guards_sum passes facts_at left_alone known_at_start arrives stands extra adds
 body_5 = record { insn = JumpIf Gt W64 R3 (FromReg R2) (pos 2); insn_is = refl; moved = JumpIf SGt W64 R3 (FromReg R2) (pos 6); moved_is = refl; same = false; same_is = (λ h. absurd (false≢true h), λ e. absurd (false≢true (sym (ap compares_signed e)))); good = refl }
 
-extra_6 : IsExtra old new notes 64 6 note_6 3
-unfolding own reads_same result_term same_address keeps paired made holds_behind accesses_ahead is_ahead passes arrives stands extra adds
+extra_6 : IsExtra old new notes bounds 6 note_6 3
+unfolding own_in pinned numbered reads_same result_term same_address is_common keeps paired made holds_behind are_told all_count_behind has_turn accesses_ahead is_ahead guards_sum passes facts_at left_alone known_at_start arrives stands extra adds
 extra_6 = record { moved = Alu Mov W64 R5 (FromReg R3); moved_is = refl; good = refl }
 
-extra_7 : IsExtra old new notes 64 7 note_7 2
-unfolding own reads_same result_term same_address keeps paired made holds_behind accesses_ahead is_ahead passes arrives stands extra adds
+extra_7 : IsExtra old new notes bounds 7 note_7 2
+unfolding own_in pinned numbered reads_same result_term same_address is_common keeps paired made holds_behind are_told all_count_behind has_turn accesses_ahead is_ahead guards_sum passes facts_at left_alone known_at_start arrives stands extra adds
 extra_7 = record { moved = Alu Add W64 R5 (Imm (negsuc 1)); moved_is = refl; good = refl }
 
-extra_8 : IsExtra old new notes 64 8 note_8 1
-unfolding own reads_same result_term same_address keeps paired made holds_behind accesses_ahead is_ahead passes arrives stands extra adds
+extra_8 : IsExtra old new notes bounds 8 note_8 1
+unfolding own_in pinned numbered reads_same result_term same_address is_common keeps paired made holds_behind are_told all_count_behind has_turn accesses_ahead is_ahead guards_sum passes facts_at left_alone known_at_start arrives stands extra adds
 extra_8 = record { moved = JumpIf Gt W64 R5 (Imm (pos 63)) (pos 5); moved_is = refl; good = refl }
 
-extra_9 : IsExtra old new notes 64 9 note_9 0
-unfolding own reads_same result_term same_address keeps paired made holds_behind accesses_ahead is_ahead passes arrives stands extra adds
+extra_9 : IsExtra old new notes bounds 9 note_9 0
+unfolding own_in pinned numbered reads_same result_term same_address is_common keeps paired made holds_behind are_told all_count_behind has_turn accesses_ahead is_ahead guards_sum passes facts_at left_alone known_at_start arrives stands extra adds
 extra_9 = record { moved = Alu Add W64 R5 (FromReg R9); moved_is = refl; good = refl }
 
-body_10 : IsBody old new notes 10 note_10
-unfolding own reads_same result_term same_address keeps paired made holds_behind accesses_ahead is_ahead passes arrives stands extra adds
+body_10 : IsBody old new notes bounds 10 note_10
+unfolding own_in pinned numbered reads_same result_term same_address is_common keeps paired made holds_behind are_told all_count_behind has_turn accesses_ahead is_ahead guards_sum passes facts_at left_alone known_at_start arrives stands extra adds
 body_10 = record { insn = Load B R0 R3 (negsuc 1); insn_is = refl; moved = Load B R0 R5 (pos 0); moved_is = refl; same = false; same_is = (λ h. absurd (false≢true h), λ e. absurd (false≢true (sym (ap goes_by_r5 e)))); good = refl }
 
-body_11 : IsBody old new notes 11 note_11
-unfolding own reads_same result_term same_address keeps paired made holds_behind accesses_ahead is_ahead passes arrives stands extra adds
+body_11 : IsBody old new notes bounds 11 note_11
+unfolding own_in pinned numbered reads_same result_term same_address is_common keeps paired made holds_behind are_told all_count_behind has_turn accesses_ahead is_ahead guards_sum passes facts_at left_alone known_at_start arrives stands extra adds
 body_11 = record { insn = Exit; insn_is = refl; moved = Exit; moved_is = refl; same = true; same_is = (λ h. refl, λ h. refl); good = refl }
 
-body_12 : IsBody old new notes 12 note_12
-unfolding own reads_same result_term same_address keeps paired made holds_behind accesses_ahead is_ahead passes arrives stands extra adds
+body_12 : IsBody old new notes bounds 12 note_12
+unfolding own_in pinned numbered reads_same result_term same_address is_common keeps paired made holds_behind are_told all_count_behind has_turn accesses_ahead is_ahead guards_sum passes facts_at left_alone known_at_start arrives stands extra adds
 body_12 = record { insn = Alu Mov W64 R0 (Imm (pos 1)); insn_is = refl; moved = Alu Mov W64 R0 (Imm (pos 1)); moved_is = refl; same = true; same_is = (λ h. refl, λ h. refl); good = refl }
 
-body_13 : IsBody old new notes 13 note_13
-unfolding own reads_same result_term same_address keeps paired made holds_behind accesses_ahead is_ahead passes arrives stands extra adds
+body_13 : IsBody old new notes bounds 13 note_13
+unfolding own_in pinned numbered reads_same result_term same_address is_common keeps paired made holds_behind are_told all_count_behind has_turn accesses_ahead is_ahead guards_sum passes facts_at left_alone known_at_start arrives stands extra adds
 body_13 = record { insn = Exit; insn_is = refl; moved = Exit; moved_is = refl; same = true; same_is = (λ h. refl, λ h. refl); good = refl }
 
-each : (slot : ℕ) → HoldsAt old new notes 64 slot
-each zero note e = subst (λ note. IsEither old new notes 64 0 note note.extras) (same_Some note_0 note e) extra_0
-each (suc zero) note e = subst (λ note. IsEither old new notes 64 1 note note.extras) (same_Some note_1 note e) extra_1
-each (suc (suc zero)) note e = subst (λ note. IsEither old new notes 64 2 note note.extras) (same_Some note_2 note e) body_2
-each (suc (suc (suc zero))) note e = subst (λ note. IsEither old new notes 64 3 note note.extras) (same_Some note_3 note e) body_3
-each (suc (suc (suc (suc zero)))) note e = subst (λ note. IsEither old new notes 64 4 note note.extras) (same_Some note_4 note e) body_4
-each (suc (suc (suc (suc (suc zero))))) note e = subst (λ note. IsEither old new notes 64 5 note note.extras) (same_Some note_5 note e) body_5
-each (suc (suc (suc (suc (suc (suc zero)))))) note e = subst (λ note. IsEither old new notes 64 6 note note.extras) (same_Some note_6 note e) extra_6
-each (suc (suc (suc (suc (suc (suc (suc zero))))))) note e = subst (λ note. IsEither old new notes 64 7 note note.extras) (same_Some note_7 note e) extra_7
-each (suc (suc (suc (suc (suc (suc (suc (suc zero)))))))) note e = subst (λ note. IsEither old new notes 64 8 note note.extras) (same_Some note_8 note e) extra_8
-each (suc (suc (suc (suc (suc (suc (suc (suc (suc zero))))))))) note e = subst (λ note. IsEither old new notes 64 9 note note.extras) (same_Some note_9 note e) extra_9
-each (suc (suc (suc (suc (suc (suc (suc (suc (suc (suc zero)))))))))) note e = subst (λ note. IsEither old new notes 64 10 note note.extras) (same_Some note_10 note e) body_10
-each (suc (suc (suc (suc (suc (suc (suc (suc (suc (suc (suc zero))))))))))) note e = subst (λ note. IsEither old new notes 64 11 note note.extras) (same_Some note_11 note e) body_11
-each (suc (suc (suc (suc (suc (suc (suc (suc (suc (suc (suc (suc zero)))))))))))) note e = subst (λ note. IsEither old new notes 64 12 note note.extras) (same_Some note_12 note e) body_12
-each (suc (suc (suc (suc (suc (suc (suc (suc (suc (suc (suc (suc (suc zero))))))))))))) note e = subst (λ note. IsEither old new notes 64 13 note note.extras) (same_Some note_13 note e) body_13
+each : (slot : ℕ) → HoldsAt old new notes bounds slot
+each zero note e = subst (λ note. IsEither old new notes bounds 0 note note.extras) (same_Some note_0 note e) extra_0
+each (suc zero) note e = subst (λ note. IsEither old new notes bounds 1 note note.extras) (same_Some note_1 note e) extra_1
+each (suc (suc zero)) note e = subst (λ note. IsEither old new notes bounds 2 note note.extras) (same_Some note_2 note e) body_2
+each (suc (suc (suc zero))) note e = subst (λ note. IsEither old new notes bounds 3 note note.extras) (same_Some note_3 note e) body_3
+each (suc (suc (suc (suc zero)))) note e = subst (λ note. IsEither old new notes bounds 4 note note.extras) (same_Some note_4 note e) body_4
+each (suc (suc (suc (suc (suc zero))))) note e = subst (λ note. IsEither old new notes bounds 5 note note.extras) (same_Some note_5 note e) body_5
+each (suc (suc (suc (suc (suc (suc zero)))))) note e = subst (λ note. IsEither old new notes bounds 6 note note.extras) (same_Some note_6 note e) extra_6
+each (suc (suc (suc (suc (suc (suc (suc zero))))))) note e = subst (λ note. IsEither old new notes bounds 7 note note.extras) (same_Some note_7 note e) extra_7
+each (suc (suc (suc (suc (suc (suc (suc (suc zero)))))))) note e = subst (λ note. IsEither old new notes bounds 8 note note.extras) (same_Some note_8 note e) extra_8
+each (suc (suc (suc (suc (suc (suc (suc (suc (suc zero))))))))) note e = subst (λ note. IsEither old new notes bounds 9 note note.extras) (same_Some note_9 note e) extra_9
+each (suc (suc (suc (suc (suc (suc (suc (suc (suc (suc zero)))))))))) note e = subst (λ note. IsEither old new notes bounds 10 note note.extras) (same_Some note_10 note e) body_10
+each (suc (suc (suc (suc (suc (suc (suc (suc (suc (suc (suc zero))))))))))) note e = subst (λ note. IsEither old new notes bounds 11 note note.extras) (same_Some note_11 note e) body_11
+each (suc (suc (suc (suc (suc (suc (suc (suc (suc (suc (suc (suc zero)))))))))))) note e = subst (λ note. IsEither old new notes bounds 12 note note.extras) (same_Some note_12 note e) body_12
+each (suc (suc (suc (suc (suc (suc (suc (suc (suc (suc (suc (suc (suc zero))))))))))))) note e = subst (λ note. IsEither old new notes bounds 13 note note.extras) (same_Some note_13 note e) body_13
 each (suc (suc (suc (suc (suc (suc (suc (suc (suc (suc (suc (suc (suc (suc n)))))))))))))) note e = absurd (none-some note e)
 
-pub matches : Matches old new notes 64
-unfolding own reads_same result_term same_address keeps paired made holds_behind accesses_ahead is_ahead passes arrives stands extra adds
-matches = record { short = omega arith; order_is = refl; few = omega arith; start = refl; each = each }
+pub matches : Matches old new notes bounds
+unfolding own_in pinned numbered reads_same result_term same_address is_common keeps paired made holds_behind are_told all_count_behind has_turn accesses_ahead is_ahead guards_sum passes facts_at left_alone known_at_start arrives stands extra adds
+matches = record { short = omega arith; few_turns = omega arith; order_is = refl; few = omega arith; start = refl; each = each }

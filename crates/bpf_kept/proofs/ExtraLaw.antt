@@ -1,11 +1,11 @@
--- What the new program puts into a register by itself, and what a change leaves of all facts.
-use Rattle.std.proofs.Common.{◌≡◌, ℕ, ◌+◌, ◌%◌, ◌<◌, inl, inr, refl, sym, ap, ◌∙◌, subst, arith, Bool, true, false, List, length, Option, Some, None, cond}
-use Rattle.std.specs.Prelude.{ℤ, pos, ◌+ℤ◌, ◌-ℤ◌, ◌&&◌, not, is_none, get_or, set, option_map}
-use Rattle.std.specs.List.{list_all, list_any}
-use Rattle.std.specs.Option.{option_map_or}
-use Rattle.std.proofs.lemmas.Bool.{and_parts, or_cases, eqb-true, eq-eqb, false≢true}
+-- What the new program puts into a register or slot by itself, and what a change leaves of each fact.
+use Rattle.std.proofs.Common.{◌≡◌, ℕ, ◌+◌, ◌%◌, ◌<◌, inl, inr, refl, sym, ap, ◌∙◌, subst, arith, Bool, true, false, Option, Some, None, cond}
+use Rattle.std.specs.Prelude.{ℤ, pos, ◌+ℤ◌, ◌-ℤ◌, neg_ℤ, ◌&&◌, ◌||◌, not, is_none, get_or, option_map}
+use Rattle.std.specs.List.{find, list_any}
+use Rattle.std.specs.Option.{is_some, option_map_or}
+use Rattle.std.proofs.lemmas.Bool.{and_parts, or_cases, eqb-true, false≢true}
 use Rattle.std.proofs.lemmas.Int.{ints}
-use Rattle.std.proofs.lemmas.Option.{none-some, same_Some}
+use Rattle.std.proofs.lemmas.Option.{none-some, same_Some, option_and_then_some}
 use Rattle.bpf_insn.specs.Arithmetic.{modulo, extended}
 use Rattle.bpf_insn.specs.Effects.{is_frame_pointer}
 use Rattle.bpf_insn.specs.Limits.{frame_bytes}
@@ -13,33 +13,45 @@ use Rattle.bpf_insn.specs.Image.{HasEncoding}
 use Rattle.bpf_insn.specs.Instruction.{register_number}
 use Rattle.bpf_insn.specs.declared.order.Order.{Order}
 use Rattle.bpf_insn.specs.declared.instruction.Reg.{Reg}
+use Rattle.bpf_insn.specs.declared.instruction.Reg.TheVariants.{R0}
 use Rattle.bpf_insn.specs.declared.instruction.Operand.{Operand}
 use Rattle.bpf_insn.specs.declared.instruction.Operand.TheVariants.{Imm, Reg as FromReg}
 use Rattle.bpf_insn.specs.declared.instruction.Width.TheVariants.{W64}
 use Rattle.bpf_insn.specs.declared.instruction.AluOp.{AluOp}
 use Rattle.bpf_insn.specs.declared.instruction.AluOp.TheVariants.{Add, Sub, Mov}
 use Rattle.bpf_insn.specs.declared.instruction.Insn.{Insn}
-use Rattle.bpf_insn.specs.declared.instruction.Insn.TheVariants.{Alu, LoadImm64}
-use Rattle.bpf_semantics.specs.Flat.{FlatState, addresses, flat_register, flat_operand, flat_put}
+use Rattle.bpf_insn.specs.declared.instruction.Insn.TheVariants.{Alu, LoadImm64, Load, Store, StoreImm}
+use Rattle.bpf_semantics.specs.Flat.{FlatState, IsFlat, addresses, flat_register, flat_operand}
 use Rattle.bpf_semantics.proofs.FlatArith.{Same, same_refl, same_sym, same_trans, same_plus, same_minus, same_equal, modulo-same}
 use Rattle.bpf_semantics.proofs.NumberLemmas.{modulo_below}
+use Rattle.bpf_semantics.proofs.StateLemmas.{option_map_some}
+use Rattle.bpf_kept.specs.declared.notes.Holder.{Holder}
+use Rattle.bpf_kept.specs.declared.notes.Holder.TheVariants.{Register, Slot}
 use Rattle.bpf_kept.specs.declared.notes.Term.{Term}
 use Rattle.bpf_kept.specs.declared.notes.Fact.{Fact}
-use Rattle.bpf_kept.specs.declared.notes.Change.TheVariants.{Kept, Put, Made}
-use Rattle.bpf_kept.specs.Terms.{Facts, Differs, DiffersBy, Holds, AllHold, value_in, shift, constant, zero_term, frame_end, plus, minus}
-use Rattle.bpf_kept.specs.Rules.{is_register, is_base, is_enough, gives, sum_base, difference_base, both, is_known, is_sum, is_difference, is_moved, made_by, known_number, known_operand, of_number, of_operand, by_operand, made, stays, put_gives, made_gives, holds_behind}
-use Rattle.bpf_kept.proofs.TermLaw.{shift_plus, shift_minus, shift_constant, differs_same, same_differs, same_number}
-use Rattle.bpf_kept.proofs.HoldsLaw.{IsHigh, any_holds, all_of, register_value, none_value, base_same, enough_differs, gives_holds, stays_holds, other_holds, there_now}
-use Rattle.bpf_kept.proofs.PutLaw.{IsEnd, put_value}
+use Rattle.bpf_kept.specs.declared.notes.Change.TheVariants.{Kept, Put, Stored, Made}
+use Rattle.bpf_kept.specs.Terms.{Facts, Values, Differs, DiffersBy, Holds, AllHold, value_in, shift, constant, zero_term, frame_end, plus, minus, negated}
+use Rattle.bpf_kept.specs.Slots.{slot_at, is_clear}
+use Rattle.bpf_kept.specs.Rules.{is_holder, is_register, is_base, is_enough, gives, sum_base, difference_base, both, is_known, is_sum, is_difference, is_moved, made_by, made_from, of_slot, known_number, known_operand, pinned, pin_of, pins, of_number, of_operand, by_operand, made, stays, outlives, put_gives, made_gives, stored_gives, holds_behind}
+use Rattle.bpf_kept.proofs.TermLaw.{shift_plus, shift_minus, shift_neg, shift_constant, differs_same, same_differs, same_number}
+use Rattle.bpf_kept.proofs.HoldsLaw.{IsHigh, Elsewhere, any_holds, pinned_differs, held, none_is, base_same, enough_differs, gives_holds, stays_holds, other_holds}
+use Rattle.bpf_kept.proofs.FrameLaw.{IsRoomy, IsEnd, slot_access, slot_loaded}
+use Rattle.bpf_kept.proofs.PutValue.{put_value}
+
+-- what the new program puts into a register, or stores to a slot
+abbrev pub made_value : Order → Insn → FlatState → ℕ
+made_value order (Store size dst off src) g = flat_register g src
+made_value order (StoreImm size dst off imm) g = extended imm
+made_value order m g = put_value order m g
 
 -- a number is known by what it is to be
-abbrev pub KnownAs : ℕ → FlatState → Fact → ℕ → Type 0
-KnownAs start f fact y = DiffersBy start fact.by (value_in f.registers fact.base) y
+abbrev pub KnownAs : ℕ → Values → Fact → ℕ → Type 0
+KnownAs start old fact y = DiffersBy start fact.by (old fact.base) y
 
-moved_known : (start : ℕ) (f : FlatState) (b want : Fact) (y : ℕ) → IsHigh start → KnownAs start f b y → is_moved b want ≡ true → KnownAs start f want y
-moved_known start f b want y high d e =
+moved_known : (start : ℕ) (old : Values) (b want : Fact) (y : ℕ) → IsHigh start → KnownAs start old b y → is_moved b want ≡ true → KnownAs start old want y
+moved_known start old b want y high d e =
     let c = and_parts (is_base b.base want.base) (is_enough b.by want.by) e in
-    enough_differs start b.by want.by (value_in f.registers want.base) y high c.1 (subst (λ x. DiffersBy start b.by x y) (base_same f.registers b.base want.base c.0) d)
+    enough_differs start b.by want.by (old want.base) y high c.1 (subst (λ x. DiffersBy start b.by x y) (base_same old b.base want.base c.0) d)
 
 -- ---- sums and differences
 
@@ -61,16 +73,16 @@ are_both combine a b want e = by_left a.by refl e
     by_left None eo h = absurd (false≢true h)
     by_left (Some t) eo h = by_right t eo b.by refl h
 
-sum_bases : (xs : List ℕ) (a b want : Option Reg) → sum_base a b want ≡ true → pos (value_in xs a) +ℤ pos (value_in xs b) ≡ pos (value_in xs want)
-sum_bases xs a b want e = elim (or_cases (is_none a && is_base b want) (is_none b && is_base a want) e) [
-  | inl h ↦ (let c = and_parts (is_none a) (is_base b want) h in let none = none_value xs a c.0 in let same = base_same xs b want c.1 in omega (arith, ints))
-  | inr h ↦ (let c = and_parts (is_none b) (is_base a want) h in let none = none_value xs b c.0 in let same = base_same xs a want c.1 in omega (arith, ints))
+sum_bases : (old : Values) (a b want : Option Holder) → old None ≡ 0 → sum_base a b want ≡ true → pos (old a) +ℤ pos (old b) ≡ pos (old want)
+sum_bases old a b want zero e = elim (or_cases (is_none a && is_base b want) (is_none b && is_base a want) e) [
+  | inl h ↦ (let c = and_parts (is_none a) (is_base b want) h in let none : old a ≡ 0 = none_is old a c.0 ∙ zero in let same = base_same old b want c.1 in omega (arith, ints))
+  | inr h ↦ (let c = and_parts (is_none b) (is_base a want) h in let none : old b ≡ 0 = none_is old b c.0 ∙ zero in let same = base_same old a want c.1 in omega (arith, ints))
 ]
 
-difference_bases : (xs : List ℕ) (a b want : Option Reg) → difference_base a b want ≡ true → pos (value_in xs a) -ℤ pos (value_in xs b) ≡ pos (value_in xs want)
-difference_bases xs a b want e = elim (or_cases (is_none b && is_base a want) (is_base a b && is_none want) e) [
-  | inl h ↦ (let c = and_parts (is_none b) (is_base a want) h in let none = none_value xs b c.0 in let same = base_same xs a want c.1 in omega (arith, ints))
-  | inr h ↦ (let c = and_parts (is_base a b) (is_none want) h in let same = base_same xs a b c.0 in let none = none_value xs want c.1 in omega (arith, ints))
+difference_bases : (old : Values) (a b want : Option Holder) → old None ≡ 0 → difference_base a b want ≡ true → pos (old a) -ℤ pos (old b) ≡ pos (old want)
+difference_bases old a b want zero e = elim (or_cases (is_none b && is_base a want) (is_base a b && is_none want) e) [
+  | inl h ↦ (let c = and_parts (is_none b) (is_base a want) h in let none : old b ≡ 0 = none_is old b c.0 ∙ zero in let same = base_same old a want c.1 in omega (arith, ints))
+  | inr h ↦ (let c = and_parts (is_base a b) (is_none want) h in let same = base_same old a b c.0 in let none : old want ≡ 0 = none_is old want c.1 ∙ zero in omega (arith, ints))
 ]
 
 sum_same : (xa xb y z : ℕ) (s t : ℤ) → Same (pos y) (pos xa +ℤ s) → Same (pos z) (pos xb +ℤ t) → Same (pos ((y + z) % addresses)) ((pos xa +ℤ pos xb) +ℤ (s +ℤ t))
@@ -84,25 +96,23 @@ difference_same xa xb y z s t p q =
     let again : (pos xa +ℤ s) -ℤ (pos xb +ℤ t) ≡ (pos xa -ℤ pos xb) +ℤ (s -ℤ t) = omega (arith, ints) in
     same_trans (modulo-same (pos y -ℤ pos z)) (same_trans (same_minus p q) (same_equal again))
 
-by_term : (start : ℕ) (f : FlatState) (fact : Fact) (t : Term) (y : ℕ) → fact.by ≡ Some t → KnownAs start f fact y → Same (pos y) (pos (value_in f.registers fact.base) +ℤ shift start t)
-by_term start f fact t y e d = differs_same start t (value_in f.registers fact.base) y (subst (λ by. DiffersBy start by (value_in f.registers fact.base) y) e d)
+by_term : (start : ℕ) (old : Values) (fact : Fact) (t : Term) (y : ℕ) → fact.by ≡ Some t → KnownAs start old fact y → Same (pos y) (pos (old fact.base) +ℤ shift start t)
+by_term start old fact t y e d = differs_same start t (old fact.base) y (subst (λ by. DiffersBy start by (old fact.base) y) e d)
 
-sum_known : (start : ℕ) (f : FlatState) (a b want : Fact) (y z : ℕ) → IsHigh start → KnownAs start f a y → KnownAs start f b z → (sum_base a.base b.base want.base && is_known (both plus a.by b.by) want.by) ≡ true → KnownAs start f want ((y + z) % addresses)
-sum_known start f a b want y z high ha hb e =
+sum_known : (start : ℕ) (old : Values) (a b want : Fact) (y z : ℕ) → IsHigh start → old None ≡ 0 → KnownAs start old a y → KnownAs start old b z → (sum_base a.base b.base want.base && is_known (both plus a.by b.by) want.by) ≡ true → KnownAs start old want ((y + z) % addresses)
+sum_known start old a b want y z high zero ha hb e =
     let c = and_parts (sum_base a.base b.base want.base) (is_known (both plus a.by b.by) want.by) e in
     let t = are_both plus a b want.by c.1 in
-    let xs = f.registers in
-    let all = same_trans (sum_same (value_in xs a.base) (value_in xs b.base) y z (shift start t.left) (shift start t.right) (by_term start f a t.left y t.left_is ha) (by_term start f b t.right z t.right_is hb)) (same_plus (same_equal (sum_bases xs a.base b.base want.base c.0)) (same_sym (shift_plus start t.left t.right))) in
-    enough_differs start (Some (plus t.left t.right)) want.by (value_in xs want.base) ((y + z) % addresses) high t.enough (same_differs start (plus t.left t.right) (value_in xs want.base) ((y + z) % addresses) (omega arith) all)
+    let all = same_trans (sum_same (old a.base) (old b.base) y z (shift start t.left) (shift start t.right) (by_term start old a t.left y t.left_is ha) (by_term start old b t.right z t.right_is hb)) (same_plus (same_equal (sum_bases old a.base b.base want.base zero c.0)) (same_sym (shift_plus start t.left t.right))) in
+    enough_differs start (Some (plus t.left t.right)) want.by (old want.base) ((y + z) % addresses) high t.enough (same_differs start (plus t.left t.right) (old want.base) ((y + z) % addresses) (omega arith) all)
 
-difference_known : (start : ℕ) (f : FlatState) (a b want : Fact) (y z : ℕ) → IsHigh start → KnownAs start f a y → KnownAs start f b z → (difference_base a.base b.base want.base && is_known (both minus a.by b.by) want.by) ≡ true → KnownAs start f want (modulo (pos y -ℤ pos z) addresses)
-difference_known start f a b want y z high ha hb e =
+difference_known : (start : ℕ) (old : Values) (a b want : Fact) (y z : ℕ) → IsHigh start → old None ≡ 0 → KnownAs start old a y → KnownAs start old b z → (difference_base a.base b.base want.base && is_known (both minus a.by b.by) want.by) ≡ true → KnownAs start old want (modulo (pos y -ℤ pos z) addresses)
+difference_known start old a b want y z high zero ha hb e =
     let c = and_parts (difference_base a.base b.base want.base) (is_known (both minus a.by b.by) want.by) e in
     let t = are_both minus a b want.by c.1 in
-    let xs = f.registers in
     let w : ℕ = modulo (pos y -ℤ pos z) addresses in
-    let all = same_trans (difference_same (value_in xs a.base) (value_in xs b.base) y z (shift start t.left) (shift start t.right) (by_term start f a t.left y t.left_is ha) (by_term start f b t.right z t.right_is hb)) (same_plus (same_equal (difference_bases xs a.base b.base want.base c.0)) (same_sym (shift_minus start t.left t.right))) in
-    enough_differs start (Some (minus t.left t.right)) want.by (value_in xs want.base) w high t.enough (same_differs start (minus t.left t.right) (value_in xs want.base) w (modulo_below (pos y -ℤ pos z)) all)
+    let all = same_trans (difference_same (old a.base) (old b.base) y z (shift start t.left) (shift start t.right) (by_term start old a t.left y t.left_is ha) (by_term start old b t.right z t.right_is hb)) (same_plus (same_equal (difference_bases old a.base b.base want.base zero c.0)) (same_sym (shift_minus start t.left t.right))) in
+    enough_differs start (Some (minus t.left t.right)) want.by (old want.base) w high t.enough (same_differs start (minus t.left t.right) (old want.base) w (modulo_below (pos y -ℤ pos z)) all)
 
 -- ---- operands
 
@@ -114,14 +124,6 @@ end_known start y e =
     let s : Same (pos y) (pos (start + frame_bytes)) = subst (λ y. Same (pos y) (pos (start + frame_bytes))) (sym e) (modulo-same (pos (start + frame_bytes))) in
     same_differs start frame_end 0 y (omega arith) (same_trans s (record { p = 0; q = start; same = omega (arith, ints) }))
 
-known_operand_is : (start : ℕ) (f g : FlatState) (src : Operand) (b : Fact) → IsEnd start g.registers → known_operand src ≡ Some b → KnownAs start f b (flat_operand g src)
-known_operand_is start f g (Imm imm) b end e = subst (λ b. KnownAs start f b (extended imm)) (same_Some (known_number None (constant (extended imm))) b e) (constant_known start (extended imm) (modulo_below imm))
-known_operand_is start f g (FromReg r) b end e = by_test (is_frame_pointer r) refl e
-  where
-    by_test : (c : Bool) → is_frame_pointer r ≡ c → cond c (Some (known_number (Some r) frame_end)) None ≡ Some b → KnownAs start f b (flat_register g r)
-    by_test false ec h = absurd (none-some _ h)
-    by_test true ec h = subst (λ b. KnownAs start f b (flat_register g r)) (same_Some (known_number (Some r) frame_end) b h) (end_known start (flat_register g r) (ap (λ n. get_or g.registers n 0) (eqb-true (register_number r) 10 ec) ∙ end))
-
 -- a constant, by what 0 is
 shifted_known : (start x n : ℕ) (t : Term) → n < addresses → Differs start t x 0 → Differs start (plus t (constant n)) x n
 shifted_known start x n t small d =
@@ -132,133 +134,197 @@ shifted_known start x n t small d =
     let first : pos n ≡ pos 0 +ℤ pos n = omega (arith, ints) in
     same_differs start (plus t (constant n)) x n small (same_trans (same_equal first) (same_trans sum (same_trans (same_equal again) (same_plus (same_refl (pos x)) (same_sym by)))))
 
-of_number_is : (start : ℕ) (f : FlatState) (registers : List ℕ) (n : ℕ) (fact b : Fact) → n < addresses → Holds start f registers fact → of_number n fact ≡ Some b → KnownAs start f b n
-of_number_is start f registers n fact b small h e = by_test (is_none fact.of) refl e
+of_number_is : (start : ℕ) (old new : Values) (n : ℕ) (fact b : Fact) → new None ≡ 0 → n < addresses → Holds start old new fact → of_number n fact ≡ Some b → KnownAs start old b n
+of_number_is start old new n fact b zero small h e = by_test (is_none fact.of) refl e
   where
-    by_by : (o : Option Term) → fact.by ≡ o → is_none fact.of ≡ true → option_map (λ t. record { of = None; base = fact.base; by = Some (plus t (constant n)) }) o ≡ Some b → KnownAs start f b n
+    by_by : (o : Option Term) → fact.by ≡ o → is_none fact.of ≡ true → option_map (λ t. record { of = None; base = fact.base; by = Some (plus t (constant n)) }) o ≡ Some b → KnownAs start old b n
     by_by None eo ec m = absurd (none-some _ m)
     by_by (Some t) eo ec m =
-        let d : DiffersBy start (Some t) (value_in f.registers fact.base) (value_in registers fact.of) = subst (λ by. DiffersBy start by (value_in f.registers fact.base) (value_in registers fact.of)) eo h in
-        subst (λ b. KnownAs start f b n) (same_Some _ b m)
-        (shifted_known start (value_in f.registers fact.base) n t small (subst (λ y. Differs start t (value_in f.registers fact.base) y) (none_value registers fact.of ec) d))
+        let d : DiffersBy start (Some t) (old fact.base) (new fact.of) = subst (λ by. DiffersBy start by (old fact.base) (new fact.of)) eo h in
+        subst (λ b. KnownAs start old b n) (same_Some _ b m)
+        (shifted_known start (old fact.base) n t small (subst (λ y. Differs start t (old fact.base) y) (none_is new fact.of ec ∙ zero) d))
 
-    by_test : (c : Bool) → is_none fact.of ≡ c → cond c (option_map (λ t. record { of = None; base = fact.base; by = Some (plus t (constant n)) }) fact.by) None ≡ Some b → KnownAs start f b n
+    by_test : (c : Bool) → is_none fact.of ≡ c → cond c (option_map (λ t. record { of = None; base = fact.base; by = Some (plus t (constant n)) }) fact.by) None ≡ Some b → KnownAs start old b n
     by_test false ec m = absurd (none-some _ m)
     by_test true ec m = by_by fact.by refl ec m
 
-of_operand_is : (start : ℕ) (f g : FlatState) (src : Operand) (fact b : Fact) → Holds start f g.registers fact → of_operand src fact ≡ Some b → KnownAs start f b (flat_operand g src)
-of_operand_is start f g (Imm imm) fact b h e = of_number_is start f g.registers (extended imm) fact b (modulo_below imm) h e
-of_operand_is start f g (FromReg r) fact b h e = by_test (is_register r fact.of) refl e
-  where
-    by_test : (c : Bool) → is_register r fact.of ≡ c → cond c (Some fact) None ≡ Some b → KnownAs start f b (flat_register g r)
-    by_test false ec n = absurd (none-some _ n)
-    by_test true ec n = subst (λ b. KnownAs start f b (flat_register g r)) (same_Some fact b n) (subst (λ y. DiffersBy start fact.by (value_in f.registers fact.base) y) (register_value g.registers r fact.of ec) h)
-
 -- ---- what is made
 
-module _ (order : Order) (start : ℕ) (facts : Facts) (f g : FlatState) (high : IsHigh start) (end : IsEnd start g.registers) (all : AllHold start f facts g.registers) where
-  sum_made : (dst : Reg) (b want a : Fact) (z : ℕ) → Holds start f g.registers a → KnownAs start f b z → is_sum dst b want a ≡ true → KnownAs start f want ((flat_register g dst + z) % addresses)
+module _ (order : Order) (start : ℕ) (facts : Facts) (f g : FlatState) (high : IsHigh start) (room : IsRoomy start) (flat : IsFlat g) (end : IsEnd start g.registers) (all : AllHold start (value_in order start f) (value_in order start g) facts) where
+  abbrev old : Values
+  old = value_in order start f
+
+  abbrev new : Values
+  new = value_in order start g
+
+  known_operand_is : (src : Operand) (b : Fact) → known_operand src ≡ Some b → KnownAs start old b (flat_operand g src)
+  known_operand_is (Imm imm) b e = subst (λ b. KnownAs start old b (extended imm)) (same_Some (known_number None (constant (extended imm))) b e) (constant_known start (extended imm) (modulo_below imm))
+  known_operand_is (FromReg r) b e = by_test (is_frame_pointer r) refl e
+    where
+      by_test : (c : Bool) → is_frame_pointer r ≡ c → cond c (Some (known_number (Some (Register r)) frame_end)) None ≡ Some b → KnownAs start old b (flat_register g r)
+      by_test false ec h = absurd (none-some _ h)
+      by_test true ec h = subst (λ b. KnownAs start old b (flat_register g r)) (same_Some (known_number (Some (Register r)) frame_end) b h) (end_known start (flat_register g r) (ap (λ n. get_or g.registers n 0) (eqb-true (register_number r) 10 ec) ∙ end))
+
+  of_operand_is : (src : Operand) (fact b : Fact) → Holds start old new fact → of_operand src fact ≡ Some b → KnownAs start old b (flat_operand g src)
+  of_operand_is (Imm imm) fact b h e = of_number_is start old new (extended imm) fact b refl (modulo_below imm) h e
+  of_operand_is (FromReg r) fact b h e = by_test (is_register r fact.of) refl e
+    where
+      by_test : (c : Bool) → is_register r fact.of ≡ c → cond c (Some fact) None ≡ Some b → KnownAs start old b (flat_register g r)
+      by_test false ec n = absurd (none-some _ n)
+      by_test true ec n = subst (λ b. KnownAs start old b (flat_register g r)) (same_Some fact b n) (subst (λ y. DiffersBy start fact.by (old fact.base) y) (held new (Register r) fact.of ec) h)
+
+  sum_made : (dst : Reg) (b want a : Fact) (z : ℕ) → Holds start old new a → KnownAs start old b z → is_sum dst b want a ≡ true → KnownAs start old want ((flat_register g dst + z) % addresses)
   sum_made dst b want a z ha hb e =
       let c = and_parts (is_register dst a.of) (sum_base a.base b.base want.base && is_known (both plus a.by b.by) want.by) e in
-      sum_known start f a b want (flat_register g dst) z high (subst (λ y. KnownAs start f a y) (register_value g.registers dst a.of c.0) ha) hb c.1
+      sum_known start old a b want (flat_register g dst) z high refl (subst (λ y. KnownAs start old a y) (held new (Register dst) a.of c.0) ha) hb c.1
 
-  difference_made : (dst : Reg) (b want a : Fact) (z : ℕ) → Holds start f g.registers a → KnownAs start f b z → is_difference dst b want a ≡ true → KnownAs start f want (modulo (pos (flat_register g dst) -ℤ pos z) addresses)
+  difference_made : (dst : Reg) (b want a : Fact) (z : ℕ) → Holds start old new a → KnownAs start old b z → is_difference dst b want a ≡ true → KnownAs start old want (modulo (pos (flat_register g dst) -ℤ pos z) addresses)
   difference_made dst b want a z ha hb e =
       let c = and_parts (is_register dst a.of) (difference_base a.base b.base want.base && is_known (both minus a.by b.by) want.by) e in
-      difference_known start f a b want (flat_register g dst) z high (subst (λ y. KnownAs start f a y) (register_value g.registers dst a.of c.0) ha) hb c.1
+      difference_known start old a b want (flat_register g dst) z high refl (subst (λ y. KnownAs start old a y) (held new (Register dst) a.of c.0) ha) hb c.1
 
-  by_fact : (op : AluOp) (dst : Reg) (src : Operand) (want b : Fact) → KnownAs start f b (flat_operand g src) → made_by facts op dst want b ≡ true → KnownAs start f want (put_value order (Alu op W64 dst src) g)
-  by_fact Mov dst src want b hb e = moved_known start f b want (flat_operand g src) high hb e
-  by_fact Add dst src want b hb e = let h = any_holds (is_sum dst b want) (Holds start f g.registers) facts e all in sum_made dst b want h.0 (flat_operand g src) h.2 hb h.1
-  by_fact Sub dst src want b hb e = let h = any_holds (is_difference dst b want) (Holds start f g.registers) facts e all in difference_made dst b want h.0 (flat_operand g src) h.2 hb h.1
+  by_fact : (op : AluOp) (dst : Reg) (src : Operand) (want b : Fact) → KnownAs start old b (flat_operand g src) → made_by facts op dst want b ≡ true → KnownAs start old want (put_value order (Alu op W64 dst src) g)
+  by_fact Mov dst src want b hb e = moved_known start old b want (flat_operand g src) high hb e
+  by_fact Add dst src want b hb e = let h = any_holds (is_sum dst b want) (Holds start old new) facts e all in sum_made dst b want h.0 (flat_operand g src) h.2 hb h.1
+  by_fact Sub dst src want b hb e = let h = any_holds (is_difference dst b want) (Holds start old new) facts e all in difference_made dst b want h.0 (flat_operand g src) h.2 hb h.1
   by_fact op dst src want b hb e = absurd (false≢true e)
 
-  made_known : (m : Insn) (want : Fact) → HasEncoding m → made facts m want ≡ true → KnownAs start f want (put_value order m g)
-  unfolding made
-  made_known (Alu op W64 dst src) want enc e = elim (or_cases (option_map_or (made_by facts op dst want) (known_operand src) false) (list_any (by_operand facts op dst src want) facts) e) [
+  from_known : (op : AluOp) (dst : Reg) (src : Operand) (want : Fact) → made_from facts op dst src want ≡ true → KnownAs start old want (put_value order (Alu op W64 dst src) g)
+  from_known op dst src want e = elim (or_cases (option_map_or (made_by facts op dst want) (known_operand src) false) (list_any (by_operand facts op dst src want) facts) e) [
     | inl by_itself ↦ by_known (known_operand src) refl by_itself
-    | inr by_other ↦ (let h = any_holds (by_operand facts op dst src want) (Holds start f g.registers) facts by_other all in by_one h.0 h.2 (of_operand src h.0) refl h.1)
+    | inr by_other ↦ (let h = any_holds (by_operand facts op dst src want) (Holds start old new) facts by_other all in by_one h.0 h.2 (of_operand src h.0) refl h.1)
   ]
     where
-      by_known : (o : Option Fact) → known_operand src ≡ o → option_map_or (made_by facts op dst want) o false ≡ true → KnownAs start f want (put_value order (Alu op W64 dst src) g)
+      by_known : (o : Option Fact) → known_operand src ≡ o → option_map_or (made_by facts op dst want) o false ≡ true → KnownAs start old want (put_value order (Alu op W64 dst src) g)
       by_known None eo h = absurd (false≢true h)
-      by_known (Some b) eo h = by_fact op dst src want b (known_operand_is start f g src b end eo) h
+      by_known (Some b) eo h = by_fact op dst src want b (known_operand_is src b eo) h
 
-      by_one : (fact : Fact) → Holds start f g.registers fact → (o : Option Fact) → of_operand src fact ≡ o → option_map_or (made_by facts op dst want) o false ≡ true → KnownAs start f want (put_value order (Alu op W64 dst src) g)
+      by_one : (fact : Fact) → Holds start old new fact → (o : Option Fact) → of_operand src fact ≡ o → option_map_or (made_by facts op dst want) o false ≡ true → KnownAs start old want (put_value order (Alu op W64 dst src) g)
       by_one fact hf None eo h = absurd (false≢true h)
-      by_one fact hf (Some b) eo h = by_fact op dst src want b (of_operand_is start f g src fact b hf eo) h
+      by_one fact hf (Some b) eo h = by_fact op dst src want b (of_operand_is src fact b hf eo) h
+
+  -- what an instruction puts, or stores
+  pub made_known : (m : Insn) (want : Fact) → HasEncoding m → made facts m want ≡ true → KnownAs start old want (made_value order m g)
+  unfolding made
+  made_known (Alu op W64 dst src) want enc e = from_known op dst src want e
   made_known (LoadImm64 dst value) want enc e = elim (or_cases (is_moved (known_number None (constant value)) want) (list_any (λ fact. option_map_or (λ b. is_moved b want) (of_number value fact) false) facts) e) [
-    | inl by_itself ↦ moved_known start f (known_number None (constant value)) want value high (constant_known start value enc) by_itself
-    | inr by_other ↦ (let h = any_holds (λ fact. option_map_or (λ b. is_moved b want) (of_number value fact) false) (Holds start f g.registers) facts by_other all in by_zero h.0 h.2 (of_number value h.0) refl h.1)
+    | inl by_itself ↦ moved_known start old (known_number None (constant value)) want value high (constant_known start value enc) by_itself
+    | inr by_other ↦ (let h = any_holds (λ fact. option_map_or (λ b. is_moved b want) (of_number value fact) false) (Holds start old new) facts by_other all in by_zero h.0 h.2 (of_number value h.0) refl h.1)
   ]
     where
-      by_zero : (fact : Fact) → Holds start f g.registers fact → (o : Option Fact) → of_number value fact ≡ o → option_map_or (λ b. is_moved b want) o false ≡ true → KnownAs start f want value
+      by_zero : (fact : Fact) → Holds start old new fact → (o : Option Fact) → of_number value fact ≡ o → option_map_or (λ b. is_moved b want) o false ≡ true → KnownAs start old want value
       by_zero fact hf None eo h = absurd (false≢true h)
-      by_zero fact hf (Some b) eo h = moved_known start f b want value high (of_number_is start f g.registers value fact b enc hf eo) h
+      by_zero fact hf (Some b) eo h = moved_known start old b want value high (of_number_is start old new value fact b refl enc hf eo) h
+  made_known (Load size dst src off) want enc e = by_slot (slot_at size src off) refl e
+    where
+      by_slot : (o : Option ℕ) → slot_at size src off ≡ o → option_map_or (λ n. list_any (of_slot n want) facts) o false ≡ true → KnownAs start old want (put_value order (Load size dst src off) g)
+      by_slot None eo h = absurd (false≢true h)
+      by_slot (Some n) eo h =
+          let k = any_holds (of_slot n want) (Holds start old new) facts h all in
+          let c = and_parts (is_holder (Slot n) k.0.of) (is_moved k.0 want) k.1 in
+          let there = slot_loaded order start n size g src off room end enc (slot_access start n size src off eo) in
+          subst (λ y. KnownAs start old want y) (sym there) (moved_known start old k.0 want (new (Some (Slot n))) high (subst (λ y. KnownAs start old k.0 y) (held new (Slot n) k.0.of c.0) k.2) c.1)
+  made_known (Store size dst off src) want enc e = from_known Mov src (FromReg src) want e
+  made_known (StoreImm size dst off imm) want enc e = from_known Mov R0 (Imm imm) want e
   made_known m want enc e = absurd (false≢true e)
+
+-- ---- what the old program puts or stores, where it is known by itself
+
+zero_pin : (start n : ℕ) → n < addresses → Differs start (negated (constant n)) n 0
+zero_pin start n small =
+    let back : pos n +ℤ (pos 0 -ℤ pos n) ≡ pos 0 = omega (arith, ints) in
+    let by : Same (shift start (negated (constant n))) (pos 0 -ℤ pos n) = same_trans (shift_neg start (constant n)) (same_equal (ap neg_ℤ (shift_constant start n) ∙ opposite (pos n))) in
+    same_differs start (negated (constant n)) n 0 (omega arith) (same_sym (same_trans (same_plus (same_refl (pos n)) by) (same_equal back)))
+  where
+    opposite : (z : ℤ) → neg_ℤ z ≡ pos 0 -ℤ z
+    opposite z = omega (arith, ints)
+
+moved_pin : (start x n : ℕ) (t : Term) → n < addresses → Differs start t x 0 → Differs start (minus t (constant n)) ((x + n) % addresses) 0
+moved_pin start x n t small d =
+    let zero_is : Same (pos 0) (pos x +ℤ shift start t) = differs_same start t x 0 d in
+    let again : pos x +ℤ shift start t ≡ (pos x +ℤ pos n) +ℤ (shift start t -ℤ pos n) = omega (arith, ints) in
+    let by : Same (shift start (minus t (constant n))) (shift start t -ℤ pos n) = same_trans (shift_minus start t (constant n)) (same_minus (same_refl (shift start t)) (same_equal (shift_constant start n))) in
+    same_differs start (minus t (constant n)) ((x + n) % addresses) 0 (omega arith) (same_trans zero_is (same_trans (same_equal again) (same_plus (same_sym (modulo-same (pos (x + n)))) (same_sym by))))
+
+module _ (order : Order) (start : ℕ) (facts : Facts) (f g : FlatState) (room : IsRoomy start) (flat : IsFlat f) (end : IsEnd start f.registers) (all : AllHold start (value_in order start f) (value_in order start g) facts) where
+  pub pinned_is : (h : Holder) (t : Term) → pinned facts h ≡ Some t → Differs start t (value_in order start f (Some h)) 0
+  pinned_is h t e = pinned_differs start (value_in order start f) (value_in order start g) facts h t all e
+
+  pub pin_is : (i : Insn) (t : Term) → HasEncoding i → pin_of facts i ≡ Some t → Differs start t (made_value order i f) 0
+  pin_is (Alu Mov W64 dst (Imm imm)) t enc e = subst (λ t. Differs start t (extended imm) 0) (same_Some (negated (constant (extended imm))) t e) (zero_pin start (extended imm) (modulo_below imm))
+  pin_is (Alu Mov W64 dst (FromReg src)) t enc e = pinned_is (Register src) t e
+  pin_is (Alu Add W64 dst (Imm imm)) t enc e =
+      let h = option_map_some (λ t. minus t (constant (extended imm))) (pinned facts (Register dst)) t e in
+      subst (λ t. Differs start t ((flat_register f dst + extended imm) % addresses) 0) h.2 (moved_pin start (flat_register f dst) (extended imm) h.0 (modulo_below imm) (pinned_is (Register dst) h.0 h.1))
+  pin_is (LoadImm64 dst value) t enc e = subst (λ t. Differs start t value 0) (same_Some (negated (constant value)) t e) (zero_pin start value enc)
+  pin_is (Load size dst src off) t enc e = option_and_then_some _ (slot_at size src off) t e (λ n en et.
+      let there = slot_loaded order start n size f src off room end enc (slot_access start n size src off en) in
+      subst (λ x. Differs start t x 0) (sym there) (pinned_is (Slot n) t et))
+  pin_is (Store size dst off src) t enc e = pinned_is (Register src) t e
+  pin_is (StoreImm size dst off imm) t enc e = subst (λ t. Differs start t (extended imm) 0) (same_Some (negated (constant (extended imm))) t e) (zero_pin start (extended imm) (modulo_below imm))
+  pin_is i t enc e = absurd (none-some _ e)
 
 -- ---- what holds behind a change
 
-nothing_holds : (start : ℕ) (f : FlatState) (registers : List ℕ) (want : Fact) → IsHigh start → gives (known_number None zero_term) want ≡ true → Holds start f registers want
-nothing_holds start f registers want high e = gives_holds start f registers (known_number None zero_term) want high e (same_number start 0 (omega arith))
+module _ (start : ℕ) (facts : Facts) (high : IsHigh start) where
+  nothing_holds : (old new : Values) (want : Fact) → old None ≡ 0 → new None ≡ 0 → gives (known_number None zero_term) want ≡ true → Holds start old new want
+  nothing_holds old new want zero zero' e =
+      gives_holds start high old new (known_number None zero_term) want e (subst (λ x. Differs start zero_term x (new None)) (sym zero) (subst (λ y. Differs start zero_term 0 y) (sym zero') (same_number start 0 (omega arith))))
 
-pub kept_hold : (start : ℕ) (f : FlatState) (facts wants : Facts) (registers : List ℕ) → IsHigh start → AllHold start f facts registers → list_all (holds_behind facts Kept) wants ≡ true → AllHold start f wants registers
-unfolding holds_behind
-kept_hold start f facts wants registers high all e = all_of (holds_behind facts Kept) (Holds start f registers) wants e (λ want h. elim (or_cases (gives (known_number None zero_term) want) (list_any (λ have. gives have want) facts) h) [
-  | inl nothing ↦ nothing_holds start f registers want high nothing
-  | inr some ↦ (let c = any_holds (λ have. gives have want) (Holds start f registers) facts some all in gives_holds start f registers c.0 want high c.1 c.2)
-])
+  some_holds : (old new : Values) (test : Fact → Bool) (want : Fact) → AllHold start old new facts → list_any (λ have. test have && gives have want) facts ≡ true → (have : Fact) × (test have ≡ true) × (gives have want ≡ true) × Holds start old new have
+  some_holds old new test want all e =
+      let c = any_holds (λ have. test have && gives have want) (Holds start old new) facts e all in
+      let b = and_parts (test c.0) (gives c.0 want) c.1 in
+      (c.0, b.0, b.1, c.2)
 
-pub put_hold : (start : ℕ) (f : FlatState) (facts wants : Facts) (registers : List ℕ) (r : Reg) (by : Option Term) (x y : ℕ) → IsHigh start → length f.registers ≡ 11 → length registers ≡ 11 → AllHold start f facts registers → DiffersBy start by x y
-    → list_all (holds_behind facts (Put (record { of = Some r; base = Some r; by = by }))) wants ≡ true → AllHold start (flat_put r x f) wants (set registers (register_number r) y)
-unfolding holds_behind
-put_hold start f facts wants registers r by x y high many many' all d e = all_of (holds_behind facts (Put fact)) (Holds start f' registers') wants e (λ want h. elim (or_cases (gives (known_number None zero_term) want) (put_gives facts fact want) h) [
-  | inl nothing ↦ nothing_holds start f' registers' want high nothing
-  | inr some ↦ by_put want some
-])
-  where
-    fact : Fact
-    fact = record { of = Some r; base = Some r; by = by }
+  pub kept_hold : (old new : Values) (want : Fact) → old None ≡ 0 → new None ≡ 0 → AllHold start old new facts → holds_behind facts Kept want ≡ true → Holds start old new want
+  unfolding holds_behind
+  kept_hold old new want zero zero' all e = elim (or_cases (gives (known_number None zero_term) want) (list_any (λ have. gives have want) facts) e) [
+    | inl nothing ↦ nothing_holds old new want zero zero' nothing
+    | inr some ↦ (let c = any_holds (λ have. gives have want) (Holds start old new) facts some all in gives_holds start high old new c.0 want c.1 c.2)
+  ]
 
-    f' : FlatState
-    f' = flat_put r x f
-
-    registers' : List ℕ
-    registers' = set registers (register_number r) y
-
-    own_register : is_register r (Some r) ≡ true
-    own_register = eq-eqb (register_number r) (register_number r) refl
-
-    put_there : Holds start f' registers' fact
-    put_there = subst (λ x. DiffersBy start by x (value_in registers' (Some r))) (there_now f.registers r x (Some r) many own_register) (subst (λ y. DiffersBy start by x y) (there_now registers r y (Some r) many' own_register) d)
-
-    by_put : (want : Fact) → put_gives facts fact want ≡ true → Holds start f' registers' want
-    by_put want h = elim (or_cases (gives fact want) (list_any (λ have. stays r have && gives have want) facts) h) [
-      | inl here ↦ gives_holds start f' registers' fact want high here put_there
-      | inr some ↦ (let c = any_holds (λ have. stays r have && gives have want) (Holds start f registers) facts some all in
-          let b = and_parts (stays r c.0) (gives c.0 want) c.1 in
-          gives_holds start f' registers' c.0 want high b.1 (stays_holds start f registers r x y c.0 b.0 c.2))
+  -- both put a number
+  pub put_hold : (h : Holder) (by pin : Option Term) (old old' new new' : Values) (want : Fact) → old' None ≡ 0 → new' None ≡ 0 → Elsewhere h old old' → Elsewhere h new new' → DiffersBy start by (old' (Some h)) (new' (Some h)) → ((t : Term) → pin ≡ Some t → Differs start t (old' (Some h)) 0) → AllHold start old new facts
+      → holds_behind facts (Put (record { of = Some h; base = Some h; by = by }) pin) want ≡ true → Holds start old' new' want
+  unfolding holds_behind
+  put_hold h by pin old old' new new' want zero zero' p q d pd all e = elim (or_cases (gives (known_number None zero_term) want) (put_gives facts fact pin want) e) [
+    | inl nothing ↦ nothing_holds old' new' want zero zero' nothing
+    | inr some ↦ elim (or_cases (gives fact want) (option_map_or (pins (Some h) want) pin false || list_any (λ have. stays h have && gives have want) facts) some) [
+      | inl here ↦ gives_holds start high old' new' fact want here d
+      | inr rest ↦ elim (or_cases (option_map_or (pins (Some h) want) pin false) (list_any (λ have. stays h have && gives have want) facts) rest) [
+        | inl one ↦ by_pin pin refl one
+        | inr other ↦ (let c = some_holds old new (stays h) want all other in gives_holds start high old' new' c.0 want c.2 (stays_holds start h old old' new new' c.0 p q c.1 c.3))
+      ]
     ]
+  ]
+    where
+      by_pin : (o : Option Term) → pin ≡ o → option_map_or (pins (Some h) want) o false ≡ true → Holds start old' new' want
+      by_pin None eo one = absurd (false≢true one)
+      by_pin (Some t) eo one = gives_holds start high old' new' (record { of = None; base = Some h; by = Some t }) want one (subst (λ y. Differs start t (old' (Some h)) y) (sym zero') (pd t eo))
 
-pub made_hold : (order : Order) (start : ℕ) (f g : FlatState) (facts wants : Facts) (r : Reg) (m : Insn) → IsHigh start → HasEncoding m → length g.registers ≡ 11 → IsEnd start g.registers → AllHold start f facts g.registers
-    → list_all (holds_behind facts (Made r m)) wants ≡ true → AllHold start f wants (set g.registers (register_number r) (put_value order m g))
-unfolding holds_behind
-made_hold order start f g facts wants r m high enc many end all e = all_of (holds_behind facts (Made r m)) (Holds start f registers') wants e (λ want h. elim (or_cases (gives (known_number None zero_term) want) (made_gives facts r m want) h) [
-  | inl nothing ↦ nothing_holds start f registers' want high nothing
-  | inr some ↦ by_made want some
-])
-  where
-    y : ℕ
-    y = put_value order m g
+      fact : Fact
+      fact = record { of = Some h; base = Some h; by = by }
 
-    registers' : List ℕ
-    registers' = set g.registers (register_number r) y
-
-    by_made : (want : Fact) → made_gives facts r m want ≡ true → Holds start f registers' want
-    by_made want h = elim (or_cases (is_register r want.of && made facts m want) (list_any (λ have. not (is_register r have.of) && gives have want) facts) h) [
-      | inl here ↦ (let c = and_parts (is_register r want.of) (made facts m want) here in
-          subst (λ z. DiffersBy start want.by (value_in f.registers want.base) z) (there_now g.registers r y want.of many c.0) (made_known order start facts f g high end all m want enc c.1))
-      | inr some ↦ (let c = any_holds (λ have. not (is_register r have.of) && gives have want) (Holds start f g.registers) facts some all in
-          let b = and_parts (not (is_register r c.0.of)) (gives c.0 want) c.1 in
-          gives_holds start f registers' c.0 want high b.1 (other_holds start f g.registers r y c.0 b.0 c.2))
+  -- the new program alone puts one
+  pub made_hold : (h : Holder) (m : Insn) (y : ℕ) (old new new' : Values) (want : Fact) → old None ≡ 0 → new' None ≡ 0 → Elsewhere h new new' → new' (Some h) ≡ y → (made facts m want ≡ true → KnownAs start old want y) → AllHold start old new facts
+      → holds_behind facts (Made h m) want ≡ true → Holds start old new' want
+  unfolding holds_behind
+  made_hold h m y old new new' want zero zero' q here known all e = elim (or_cases (gives (known_number None zero_term) want) (made_gives facts h m want) e) [
+    | inl nothing ↦ nothing_holds old new' want zero zero' nothing
+    | inr some ↦ elim (or_cases (is_holder h want.of && made facts m want) (list_any (λ have. not (is_holder h have.of) && gives have want) facts) some) [
+      | inl this ↦ (let c = and_parts (is_holder h want.of) (made facts m want) this in subst (λ z. DiffersBy start want.by (old want.base) z) (sym here ∙ sym (held new' h want.of c.0)) (known c.1))
+      | inr other ↦ (let c = some_holds old new (λ have. not (is_holder h have.of)) want all other in gives_holds start high old new' c.0 want c.2 (other_holds start h old new new' c.0 q c.1 c.3))
     ]
+  ]
+
+  -- both store the same
+  pub stored_hold : (from to : ℕ) (old old' new new' : Values) (want : Fact) → old' None ≡ 0 → new' None ≡ 0 → ((of : Option Holder) → is_clear from to of ≡ true → old' of ≡ old of) → ((of : Option Holder) → is_clear from to of ≡ true → new' of ≡ new of) → AllHold start old new facts
+      → holds_behind facts (Stored from to) want ≡ true → Holds start old' new' want
+  unfolding holds_behind
+  stored_hold from to old old' new new' want zero zero' p q all e = elim (or_cases (gives (known_number None zero_term) want) (stored_gives facts from to want) e) [
+    | inl nothing ↦ nothing_holds old' new' want zero zero' nothing
+    | inr some ↦ (let c = some_holds old new (outlives from to) want all some in
+        let b = and_parts (is_clear from to c.0.of) (is_clear from to c.0.base) c.1 in
+        gives_holds start high old' new' c.0 want c.2 (subst (λ z. DiffersBy start c.0.by z (new' c.0.of)) (sym (p c.0.base b.1)) (subst (λ z. DiffersBy start c.0.by (old c.0.base) z) (sym (q c.0.of b.0)) c.3)))
+  ]

@@ -13,10 +13,11 @@ use Rattle.bpf_insn.specs.declared.instruction.AluOp.TheVariants.{Add, Mov}
 use Rattle.bpf_insn.specs.declared.instruction.Cond.TheVariants.{Gt}
 use Rattle.bpf_insn.specs.declared.instruction.Insn.TheVariants.{Alu, Load, StoreImm, JumpIf, Exit}
 use Rattle.bpf_kept.specs.declared.notes.Note.{Note}
-use Rattle.bpf_kept.specs.Rules.{own, reads_same, result_term, same_address, keeps, paired, made, holds_behind}
-use Rattle.bpf_kept.specs.Guards.{accesses_ahead, is_ahead, passes}
-use Rattle.bpf_kept.specs.Matching.{Notes, arrives, stands, extra, adds, IsBody, IsExtra, IsEither, HoldsAt, Matches}
-use Rattle.bpf_kept.proofs.Example.{fact, goes_by_r5, puts_constant}
+use Rattle.bpf_kept.specs.Rules.{own_in, pinned, numbered, reads_same, result_term, same_address, is_common, keeps, paired, made, holds_behind, are_told}
+use Rattle.bpf_kept.specs.Counters.{all_count_behind, has_turn}
+use Rattle.bpf_kept.specs.Guards.{accesses_ahead, is_ahead, guards_sum, passes}
+use Rattle.bpf_kept.specs.Matching.{Notes, facts_at, left_alone, known_at_start, arrives, stands, extra, adds, IsBody, IsExtra, IsEither, HoldsAt, Matches}
+use Rattle.bpf_kept.proofs.Example.{fact, noted, bounds, goes_by_r5, puts_constant}
 
 -- The array has the 16 bytes below r10. A byte of the context is the index.
 abbrev pub old : Instructions
@@ -27,101 +28,101 @@ abbrev pub new : Instructions
 new = record { order = Little; list = Alu Mov W64 R3 (Imm (pos 512)) ∷ Alu Add W64 R3 (Imm (negsuc 15)) ∷ Load B R4 R1 (pos 0) ∷ Alu Add W64 R3 (FromReg R4) ∷ Alu Mov W64 R5 (FromReg R3) ∷ JumpIf Gt W64 R5 (Imm (pos 511)) (pos 5) ∷ Alu Add W64 R5 (FromReg R10) ∷ Alu Add W64 R5 (Imm (negsuc 511)) ∷ StoreImm B R5 (pos 0) (pos 7) ∷ Load B R0 R10 (negsuc 15) ∷ Exit ∷ Alu Mov W64 R0 (Imm (pos 0)) ∷ Exit ∷ [] }
 
 abbrev note_0 : Note
-note_0 = record { old = 0; extras = 0; facts = fact (Some R1) (Some R1) 0 0 ∷ fact (Some R10) (Some R10) 0 0 ∷ [] }
+note_0 = noted 0 0 (fact (Some R1) (Some R1) 0 0 ∷ fact (Some R10) (Some R10) 0 0 ∷ [])
 
 abbrev note_1 : Note
-note_1 = record { old = 1; extras = 0; facts = fact (Some R1) (Some R1) 0 0 ∷ fact (Some R10) (Some R10) 0 0 ∷ fact (Some R3) (Some R3) 1 0 ∷ [] }
+note_1 = noted 1 0 (fact (Some R1) (Some R1) 0 0 ∷ fact (Some R10) (Some R10) 0 0 ∷ fact (Some R3) (Some R3) 1 0 ∷ [])
 
 abbrev note_2 : Note
-note_2 = record { old = 2; extras = 0; facts = fact (Some R1) (Some R1) 0 0 ∷ fact (Some R10) (Some R10) 0 0 ∷ fact (Some R3) (Some R3) 1 0 ∷ [] }
+note_2 = noted 2 0 (fact (Some R1) (Some R1) 0 0 ∷ fact (Some R10) (Some R10) 0 0 ∷ fact (Some R3) (Some R3) 1 0 ∷ [])
 
 abbrev note_3 : Note
-note_3 = record { old = 3; extras = 0; facts = fact (Some R4) (Some R4) 0 0 ∷ fact (Some R10) (Some R10) 0 0 ∷ fact (Some R3) (Some R3) 1 0 ∷ [] }
+note_3 = noted 3 0 (fact (Some R4) (Some R4) 0 0 ∷ fact (Some R10) (Some R10) 0 0 ∷ fact (Some R3) (Some R3) 1 0 ∷ [])
 
 abbrev note_4 : Note
-note_4 = record { old = 4; extras = 4; facts = fact (Some R10) (Some R10) 0 0 ∷ fact (Some R3) (Some R3) 1 0 ∷ [] }
+note_4 = noted 4 4 (fact (Some R10) (Some R10) 0 0 ∷ fact (Some R3) (Some R3) 1 0 ∷ [])
 
 abbrev note_5 : Note
-note_5 = record { old = 4; extras = 3; facts = fact (Some R10) (Some R10) 0 0 ∷ fact (Some R3) (Some R3) 1 0 ∷ fact (Some R5) (Some R3) 1 0 ∷ [] }
+note_5 = noted 4 3 (fact (Some R10) (Some R10) 0 0 ∷ fact (Some R3) (Some R3) 1 0 ∷ fact (Some R5) (Some R3) 1 0 ∷ [])
 
 abbrev note_6 : Note
-note_6 = record { old = 4; extras = 2; facts = fact (Some R10) (Some R10) 0 0 ∷ fact (Some R3) (Some R3) 1 0 ∷ fact (Some R5) (Some R3) 1 0 ∷ [] }
+note_6 = noted 4 2 (fact (Some R10) (Some R10) 0 0 ∷ fact (Some R3) (Some R3) 1 0 ∷ fact (Some R5) (Some R3) 1 0 ∷ [])
 
 abbrev note_7 : Note
-note_7 = record { old = 4; extras = 1; facts = fact (Some R10) (Some R10) 0 0 ∷ fact (Some R3) (Some R3) 1 0 ∷ fact (Some R5) (Some R3) 0 512 ∷ [] }
+note_7 = noted 4 1 (fact (Some R10) (Some R10) 0 0 ∷ fact (Some R3) (Some R3) 1 0 ∷ fact (Some R5) (Some R3) 0 512 ∷ [])
 
 abbrev note_8 : Note
-note_8 = record { old = 4; extras = 0; facts = fact (Some R10) (Some R10) 0 0 ∷ fact (Some R3) (Some R3) 1 0 ∷ fact (Some R5) (Some R3) 0 0 ∷ [] }
+note_8 = noted 4 0 (fact (Some R10) (Some R10) 0 0 ∷ fact (Some R3) (Some R3) 1 0 ∷ fact (Some R5) (Some R3) 0 0 ∷ [])
 
 abbrev note_9 : Note
-note_9 = record { old = 5; extras = 0; facts = fact (Some R10) (Some R10) 0 0 ∷ [] }
+note_9 = noted 5 0 (fact (Some R10) (Some R10) 0 0 ∷ [])
 
 abbrev note_10 : Note
-note_10 = record { old = 6; extras = 0; facts = fact (Some R0) (Some R0) 0 0 ∷ [] }
+note_10 = noted 6 0 (fact (Some R0) (Some R0) 0 0 ∷ [])
 
 abbrev pub notes : Notes
 notes = Some note_0 ∷ Some note_1 ∷ Some note_2 ∷ Some note_3 ∷ Some note_4 ∷ Some note_5 ∷ Some note_6 ∷ Some note_7 ∷ Some note_8 ∷ Some note_9 ∷ Some note_10 ∷ []
 
 -- ---- what is noted of each slot holds
 
-body_0 : IsBody old new notes 0 note_0
-unfolding own reads_same result_term same_address keeps paired made holds_behind accesses_ahead is_ahead passes arrives stands extra adds
+body_0 : IsBody old new notes bounds 0 note_0
+unfolding own_in pinned numbered reads_same result_term same_address is_common keeps paired made holds_behind are_told all_count_behind has_turn accesses_ahead is_ahead guards_sum passes facts_at left_alone known_at_start arrives stands extra adds
 body_0 = record { insn = Alu Mov W64 R3 (FromReg R10); insn_is = refl; moved = Alu Mov W64 R3 (Imm (pos 512)); moved_is = refl; same = false; same_is = (λ h. absurd (false≢true h), λ e. absurd (false≢true (sym (ap puts_constant e)))); good = refl }
 
-body_1 : IsBody old new notes 1 note_1
-unfolding own reads_same result_term same_address keeps paired made holds_behind accesses_ahead is_ahead passes arrives stands extra adds
+body_1 : IsBody old new notes bounds 1 note_1
+unfolding own_in pinned numbered reads_same result_term same_address is_common keeps paired made holds_behind are_told all_count_behind has_turn accesses_ahead is_ahead guards_sum passes facts_at left_alone known_at_start arrives stands extra adds
 body_1 = record { insn = Alu Add W64 R3 (Imm (negsuc 15)); insn_is = refl; moved = Alu Add W64 R3 (Imm (negsuc 15)); moved_is = refl; same = true; same_is = (λ h. refl, λ h. refl); good = refl }
 
-body_2 : IsBody old new notes 2 note_2
-unfolding own reads_same result_term same_address keeps paired made holds_behind accesses_ahead is_ahead passes arrives stands extra adds
+body_2 : IsBody old new notes bounds 2 note_2
+unfolding own_in pinned numbered reads_same result_term same_address is_common keeps paired made holds_behind are_told all_count_behind has_turn accesses_ahead is_ahead guards_sum passes facts_at left_alone known_at_start arrives stands extra adds
 body_2 = record { insn = Load B R4 R1 (pos 0); insn_is = refl; moved = Load B R4 R1 (pos 0); moved_is = refl; same = true; same_is = (λ h. refl, λ h. refl); good = refl }
 
-body_3 : IsBody old new notes 3 note_3
-unfolding own reads_same result_term same_address keeps paired made holds_behind accesses_ahead is_ahead passes arrives stands extra adds
+body_3 : IsBody old new notes bounds 3 note_3
+unfolding own_in pinned numbered reads_same result_term same_address is_common keeps paired made holds_behind are_told all_count_behind has_turn accesses_ahead is_ahead guards_sum passes facts_at left_alone known_at_start arrives stands extra adds
 body_3 = record { insn = Alu Add W64 R3 (FromReg R4); insn_is = refl; moved = Alu Add W64 R3 (FromReg R4); moved_is = refl; same = true; same_is = (λ h. refl, λ h. refl); good = refl }
 
-extra_4 : IsExtra old new notes 64 4 note_4 3
-unfolding own reads_same result_term same_address keeps paired made holds_behind accesses_ahead is_ahead passes arrives stands extra adds
+extra_4 : IsExtra old new notes bounds 4 note_4 3
+unfolding own_in pinned numbered reads_same result_term same_address is_common keeps paired made holds_behind are_told all_count_behind has_turn accesses_ahead is_ahead guards_sum passes facts_at left_alone known_at_start arrives stands extra adds
 extra_4 = record { moved = Alu Mov W64 R5 (FromReg R3); moved_is = refl; good = refl }
 
-extra_5 : IsExtra old new notes 64 5 note_5 2
-unfolding own reads_same result_term same_address keeps paired made holds_behind accesses_ahead is_ahead passes arrives stands extra adds
+extra_5 : IsExtra old new notes bounds 5 note_5 2
+unfolding own_in pinned numbered reads_same result_term same_address is_common keeps paired made holds_behind are_told all_count_behind has_turn accesses_ahead is_ahead guards_sum passes facts_at left_alone known_at_start arrives stands extra adds
 extra_5 = record { moved = JumpIf Gt W64 R5 (Imm (pos 511)) (pos 5); moved_is = refl; good = refl }
 
-extra_6 : IsExtra old new notes 64 6 note_6 1
-unfolding own reads_same result_term same_address keeps paired made holds_behind accesses_ahead is_ahead passes arrives stands extra adds
+extra_6 : IsExtra old new notes bounds 6 note_6 1
+unfolding own_in pinned numbered reads_same result_term same_address is_common keeps paired made holds_behind are_told all_count_behind has_turn accesses_ahead is_ahead guards_sum passes facts_at left_alone known_at_start arrives stands extra adds
 extra_6 = record { moved = Alu Add W64 R5 (FromReg R10); moved_is = refl; good = refl }
 
-extra_7 : IsExtra old new notes 64 7 note_7 0
-unfolding own reads_same result_term same_address keeps paired made holds_behind accesses_ahead is_ahead passes arrives stands extra adds
+extra_7 : IsExtra old new notes bounds 7 note_7 0
+unfolding own_in pinned numbered reads_same result_term same_address is_common keeps paired made holds_behind are_told all_count_behind has_turn accesses_ahead is_ahead guards_sum passes facts_at left_alone known_at_start arrives stands extra adds
 extra_7 = record { moved = Alu Add W64 R5 (Imm (negsuc 511)); moved_is = refl; good = refl }
 
-body_8 : IsBody old new notes 8 note_8
-unfolding own reads_same result_term same_address keeps paired made holds_behind accesses_ahead is_ahead passes arrives stands extra adds
+body_8 : IsBody old new notes bounds 8 note_8
+unfolding own_in pinned numbered reads_same result_term same_address is_common keeps paired made holds_behind are_told all_count_behind has_turn accesses_ahead is_ahead guards_sum passes facts_at left_alone known_at_start arrives stands extra adds
 body_8 = record { insn = StoreImm B R3 (pos 0) (pos 7); insn_is = refl; moved = StoreImm B R5 (pos 0) (pos 7); moved_is = refl; same = false; same_is = (λ h. absurd (false≢true h), λ e. absurd (false≢true (sym (ap goes_by_r5 e)))); good = refl }
 
-body_9 : IsBody old new notes 9 note_9
-unfolding own reads_same result_term same_address keeps paired made holds_behind accesses_ahead is_ahead passes arrives stands extra adds
+body_9 : IsBody old new notes bounds 9 note_9
+unfolding own_in pinned numbered reads_same result_term same_address is_common keeps paired made holds_behind are_told all_count_behind has_turn accesses_ahead is_ahead guards_sum passes facts_at left_alone known_at_start arrives stands extra adds
 body_9 = record { insn = Load B R0 R10 (negsuc 15); insn_is = refl; moved = Load B R0 R10 (negsuc 15); moved_is = refl; same = true; same_is = (λ h. refl, λ h. refl); good = refl }
 
-body_10 : IsBody old new notes 10 note_10
-unfolding own reads_same result_term same_address keeps paired made holds_behind accesses_ahead is_ahead passes arrives stands extra adds
+body_10 : IsBody old new notes bounds 10 note_10
+unfolding own_in pinned numbered reads_same result_term same_address is_common keeps paired made holds_behind are_told all_count_behind has_turn accesses_ahead is_ahead guards_sum passes facts_at left_alone known_at_start arrives stands extra adds
 body_10 = record { insn = Exit; insn_is = refl; moved = Exit; moved_is = refl; same = true; same_is = (λ h. refl, λ h. refl); good = refl }
 
-each : (slot : ℕ) → HoldsAt old new notes 64 slot
-each zero note e = subst (λ note. IsEither old new notes 64 0 note note.extras) (same_Some note_0 note e) body_0
-each (suc zero) note e = subst (λ note. IsEither old new notes 64 1 note note.extras) (same_Some note_1 note e) body_1
-each (suc (suc zero)) note e = subst (λ note. IsEither old new notes 64 2 note note.extras) (same_Some note_2 note e) body_2
-each (suc (suc (suc zero))) note e = subst (λ note. IsEither old new notes 64 3 note note.extras) (same_Some note_3 note e) body_3
-each (suc (suc (suc (suc zero)))) note e = subst (λ note. IsEither old new notes 64 4 note note.extras) (same_Some note_4 note e) extra_4
-each (suc (suc (suc (suc (suc zero))))) note e = subst (λ note. IsEither old new notes 64 5 note note.extras) (same_Some note_5 note e) extra_5
-each (suc (suc (suc (suc (suc (suc zero)))))) note e = subst (λ note. IsEither old new notes 64 6 note note.extras) (same_Some note_6 note e) extra_6
-each (suc (suc (suc (suc (suc (suc (suc zero))))))) note e = subst (λ note. IsEither old new notes 64 7 note note.extras) (same_Some note_7 note e) extra_7
-each (suc (suc (suc (suc (suc (suc (suc (suc zero)))))))) note e = subst (λ note. IsEither old new notes 64 8 note note.extras) (same_Some note_8 note e) body_8
-each (suc (suc (suc (suc (suc (suc (suc (suc (suc zero))))))))) note e = subst (λ note. IsEither old new notes 64 9 note note.extras) (same_Some note_9 note e) body_9
-each (suc (suc (suc (suc (suc (suc (suc (suc (suc (suc zero)))))))))) note e = subst (λ note. IsEither old new notes 64 10 note note.extras) (same_Some note_10 note e) body_10
+each : (slot : ℕ) → HoldsAt old new notes bounds slot
+each zero note e = subst (λ note. IsEither old new notes bounds 0 note note.extras) (same_Some note_0 note e) body_0
+each (suc zero) note e = subst (λ note. IsEither old new notes bounds 1 note note.extras) (same_Some note_1 note e) body_1
+each (suc (suc zero)) note e = subst (λ note. IsEither old new notes bounds 2 note note.extras) (same_Some note_2 note e) body_2
+each (suc (suc (suc zero))) note e = subst (λ note. IsEither old new notes bounds 3 note note.extras) (same_Some note_3 note e) body_3
+each (suc (suc (suc (suc zero)))) note e = subst (λ note. IsEither old new notes bounds 4 note note.extras) (same_Some note_4 note e) extra_4
+each (suc (suc (suc (suc (suc zero))))) note e = subst (λ note. IsEither old new notes bounds 5 note note.extras) (same_Some note_5 note e) extra_5
+each (suc (suc (suc (suc (suc (suc zero)))))) note e = subst (λ note. IsEither old new notes bounds 6 note note.extras) (same_Some note_6 note e) extra_6
+each (suc (suc (suc (suc (suc (suc (suc zero))))))) note e = subst (λ note. IsEither old new notes bounds 7 note note.extras) (same_Some note_7 note e) extra_7
+each (suc (suc (suc (suc (suc (suc (suc (suc zero)))))))) note e = subst (λ note. IsEither old new notes bounds 8 note note.extras) (same_Some note_8 note e) body_8
+each (suc (suc (suc (suc (suc (suc (suc (suc (suc zero))))))))) note e = subst (λ note. IsEither old new notes bounds 9 note note.extras) (same_Some note_9 note e) body_9
+each (suc (suc (suc (suc (suc (suc (suc (suc (suc (suc zero)))))))))) note e = subst (λ note. IsEither old new notes bounds 10 note note.extras) (same_Some note_10 note e) body_10
 each (suc (suc (suc (suc (suc (suc (suc (suc (suc (suc (suc n))))))))))) note e = absurd (none-some note e)
 
-pub matches : Matches old new notes 64
-unfolding own reads_same result_term same_address keeps paired made holds_behind accesses_ahead is_ahead passes arrives stands extra adds
-matches = record { short = omega arith; order_is = refl; few = omega arith; start = refl; each = each }
+pub matches : Matches old new notes bounds
+unfolding own_in pinned numbered reads_same result_term same_address is_common keeps paired made holds_behind are_told all_count_behind has_turn accesses_ahead is_ahead guards_sum passes facts_at left_alone known_at_start arrives stands extra adds
+matches = record { short = omega arith; few_turns = omega arith; order_is = refl; few = omega arith; start = refl; each = each }

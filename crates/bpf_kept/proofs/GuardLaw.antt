@@ -10,6 +10,7 @@ use Rattle.bpf_insn.specs.Arithmetic.{modulo}
 use Rattle.bpf_insn.specs.Effects.{Access}
 use Rattle.bpf_insn.specs.Limits.{frame_bytes}
 use Rattle.bpf_insn.specs.Instruction.{Instructions, register_number, byte_count}
+use Rattle.bpf_insn.specs.declared.order.Order.{Order}
 use Rattle.bpf_insn.specs.declared.instruction.Reg.{Reg}
 use Rattle.bpf_insn.specs.declared.instruction.Size.{Size}
 use Rattle.bpf_insn.specs.declared.instruction.Size.TheVariants.{B, H, W, DW}
@@ -18,11 +19,13 @@ use Rattle.bpf_semantics.specs.Placement.{IsInMemory}
 use Rattle.bpf_semantics.proofs.FlatArith.{Same, modulo_same, same_refl, same_sym, same_trans, same_plus, same_minus, same_equal, modulo-same, modulo_of_small}
 use Rattle.bpf_semantics.proofs.NumberLemmas.{modulo_below}
 use Rattle.bpf_kept.specs.Far.{near, wide, middle}
+use Rattle.bpf_kept.specs.declared.notes.Holder.{Holder}
+use Rattle.bpf_kept.specs.declared.notes.Holder.TheVariants.{Register, Slot}
 use Rattle.bpf_kept.specs.declared.notes.Term.{Term}
 use Rattle.bpf_kept.specs.declared.notes.Fact.{Fact}
 use Rattle.bpf_kept.specs.declared.notes.Need.TheVariants.{Below, Above}
 use Rattle.bpf_kept.specs.Terms.{Differs, DiffersBy, value_in, shift}
-use Rattle.bpf_kept.specs.Guards.{Front, is_met, is_ahead, are_accessed, is_tested_by, is_tested, accesses_ahead, farthest_ahead}
+use Rattle.bpf_kept.specs.Guards.{Front, is_met, is_ahead, are_accessed, is_tested_by, is_tested_in, is_tested, accesses_ahead, farthest_ahead}
 use Rattle.bpf_kept.proofs.FarLaw.{one_address_is_context, one_distance_is_frame}
 use Rattle.bpf_kept.proofs.TermLaw.{differs_same}
 use Rattle.bpf_kept.proofs.HoldsLaw.{plain_shift}
@@ -228,15 +231,16 @@ module _ (old : Instructions) (len limit slot x : ℕ) (fn fw : FlatState) (shor
   ]
 
   -- what is known of it at both placements
-  pub guard_passes : (fact : Fact) → DiffersBy start fact.by (value_in fn.registers fact.base) x → DiffersBy other fact.by (value_in fw.registers fact.base) x → is_tested front limit fact ≡ true → x ≤ limit
-  guard_passes fact p q e = by_term fact.by refl e
+  pub guard_passes : (order : Order) (fact : Fact) → DiffersBy start fact.by (value_in order start fn fact.base) x → DiffersBy other fact.by (value_in order other fw fact.base) x → is_tested front limit fact ≡ true → x ≤ limit
+  guard_passes order fact p q e = by_term fact.by refl e
     where
-      by_base : (t : Term) → fact.by ≡ Some t → (o : Option Reg) → fact.base ≡ o → option_map_or (is_tested_by front limit t) o false ≡ true → x ≤ limit
+      by_base : (t : Term) → fact.by ≡ Some t → (o : Option Holder) → fact.base ≡ o → option_map_or (is_tested_in front limit t) o false ≡ true → x ≤ limit
       by_base t et None eo h = absurd (false≢true h)
-      by_base t et (Some r) eo h =
-          by_pointer t r (subst (λ base. DiffersBy start (Some t) (value_in fn.registers base) x) eo (subst (λ by. DiffersBy start by (value_in fn.registers fact.base) x) et p))
-          (subst (λ base. DiffersBy other (Some t) (value_in fw.registers base) x) eo (subst (λ by. DiffersBy other by (value_in fw.registers fact.base) x) et q)) h
+      by_base t et (Some (Slot n)) eo h = absurd (false≢true h)
+      by_base t et (Some (Register r)) eo h =
+          by_pointer t r (subst (λ base. DiffersBy start (Some t) (value_in order start fn base) x) eo (subst (λ by. DiffersBy start by (value_in order start fn fact.base) x) et p))
+          (subst (λ base. DiffersBy other (Some t) (value_in order other fw base) x) eo (subst (λ by. DiffersBy other by (value_in order other fw fact.base) x) et q)) h
 
-      by_term : (o : Option Term) → fact.by ≡ o → option_map_or (λ t. option_map_or (is_tested_by front limit t) fact.base false) o false ≡ true → x ≤ limit
+      by_term : (o : Option Term) → fact.by ≡ o → option_map_or (λ t. option_map_or (is_tested_in front limit t) fact.base false) o false ≡ true → x ≤ limit
       by_term None eo h = absurd (false≢true h)
       by_term (Some t) eo h = by_base t eo fact.base refl h

@@ -2,15 +2,22 @@ mod FarLaw
 mod ZeroLaw
 mod TermLaw
 mod HoldsLaw
+mod FrameLaw
+mod PutValue
 mod PutLaw
 mod ExtraLaw
+mod CountLaw
+mod EdgeLaw
 mod TestLaw
 mod AheadLaw
 mod GuardLaw
+mod AccessesLemmas
+mod Isolated
 mod Simulation
 mod StoreLaw
 mod Setting
 mod Beside
+mod Extras
 mod Follow
 mod Law
 mod CertifiedLaw
@@ -19,6 +26,8 @@ mod FarRuns
 mod Example
 mod FrameExample
 mod PointersExample
+mod SpillExample
+mod TurnsExample
 mod InsideLemmas
 mod ReadLemmas
 mod AheadLemmas
@@ -28,3 +37,5 @@ mod ShownLemmas
 mod NumberLemmas
 mod RuleLemmas
 mod Further
+mod WalkLemmas
+mod SlotLemmas

@@ -1,8 +1,10 @@
 -- Numbers of the rules, as the code has them.
-use Rattle.std.proofs.Common.{ℕ, ◌<◌, ◌^◌, arith}
-use Rattle.std.specs.Prelude.{ℤ, pos, negsuc, ◌+ℤ◌, ◌-ℤ◌, ◌≤ℤ◌, FitsSigned}
+use Rattle.std.proofs.Common.{◌≡◌, ℕ, ◌<◌, ◌^◌, Option, Some, None, sym, arith}
+use Rattle.std.specs.Prelude.{ℤ, pos, negsuc, ◌+ℤ◌, ◌-ℤ◌, ◌≤ℤ◌, FitsSigned, IfSome}
 use Rattle.std.specs.Int.{w16, w64, w128}
 use Rattle.std.proofs.lemmas.Int.{ints}
+use Rattle.std.proofs.lemmas.Option.{none-some, same_Some}
+use Rattle.bpf_insn.specs.Instruction.{not_negative}
 
 -- ---- numbers of 16, 32 and 64 bits, in 128
 
@@ -38,3 +40,19 @@ needed_fits size limit z small most fits =
     let low = h.0 in
     let high = h.1 in
     fits_128 ((pos size +ℤ z) -ℤ pos limit) (omega (arith, ints)) (omega (arith, ints))
+
+-- ---- bytes of the frame
+
+few_bytes : (y : ℤ) (b : ℕ) → y ≤ℤ pos (2 ^ 16) → not_negative y ≡ Some b → b < 2 ^ 17
+few_bytes (pos n) b high e = let same : n ≡ b = same_Some n b e in omega (arith, ints)
+few_bytes (negsuc n) b high e = absurd (none-some b e)
+
+pub first_is_low : (z : ℤ) (b : ℕ) → FitsSigned w16 z → not_negative (z +ℤ pos 512) ≡ Some b → b < 2 ^ 17
+first_is_low z b fits e =
+    let h = near_16 z fits in
+    let high = h.1 in
+    few_bytes (z +ℤ pos 512) b (omega (arith, ints)) e
+
+pub is_low_if : (z : ℤ) (o : Option ℕ) → FitsSigned w16 z → o ≡ not_negative (z +ℤ pos 512) → IfSome o (λ b. b < 2 ^ 17)
+is_low_if z None fits e = tt
+is_low_if z (Some b) fits e = first_is_low z b fits (sym e)

@@ -1,199 +1,95 @@
 -- Instructions that put a number into a register: what the new program puts where it does what the old one does, and where it does it alone.
-use Rattle.std.proofs.Common.{set, cond, Bool, ◌==◌, false, List, ◌≡◌, ℕ, zero, suc, ◌+◌, ◌%◌, ◌^◌, ◌-◌, ◌*◌, ◌/◌, ◌<◌, ◌≤◌, inl, inr, refl, sym, ap, ap₂, ◌∙◌, subst, arith, true, ◌∷◌, length, Option, Some, None}
-use Rattle.std.specs.Prelude.{◌↔◌, IsTrue, option_map, ℤ, pos, negsuc, ◌+ℤ◌, ◌-ℤ◌, ◌&&◌, get_or, bit_and, bit_or, bit_xor, if◌then◌else◌}
-use Rattle.std.specs.Int.{cast_signed, w32, w64, bit_at, byte_at, bytes_low_first}
-use Rattle.std.specs.List.{AllByRecursion, list_all}
+use Rattle.std.proofs.Common.{set, cond, Bool, ◌==◌, false, List, ◌≡◌, ℕ, zero, ◌+◌, ◌%◌, ◌^◌, ◌-◌, ◌*◌, ◌/◌, ◌<◌, ◌≤◌, inl, inr, refl, sym, ap, ap₂, ◌∙◌, subst, arith, true, Option, Some, None}
+use Rattle.std.specs.Prelude.{◌↔◌, IsTrue, FitsSigned, option_map, ℤ, pos, negsuc, ◌+ℤ◌, ◌-ℤ◌, ◌&&◌, get_or, bit_and, bit_or, bit_xor, if◌then◌else◌}
+use Rattle.std.specs.Int.{cast_signed, w16, w64, bit_at}
+use Rattle.std.specs.List.{AllByRecursion, list_all, list_any}
 use Rattle.std.specs.Option.{option_map_or, option_or}
 use Rattle.std.specs.Ordering.{int_eq}
-use Rattle.std.proofs.lemmas.Bool.{and_parts, or_cases, ltb-true, eqb-true, eqb-false, false≢true}
+use Rattle.std.proofs.lemmas.Bool.{and_parts, or_cases, eqb-true, eqb-false, false≢true}
 use Rattle.std.proofs.lemmas.Bool.Decides.{Decides-int_eq}
 use Rattle.std.proofs.lemmas.Int.{ints}
-use Rattle.std.proofs.lemmas.List.{get_or-set_same, get_or-set_other}
-use Rattle.std.proofs.lemmas.Nat.{and_le_r, and_mod, or_mod, xor_mod, xor_lt}
+use Rattle.std.proofs.lemmas.List.{get_or-set_other}
+use Rattle.std.proofs.lemmas.Nat.{and_mod, or_mod, xor_mod, xor_lt}
 use Rattle.std.proofs.lemmas.Nat.Bits.{same_from_bits_below, bit_at_ones, bit_at_xor, bit_at_not, bit_at-lt}
 use Rattle.std.proofs.lemmas.Option.{none-some, same_Some, option_and_then_some}
-use Rattle.bpf_insn.specs.Arithmetic.{modulo, alu, compute, low, numbers, extended, sign_type, sign_extend, swap_size, swapped}
+use Rattle.bpf_insn.specs.Arithmetic.{modulo, alu, compute, low, extended}
 use Rattle.bpf_insn.specs.Image.{HasEncoding}
-use Rattle.bpf_insn.specs.Order.{bytes_of, number_of, reverses}
-use mir.Val.{bits}
-use Rattle.bpf_insn.specs.Effects.{registers_read, register_written, operand_register, is_frame_pointer}
+use Rattle.bpf_insn.specs.Order.{number_of}
+use Rattle.bpf_insn.specs.Effects.{registers_read, is_frame_pointer}
 use Rattle.bpf_insn.specs.Limits.{frame_bytes}
 use Rattle.bpf_insn.specs.Instruction.{register_number, byte_count}
 use Rattle.bpf_insn.specs.declared.order.Order.{Order}
-use Rattle.bpf_insn.specs.declared.order.Order.TheVariants.{Little, Big}
 use Rattle.bpf_insn.specs.declared.instruction.Reg.{Reg}
-use Rattle.bpf_insn.specs.declared.instruction.Reg.TheVariants.{R0, R1, R2, R3, R4, R5, R6, R7, R8, R9, R10}
 use Rattle.bpf_insn.specs.declared.instruction.Operand.{Operand}
 use Rattle.bpf_insn.specs.declared.instruction.Operand.TheVariants.{Imm, Reg as FromReg}
 use Rattle.bpf_insn.specs.declared.instruction.Size.{Size}
 use Rattle.bpf_insn.specs.declared.instruction.Size.TheVariants.{B, H, W, DW}
-use Rattle.bpf_insn.specs.declared.instruction.SignBits.{SignBits}
-use Rattle.bpf_insn.specs.declared.instruction.SignBits.TheVariants.{B8, B16, B32}
-use Rattle.bpf_insn.specs.declared.instruction.EndBits.{EndBits}
-use Rattle.bpf_insn.specs.declared.instruction.EndBits.TheVariants.{B16 as E16, B32 as E32}
-use Rattle.bpf_insn.specs.declared.instruction.EndKind.{EndKind}
-use Rattle.bpf_insn.specs.declared.instruction.Width.TheVariants.{W32, W64}
+use Rattle.bpf_insn.specs.declared.instruction.Width.TheVariants.{W64}
 use Rattle.bpf_insn.specs.declared.instruction.AluOp.{AluOp}
-use Rattle.bpf_insn.specs.declared.instruction.AluOp.TheVariants.{Add, Sub, Mul, Div, SDiv, Or, And, Lsh, Rsh, Mod, SMod, Xor, Mov, Arsh}
+use Rattle.bpf_insn.specs.declared.instruction.AluOp.TheVariants.{Add, Sub, Mul, Or, And, Lsh, Xor, Mov}
 use Rattle.bpf_insn.specs.declared.instruction.Insn.{Insn}
 use Rattle.bpf_insn.specs.declared.instruction.Insn.TheVariants.{Alu, Neg, MovSx, End, LoadImm64, Load, LoadSx, Ja, JaLong, JumpIf, CallLocal}
-use Rattle.bpf_insn.proofs.RegisterLemmas.{reg_below}
 use Rattle.bpf_semantics.specs.Step.{size_type}
-use Rattle.bpf_semantics.specs.Flat.{FlatState, IsFlat, addresses, address, bytes_from, flat_register, flat_operand, flat_put, flat_next, flat_number, flat_does}
-use Rattle.bpf_semantics.specs.FlatLaws.{in_registers}
+use Rattle.bpf_semantics.specs.Flat.{FlatState, IsFlat, addresses, address, bytes_from, flat_register, flat_operand, flat_number}
+use Rattle.bpf_insn.specs.Effects.{Access, access_of}
 use Rattle.bpf_semantics.proofs.FlatArith.{Same, modulo_same, same_refl, same_sym, same_trans, same_plus, same_equal, modulo-same}
-use Rattle.bpf_semantics.proofs.FlatRegistersLaw.{flat_reads_registers}
 use Rattle.bpf_semantics.proofs.NumberLemmas.{modulo_below}
 use Rattle.bpf_semantics.proofs.StateLemmas.{cond_option, option_map_some}
+use Rattle.bpf_kept.specs.declared.notes.Holder.TheVariants.{Register, Slot}
 use Rattle.bpf_kept.specs.declared.notes.Term.{Term}
-use Rattle.bpf_kept.specs.Terms.{Facts, Differs, AreLow, DiffersBy, Holds, AllHold, value_in, shift, constant, zero_term, frame_offset, plus, minus, negated, times}
-use Rattle.bpf_kept.specs.Rules.{own, same_register, is_register, is_same, is_low, put_into, operand_term, by_terms, keeps_low, has_low_result, reads_low, reads_same, result_term, is_address, same_size, same_address, loads_alike, is_framed, undirected, low_result, put_by}
-use Rattle.bpf_kept.proofs.TermLaw.{differs_same, same_differs, same_number, sum_differs, difference_differs, negation_differs, product_differs, complement_differs}
-use Rattle.bpf_kept.proofs.HoldsLaw.{IsHigh, any_holds, register_value, own_differs, plain_shift, all_same, all_low}
-use Rattle.bpf_kept.proofs.ZeroLaw.{does_keeps}
+use Rattle.bpf_kept.specs.Terms.{Facts, Differs, AreLow, DiffersBy, Holds, AllHold, IsCommon, value_in, slot_number, shift, constant, zero_term, frame_offset, plus, minus, negated, times}
+use Rattle.bpf_kept.specs.Slots.{slot_at}
+use Rattle.bpf_kept.specs.Rules.{Known, own_in, own, same_register, is_register, is_same, is_low, put_into, operand_term, by_terms, keeps_low, has_low_result, reads_low, reads_same, loads_common, result_term, is_common, is_address, is_folded, numbered, pinned, same_size, same_address, goes_alike, loads_alike, is_framed, undirected, low_result, put_by}
+use Rattle.bpf_kept.proofs.TermLaw.{shift_plus, differs_same, same_differs, same_number, sum_differs, difference_differs, negation_differs, product_differs, complement_differs}
+use Rattle.bpf_kept.proofs.HoldsLaw.{IsHigh, any_holds, pinned_differs, numbered_differs, register_is, held, own_differs, plain_shift, all_same, all_low}
+use Rattle.bpf_kept.proofs.AheadLaw.{access_near}
+use Rattle.bpf_kept.proofs.FrameLaw.{IsRoomy, IsEnd, IsAccess, Leaves, access_common, slot_access, slot_loaded}
+use Rattle.bpf_kept.proofs.PutValue.{put_value, ReadsSame, put_same, put_below, operand_low, put_low}
 
--- ---- what is put
+-- ---- at one placement
 
-abbrev pub put_value : Order → Insn → FlatState → ℕ
-put_value order (Alu op width dst src) f = alu width op (flat_register f dst) (flat_operand f src)
-put_value order (Neg width dst) f = alu width Sub 0 (flat_register f dst)
-put_value order (MovSx width bits dst src) f = sign_extend bits width (flat_register f src)
-put_value order (End kind bits dst) f = swapped order kind bits (flat_register f dst)
-put_value order (LoadImm64 dst value) f = value
-put_value order (Load size dst src off) f = flat_number order f (byte_count size) (address f src off)
-put_value order (LoadSx size dst src off) f = modulo (cast_signed (size_type size) (flat_number order f (byte_count size) (address f src off))) addresses
-put_value order i f = 0
+abbrev pub ArePointers : ℕ → List ℕ → List ℕ → Type 0
+ArePointers start old new = IsEnd start old × IsEnd start new
 
-pub put_does : (order : Order) (i : Insn) (r : Reg) (f : FlatState) → put_into i ≡ Some r → flat_does order i f ≡ Some (flat_put r (put_value order i f) (flat_next i f))
-unfolding flat_does
-put_does order (Alu op width dst src) r f e = let i : Insn = Alu op width dst src in subst (λ r. flat_does order i f ≡ Some (flat_put r (put_value order i f) (flat_next i f))) (same_Some dst r e) refl
-put_does order (Neg width dst) r f e = let i : Insn = Neg width dst in subst (λ r. flat_does order i f ≡ Some (flat_put r (put_value order i f) (flat_next i f))) (same_Some dst r e) refl
-put_does order (MovSx width bits dst src) r f e = let i : Insn = MovSx width bits dst src in subst (λ r. flat_does order i f ≡ Some (flat_put r (put_value order i f) (flat_next i f))) (same_Some dst r e) refl
-put_does order (End kind bits dst) r f e = let i : Insn = End kind bits dst in subst (λ r. flat_does order i f ≡ Some (flat_put r (put_value order i f) (flat_next i f))) (same_Some dst r e) refl
-put_does order (LoadImm64 dst value) r f e = let i : Insn = LoadImm64 dst value in subst (λ r. flat_does order i f ≡ Some (flat_put r (put_value order i f) (flat_next i f))) (same_Some dst r e) refl
-put_does order (Load size dst src off) r f e = let i : Insn = Load size dst src off in subst (λ r. flat_does order i f ≡ Some (flat_put r (put_value order i f) (flat_next i f))) (same_Some dst r e) refl
-put_does order (LoadSx size dst src off) r f e = let i : Insn = LoadSx size dst src off in subst (λ r. flat_does order i f ≡ Some (flat_put r (put_value order i f) (flat_next i f))) (same_Some dst r e) refl
-put_does order i r f e = absurd (none-some _ e)
+pub end_left : (start : ℕ) (registers : List ℕ) (r : Reg) (x : ℕ) → is_frame_pointer r ≡ false → IsEnd start registers → IsEnd start (set registers (register_number r) x)
+end_left start registers r x e h = get_or-set_other registers (register_number r) 10 x 0 (λ same. eqb-false (register_number r) 10 e (sym same)) ∙ h
 
--- ---- what both read is the same
+-- the old program's state, and the new one's by what is known
+pub record AtOnce (order : Order) (start : ℕ) (known : Known) (f g : FlatState) : Type 0 where
+  pub high : IsHigh start
+  pub room : IsRoomy start
+  pub flat : IsFlat f
+  pub new_flat : IsFlat g
+  pub common : IsCommon start known.apart f g
+  pub pointers : ArePointers start f.registers g.registers
+  pub all : AllHold start (value_in order start f) (value_in order start g) known.facts
 
--- it depends on registers and memory alone
-put_reads : (order : Order) (i : Insn) (f g : FlatState) → g.memory ≡ f.memory → put_value order i (in_registers g.registers f) ≡ put_value order i g
-put_reads order (Alu op width dst (Imm imm)) f g e = refl
-put_reads order (Alu op width dst (FromReg r)) f g e = refl
-put_reads order (Neg width dst) f g e = refl
-put_reads order (MovSx width bits dst src) f g e = refl
-put_reads order (End kind bits dst) f g e = refl
-put_reads order (LoadImm64 dst value) f g e = refl
-put_reads order (Load size dst src off) f g e = ap (λ m. number_of order (byte_count size) (bytes_from m (address g src off) (byte_count size))) (sym e)
-put_reads order (LoadSx size dst src off) f g e = ap (λ m. modulo (cast_signed (size_type size) (number_of order (byte_count size) (bytes_from m (address g src off) (byte_count size)))) addresses) (sym e)
-put_reads order i f g e = refl
+size_few : (size : Size) → byte_count size ≤ 8
+size_few B = omega arith
+size_few H = omega arith
+size_few W = omega arith
+size_few DW = omega arith
 
-written_is : (i : Insn) (r : Reg) → put_into i ≡ Some r → register_written i ≡ Some r
-written_is (Alu op width dst src) r e = e
-written_is (Neg width dst) r e = e
-written_is (MovSx width bits dst src) r e = e
-written_is (End kind bits dst) r e = e
-written_is (LoadImm64 dst value) r e = e
-written_is (Load size dst src off) r e = e
-written_is (LoadSx size dst src off) r e = e
-written_is i r e = absurd (none-some _ e)
-
-put_there : (f : FlatState) (i : Insn) (r : Reg) (x : ℕ) → length f.registers ≡ 11 → flat_register (flat_put r x (flat_next i f)) r ≡ x
-put_there f i r x many = get_or-set_same f.registers (register_number r) x 0 (subst (λ k. register_number r < k) (sym many) (reg_below r))
-
-put_same : (order : Order) (i : Insn) (r : Reg) (f g : FlatState) → put_into i ≡ Some r → length f.registers ≡ 11 → length g.registers ≡ 11 → g.memory ≡ f.memory
-    → AllByRecursion (λ r. get_or g.registers (register_number r) 0 ≡ flat_register f r) (registers_read i) → put_value order i g ≡ put_value order i f
-put_same order i r f g e many many' memory agrees =
-    let h : FlatState = in_registers g.registers f in
-    let d = flat_reads_registers order i f (flat_put r (put_value order i f) (flat_next i f)) g.registers (put_does order i r f e) many many' agrees in
-    let here : flat_put r (put_value order i h) (flat_next i h) ≡ d.after = same_Some _ _ (sym (put_does order i r h e) ∙ d.does) in
-    sym (put_reads order i f g memory) ∙ sym (put_there h i r (put_value order i h) many') ∙ ap (λ s. flat_register s r) here ∙ d.result r (written_is i r e) ∙ put_there f i r (put_value order i f) many
-
--- what is put has 64 bits
-pub put_below : (order : Order) (i : Insn) (r : Reg) (f : FlatState) → put_into i ≡ Some r → HasEncoding i → IsFlat f → put_value order i f < addresses
-put_below order i r f e enc flat =
-    let k = does_keeps order i f (flat_put r (put_value order i f) (flat_next i f)) enc flat (put_does order i r f e) in
-    subst (λ z. z < addresses) (put_there f i r (put_value order i f) flat.eleven) (k.flat.numbers (register_number r))
-
--- ---- low halves
-
-operand_low : (f g : FlatState) (src : Operand) → AllByRecursion (λ r. AreLow (flat_register f r) (get_or g.registers (register_number r) 0)) (operand_register src) → AreLow (flat_operand f src) (flat_operand g src)
-operand_low f g (Imm imm) h = refl
-operand_low f g (FromReg r) h = h.0
-
-both_low : (f g : FlatState) (op : AluOp) (dst : Reg) (src : Operand) → AreLow (flat_register f dst) (flat_register g dst) → AllByRecursion (λ r. AreLow (flat_register f r) (get_or g.registers (register_number r) 0)) (operand_register src)
-    → alu W32 op (flat_register g dst) (flat_operand g src) ≡ alu W32 op (flat_register f dst) (flat_operand f src)
-both_low f g op dst src h hs = ap₂ (λ a b. compute w32 op a b) h (operand_low f g src hs)
-
-alu_low : (f g : FlatState) (op : AluOp) (dst : Reg) (src : Operand) → AllByRecursion (λ r. AreLow (flat_register f r) (get_or g.registers (register_number r) 0)) (registers_read (Alu op W32 dst src))
-    → alu W32 op (flat_register g dst) (flat_operand g src) ≡ alu W32 op (flat_register f dst) (flat_operand f src)
-alu_low f g Mov dst src h = operand_low f g src h
-alu_low f g Add dst src h = both_low f g Add dst src h.0 h.1
-alu_low f g Sub dst src h = both_low f g Sub dst src h.0 h.1
-alu_low f g Mul dst src h = both_low f g Mul dst src h.0 h.1
-alu_low f g Div dst src h = both_low f g Div dst src h.0 h.1
-alu_low f g SDiv dst src h = both_low f g SDiv dst src h.0 h.1
-alu_low f g Or dst src h = both_low f g Or dst src h.0 h.1
-alu_low f g And dst src h = both_low f g And dst src h.0 h.1
-alu_low f g Lsh dst src h = both_low f g Lsh dst src h.0 h.1
-alu_low f g Rsh dst src h = both_low f g Rsh dst src h.0 h.1
-alu_low f g Mod dst src h = both_low f g Mod dst src h.0 h.1
-alu_low f g SMod dst src h = both_low f g SMod dst src h.0 h.1
-alu_low f g Xor dst src h = both_low f g Xor dst src h.0 h.1
-alu_low f g Arsh dst src h = both_low f g Arsh dst src h.0 h.1
-
-low_part : (b : SignBits) (x y : ℕ) → AreLow x y → y % 2 ^ bits (sign_type b) ≡ x % 2 ^ bits (sign_type b)
-low_part B8 x y h = omega arith
-low_part B16 x y h = omega arith
-low_part B32 x y h = h
-
-mask_low : (x y n : ℕ) → n < 2 ^ 32 → AreLow x y → bit_and y (n % 2 ^ 64) ≡ bit_and x (n % 2 ^ 64)
-mask_low x y n small low =
-    let same : n % 2 ^ 64 ≡ n = omega arith in
-    let a = and_le_r y n in
-    let b = and_le_r x n in
-    let left : bit_and y n ≡ bit_and y n % 2 ^ 32 = omega arith in
-    let right : bit_and x n % 2 ^ 32 ≡ bit_and x n = omega arith in
-    subst (λ m. bit_and y m ≡ bit_and x m) (sym same) (left ∙ and_mod y n 32 ∙ ap (λ z. bit_and z (n % 2 ^ 32)) low ∙ sym (and_mod x n 32) ∙ right)
-
-byte_low : (i x y : ℕ) → i < 4 → AreLow x y → byte_at i y ≡ byte_at i x
-byte_low zero x y lt h = omega arith
-byte_low (suc zero) x y lt h = omega arith
-byte_low (suc (suc zero)) x y lt h = omega arith
-byte_low (suc (suc (suc zero))) x y lt h = omega arith
-byte_low (suc (suc (suc (suc i)))) x y lt h = absurd (omega arith)
-
-bytes_from_low : (i n x y : ℕ) → i + n ≤ 4 → AreLow x y → bytes_low_first i n y ≡ bytes_low_first i n x
-bytes_from_low i zero x y le h = refl
-bytes_from_low i (suc n) x y le h = ap₂ (λ b bs. b ∷ bs) (byte_low i x y (omega arith) h) (bytes_from_low (suc i) n x y (omega arith) h)
-
-bytes_low : (n x y : ℕ) → n ≤ 4 → AreLow x y → bytes_of Little n y ≡ bytes_of Little n x
-bytes_low n x y le h = bytes_from_low 0 n x y (omega arith) h
-
-swap_low : (order : Order) (kind : EndKind) (size : EndBits) (x y : ℕ) → bytes_of Little (swap_size size) y ≡ bytes_of Little (swap_size size) x → y % 256 ^ swap_size size ≡ x % 256 ^ swap_size size → swapped order kind size y ≡ swapped order kind size x
-swap_low order kind size x y e h = ap₂ (λ bs z. if reverses order kind then number_of Big (swap_size size) bs else z) e h
-
-put_low : (order : Order) (i : Insn) (f g : FlatState) → reads_low i ≡ true → AllByRecursion (λ r. AreLow (flat_register f r) (get_or g.registers (register_number r) 0)) (registers_read i) → put_value order i g ≡ put_value order i f
-put_low order (Alu op W32 dst src) f g e h = alu_low f g op dst src h
-put_low order (Alu And W64 dst (Imm (pos n))) f g e h = mask_low (flat_register f dst) (flat_register g dst) n (ltb-true n (2 ^ 32) e) h.0
-put_low order (Alu op W64 dst src) f g e h = absurd (false≢true e)
-put_low order (Neg W32 dst) f g e h = ap (λ a. compute w32 Sub (low W32 0) a) h.0
-put_low order (Neg W64 dst) f g e h = absurd (false≢true e)
-put_low order (MovSx width b dst src) f g e h = ap (λ z. modulo (cast_signed (sign_type b) z) (2 ^ bits (numbers width))) (low_part b (flat_register f src) (flat_register g src) h.0)
-put_low order (End kind E16 dst) f g e h = let low = h.0 in swap_low order kind E16 (flat_register f dst) (flat_register g dst) (bytes_low 2 (flat_register f dst) (flat_register g dst) (omega arith) h.0) (omega arith)
-put_low order (End kind E32 dst) f g e h = let low = h.0 in swap_low order kind E32 (flat_register f dst) (flat_register g dst) (bytes_low 4 (flat_register f dst) (flat_register g dst) (omega arith) h.0) (omega arith)
-put_low order (End kind b dst) f g e h = absurd (false≢true e)
-put_low order (LoadImm64 dst value) f g e h = absurd (false≢true e)
-put_low order (Load size dst src off) f g e h = absurd (false≢true e)
-put_low order (LoadSx size dst src off) f g e h = absurd (false≢true e)
-put_low order i f g e h = refl
+-- accesses of both to one address
+pub access_is : (order : Order) (start : ℕ) (known : Known) (i moved : Insn) (a b : Access) (f g : FlatState) → HasEncoding i → HasEncoding moved → AtOnce order start known f g → Leaves start known.left i moved f g → access_of i ≡ Some a → access_of moved ≡ Some b
+    → byte_count b.size ≡ byte_count a.size → address g b.base b.offset ≡ address f a.base a.offset → IsAccess start known.left (byte_count a.size) a.base b.base a.offset b.offset f g
+access_is order start known i moved a b f g enc enc' at leaves ea eb size same =
+    record {
+      room = at.room;
+      end = at.pointers.0;
+      new_end = at.pointers.1;
+      near = access_near i a enc ea;
+      new_near = access_near moved b enc' eb;
+      few = size_few a.size;
+      same = same;
+      leaves = λ nb na j lt. leaves a b j ea eb na nb same lt (subst (λ k. j < k) (sym size) lt);
+    }
 
 -- ---- the same instruction in both
 
-operand_differs : (start : ℕ) (facts : Facts) (f g : FlatState) (src : Operand) (t : Term) → AllHold start f facts g.registers → operand_term facts src ≡ Some t → Differs start t (flat_operand f src) (flat_operand g src)
-operand_differs start facts f g (Imm imm) t all e = subst (λ t. Differs start t (extended imm) (extended imm)) (same_Some zero_term t e) (same_number start (extended imm) (modulo_below imm))
-operand_differs start facts f g (FromReg r) t all e = own_differs start f facts g.registers r t all e
+operand_differs : (order : Order) (start : ℕ) (facts : Facts) (f g : FlatState) (src : Operand) (t : Term) → AllHold start (value_in order start f) (value_in order start g) facts → operand_term facts src ≡ Some t → Differs start t (flat_operand f src) (flat_operand g src)
+operand_differs order start facts f g (Imm imm) t all e = subst (λ t. Differs start t (extended imm) (extended imm)) (same_Some zero_term t e) (same_number start (extended imm) (modulo_below imm))
+operand_differs order start facts f g (FromReg r) t all e = own_differs start (value_in order start f) (value_in order start g) facts (Register r) t all e
 
 -- all bits of a number turned
 xor_ones : (x : ℕ) → x < 2 ^ 64 → bit_xor x (2 ^ 64 - 1) ≡ 2 ^ 64 - 1 - x
@@ -203,87 +99,105 @@ xor_ones x small = same_from_bits_below 64 (bit_xor x (2 ^ 64 - 1)) (2 ^ 64 - 1 
     let turned : (bit_at x i + 1) % 2 ≡ 1 - bit_at x i = omega arith in
     bit_at_xor x (2 ^ 64 - 1) i ∙ ap (λ z. (bit_at x i + z) % 2) one ∙ turned ∙ sym (bit_at_not w64 x i small lt))
 
-terms_differ : (order : Order) (start : ℕ) (facts : Facts) (i : Insn) (f g : FlatState) (t : Term) → IsFlat f → IsFlat g → AllHold start f facts g.registers → by_terms facts i ≡ Some t → Differs start t (put_value order i f) (put_value order i g)
-terms_differ order start facts (Alu Mul W64 dst (Imm imm)) f g t flat flat' all e =
-    let h = option_map_some (times (extended imm)) (own facts dst) t e in
+-- what both have in a register
+pub register_differs : (order : Order) (start : ℕ) (facts : Facts) (f g : FlatState) (r : Reg) (t : Term) → AllHold start (value_in order start f) (value_in order start g) facts → own facts r ≡ Some t → Differs start t (flat_register f r) (flat_register g r)
+register_differs order start facts f g r t all e = own_differs start (value_in order start f) (value_in order start g) facts (Register r) t all e
+
+-- both load a slot of the frame
+slot_differs : (order : Order) (start : ℕ) (known : Known) (size : Size) (src : Reg) (off : ℤ) (f g : FlatState) (n : ℕ) (t : Term) → AtOnce order start known f g → FitsSigned w16 off → slot_at size src off ≡ Some n → own_in known.facts (Slot n) ≡ Some t
+    → Differs start t (flat_number order f (byte_count size) (address f src off)) (flat_number order g (byte_count size) (address g src off))
+slot_differs order start known size src off f g n t at near en et =
+    let s = slot_access start n size src off en in
+    subst (λ y. Differs start t (flat_number order f (byte_count size) (address f src off)) y) (sym (slot_loaded order start n size g src off at.room at.pointers.1 near s))
+    (subst (λ x. Differs start t x (slot_number order start g n)) (sym (slot_loaded order start n size f src off at.room at.pointers.0 near s))
+    (own_differs start (value_in order start f) (value_in order start g) known.facts (Slot n) t at.all et))
+
+terms_differ : (order : Order) (start : ℕ) (known : Known) (i : Insn) (f g : FlatState) (t : Term) → HasEncoding i → AtOnce order start known f g → by_terms known.facts i ≡ Some t → Differs start t (put_value order i f) (put_value order i g)
+terms_differ order start known (Alu Mul W64 dst (Imm imm)) f g t enc at e =
+    let h = option_map_some (times (extended imm)) (own known.facts dst) t e in
     subst (λ t. Differs start t (put_value order (Alu Mul W64 dst (Imm imm)) f) (put_value order (Alu Mul W64 dst (Imm imm)) g)) h.2
-    (product_differs start h.0 (flat_register f dst) (flat_register g dst) (extended imm) (own_differs start f facts g.registers dst h.0 all h.1))
-terms_differ order start facts (Alu Lsh W64 dst (Imm imm)) f g t flat flat' all e =
-    let h = option_map_some (times (2 ^ (extended imm % 64))) (own facts dst) t e in
+    (product_differs start h.0 (flat_register f dst) (flat_register g dst) (extended imm) (register_differs order start known.facts f g dst h.0 at.all h.1))
+terms_differ order start known (Alu Lsh W64 dst (Imm imm)) f g t enc at e =
+    let h = option_map_some (times (2 ^ (extended imm % 64))) (own known.facts dst) t e in
     subst (λ t. Differs start t (put_value order (Alu Lsh W64 dst (Imm imm)) f) (put_value order (Alu Lsh W64 dst (Imm imm)) g)) h.2
-    (product_differs start h.0 (flat_register f dst) (flat_register g dst) (2 ^ (extended imm % 64)) (own_differs start f facts g.registers dst h.0 all h.1))
-terms_differ order start facts (Alu Xor W64 dst (Imm (negsuc zero))) f g t flat flat' all e =
-    let h = option_map_some negated (own facts dst) t e in
+    (product_differs start h.0 (flat_register f dst) (flat_register g dst) (2 ^ (extended imm % 64)) (register_differs order start known.facts f g dst h.0 at.all h.1))
+terms_differ order start known (Alu Xor W64 dst (Imm (negsuc zero))) f g t enc at e =
+    let h = option_map_some negated (own known.facts dst) t e in
     let a : ℕ = flat_register f dst in
     let x : ℕ = flat_register g dst in
-    let ha : a < addresses = flat.numbers (register_number dst) in
-    let hx : x < addresses = flat'.numbers (register_number dst) in
+    let ha : a < addresses = at.flat.numbers (register_number dst) in
+    let hx : x < addresses = at.new_flat.numbers (register_number dst) in
     subst (λ t. Differs start t (put_value order (Alu Xor W64 dst (Imm (negsuc zero))) f) (put_value order (Alu Xor W64 dst (Imm (negsuc zero))) g)) h.2
-    (subst (λ z. Differs start (negated h.0) z (bit_xor x (2 ^ 64 - 1))) (sym (xor_ones a ha)) (subst (λ z. Differs start (negated h.0) (2 ^ 64 - 1 - a) z) (sym (xor_ones x hx)) (complement_differs start h.0 a x ha hx (own_differs start f facts g.registers dst h.0 all h.1))))
-terms_differ order start facts (Alu Xor W64 dst (Imm imm)) f g t flat flat' all e = absurd (none-some _ e)
-terms_differ order start facts (Alu Mov W64 dst src) f g t flat flat' all e = operand_differs start facts f g src t all e
-terms_differ order start facts (Alu Add W64 dst src) f g t flat flat' all e =
-    option_and_then_some _ (own facts dst) t e (λ a ea e1. option_and_then_some _ (operand_term facts src) t e1 (λ b eb e2.
+    (subst (λ z. Differs start (negated h.0) z (bit_xor x (2 ^ 64 - 1))) (sym (xor_ones a ha)) (subst (λ z. Differs start (negated h.0) (2 ^ 64 - 1 - a) z) (sym (xor_ones x hx)) (complement_differs start h.0 a x ha hx (register_differs order start known.facts f g dst h.0 at.all h.1))))
+terms_differ order start known (Alu Xor W64 dst (Imm imm)) f g t enc at e = absurd (none-some _ e)
+terms_differ order start known (Alu Mov W64 dst src) f g t enc at e = operand_differs order start known.facts f g src t at.all e
+terms_differ order start known (Alu Add W64 dst src) f g t enc at e =
+    option_and_then_some _ (own known.facts dst) t e (λ a ea e1. option_and_then_some _ (operand_term known.facts src) t e1 (λ b eb e2.
     subst (λ t. Differs start t (put_value order (Alu Add W64 dst src) f) (put_value order (Alu Add W64 dst src) g)) (same_Some (plus a b) t e2)
-    (sum_differs start a b (flat_register f dst) (flat_operand f src) (flat_register g dst) (flat_operand g src) (own_differs start f facts g.registers dst a all ea) (operand_differs start facts f g src b all eb))))
-terms_differ order start facts (Alu Sub W64 dst src) f g t flat flat' all e =
-    option_and_then_some _ (own facts dst) t e (λ a ea e1. option_and_then_some _ (operand_term facts src) t e1 (λ b eb e2.
+    (sum_differs start a b (flat_register f dst) (flat_operand f src) (flat_register g dst) (flat_operand g src) (register_differs order start known.facts f g dst a at.all ea) (operand_differs order start known.facts f g src b at.all eb))))
+terms_differ order start known (Alu Sub W64 dst src) f g t enc at e =
+    option_and_then_some _ (own known.facts dst) t e (λ a ea e1. option_and_then_some _ (operand_term known.facts src) t e1 (λ b eb e2.
     subst (λ t. Differs start t (put_value order (Alu Sub W64 dst src) f) (put_value order (Alu Sub W64 dst src) g)) (same_Some (minus a b) t e2)
-    (difference_differs start a b (flat_register f dst) (flat_operand f src) (flat_register g dst) (flat_operand g src) (own_differs start f facts g.registers dst a all ea) (operand_differs start facts f g src b all eb))))
-terms_differ order start facts (Alu op W64 dst src) f g t flat flat' all e =
-    option_and_then_some _ (own facts dst) t e (λ a ea e1. option_and_then_some _ (operand_term facts src) t e1 (λ b eb e2. absurd (none-some _ e2)))
-terms_differ order start facts (Neg W64 dst) f g t flat flat' all e =
-    let h = option_map_some negated (own facts dst) t e in
-    subst (λ t. Differs start t (put_value order (Neg W64 dst) f) (put_value order (Neg W64 dst) g)) h.2 (negation_differs start h.0 (flat_register f dst) (flat_register g dst) (own_differs start f facts g.registers dst h.0 all h.1))
-terms_differ order start facts i f g t flat flat' all e = absurd (none-some _ e)
-
--- r10 is the end of the frame in both
-abbrev pub IsEnd : ℕ → List ℕ → Type 0
-IsEnd start registers = get_or registers 10 0 ≡ (start + frame_bytes) % addresses
-
-abbrev pub ArePointers : ℕ → List ℕ → List ℕ → Type 0
-ArePointers start old new = IsEnd start old × IsEnd start new
-
-pub end_left : (start : ℕ) (registers : List ℕ) (r : Reg) (x : ℕ) → is_frame_pointer r ≡ false → IsEnd start registers → IsEnd start (set registers (register_number r) x)
-end_left start registers r x e h = get_or-set_other registers (register_number r) 10 x 0 (λ same. eqb-false (register_number r) 10 e (sym same)) ∙ h
-
--- at one placement: the old program's state, and the new one's registers by their facts
-pub record AtOnce (start : ℕ) (facts : Facts) (f g : FlatState) : Type 0 where
-  pub high : IsHigh start
-  pub flat : IsFlat f
-  pub new_flat : IsFlat g
-  pub memory_same : g.memory ≡ f.memory
-  pub pointers : ArePointers start f.registers g.registers
-  pub all : AllHold start f facts g.registers
+    (difference_differs start a b (flat_register f dst) (flat_operand f src) (flat_register g dst) (flat_operand g src) (register_differs order start known.facts f g dst a at.all ea) (operand_differs order start known.facts f g src b at.all eb))))
+terms_differ order start known (Alu op W64 dst src) f g t enc at e =
+    option_and_then_some _ (own known.facts dst) t e (λ a ea e1. option_and_then_some _ (operand_term known.facts src) t e1 (λ b eb e2. absurd (none-some _ e2)))
+terms_differ order start known (Neg W64 dst) f g t enc at e =
+    let h = option_map_some negated (own known.facts dst) t e in
+    subst (λ t. Differs start t (put_value order (Neg W64 dst) f) (put_value order (Neg W64 dst) g)) h.2 (negation_differs start h.0 (flat_register f dst) (flat_register g dst) (register_differs order start known.facts f g dst h.0 at.all h.1))
+terms_differ order start known (Load size dst src off) f g t enc at e = option_and_then_some _ (slot_at size src off) t e (λ n en et. slot_differs order start known size src off f g n t at enc en et)
+terms_differ order start known i f g t enc at e = absurd (none-some _ e)
 
 equal_differs : (start x y : ℕ) → x < addresses → y ≡ x → Differs start (constant 0) x y
 equal_differs start x y small e = subst (λ z. Differs start (constant 0) x z) (sym e) (same_number start x small)
 
-result_differs : (order : Order) (start : ℕ) (facts : Facts) (i : Insn) (r : Reg) (f g : FlatState) (t : Term) → put_into i ≡ Some r → HasEncoding i → AtOnce start facts f g → result_term facts i ≡ Some t → Differs start t (put_value order i f) (put_value order i g)
+-- all that an instruction reads
+numbers_small : (order : Order) (start : ℕ) (f : FlatState) → IsFlat f → (r : Reg) → value_in order start f (Some (Register r)) < addresses
+numbers_small order start f flat r = flat.numbers (register_number r)
+
+pub reads_all_same : (order : Order) (start : ℕ) (known : Known) (f g : FlatState) (rs : List Reg) → AtOnce order start known f g → list_all (is_same known.facts) rs ≡ true → AllByRecursion (λ r. get_or g.registers (register_number r) 0 ≡ flat_register f r) rs
+reads_all_same order start known f g rs at e = all_same start (value_in order start f) (value_in order start g) (numbers_small order start f at.flat) known.facts rs at.all e
+
+pub reads_all_low : (order : Order) (start : ℕ) (known : Known) (f g : FlatState) (rs : List Reg) → AtOnce order start known f g → list_all (is_low known.facts) rs ≡ true → AllByRecursion (λ r. AreLow (flat_register f r) (get_or g.registers (register_number r) 0)) rs
+reads_all_low order start known f g rs at e = all_low start at.high (value_in order start f) (value_in order start g) known.facts rs at.all e
+
+-- what is loaded by a register that is the same
+loaded_there : (order : Order) (start : ℕ) (known : Known) (i : Insn) (a : Access) (f g : FlatState) → HasEncoding i → AtOnce order start known f g → Leaves start known.left i i f g → access_of i ≡ Some a → get_or g.registers (register_number a.base) 0 ≡ flat_register f a.base
+    → is_common known (byte_count a.size) a.base a.offset a.base a.offset ≡ true → bytes_from g.memory (address g a.base a.offset) (byte_count a.size) ≡ bytes_from f.memory (address g a.base a.offset) (byte_count a.size)
+loaded_there order start known i a f g enc at leaves ea same e =
+    let there : address g a.base a.offset ≡ address f a.base a.offset = ap (λ x. modulo (pos x +ℤ a.offset) addresses) same in
+    subst (λ z. bytes_from g.memory (address g a.base a.offset) (byte_count a.size) ≡ bytes_from f.memory z (byte_count a.size)) (sym there)
+    (access_common order known start (byte_count a.size) a.base a.base a.offset a.offset f g (access_is order start known i i a a f g enc enc at leaves ea ea refl there) at.common e)
+
+loads_same : (order : Order) (start : ℕ) (known : Known) (i : Insn) (f g : FlatState) → HasEncoding i → AtOnce order start known f g → Leaves start known.left i i f g → AllByRecursion (λ r. get_or g.registers (register_number r) 0 ≡ flat_register f r) (registers_read i) → loads_common known i ≡ true → ReadsSame i f g
+loads_same order start known (Load size dst src off) f g enc at leaves agree e = loaded_there order start known (Load size dst src off) (record { base = src; offset = off; size = size; reads = true; writes = false }) f g enc at leaves refl agree.0 e
+loads_same order start known (LoadSx size dst src off) f g enc at leaves agree e = loaded_there order start known (LoadSx size dst src off) (record { base = src; offset = off; size = size; reads = true; writes = false }) f g enc at leaves refl agree.0 e
+loads_same order start known i f g enc at leaves agree e = tt
+
+result_differs : (order : Order) (start : ℕ) (known : Known) (i : Insn) (r : Reg) (f g : FlatState) (t : Term) → put_into i ≡ Some r → HasEncoding i → AtOnce order start known f g → Leaves start known.left i i f g → result_term known i ≡ Some t → Differs start t (put_value order i f) (put_value order i g)
 unfolding result_term reads_same
-result_differs order start facts i r f g t into enc at e = by_first (by_terms facts i) refl e
+result_differs order start known i r f g t into enc at leaves e = by_first (by_terms known.facts i) refl e
   where
-    equal : reads_same facts i ≡ true → put_value order i g ≡ put_value order i f
-    equal c = elim (or_cases (list_all (is_same facts) (registers_read i)) (reads_low i && list_all (is_low facts) (registers_read i)) c) [
-      | inl same ↦ put_same order i r f g into at.flat.eleven at.new_flat.eleven at.memory_same (all_same start f facts g.registers (registers_read i) at.flat at.all same)
-      | inr low ↦ (let h = and_parts (reads_low i) (list_all (is_low facts) (registers_read i)) low in put_low order i f g h.0 (all_low start f facts g.registers (registers_read i) at.high at.all h.1))
+    equal : reads_same known.facts i ≡ true → loads_common known i ≡ true → put_value order i g ≡ put_value order i f
+    equal c l = elim (or_cases (list_all (is_same known.facts) (registers_read i)) (reads_low i && list_all (is_low known.facts) (registers_read i)) c) [
+      | inl same ↦ (let agree = reads_all_same order start known f g (registers_read i) at same in put_same order i r f g into at.flat.eleven at.new_flat.eleven (loads_same order start known i f g enc at leaves agree l) agree)
+      | inr low ↦ (let h = and_parts (reads_low i) (list_all (is_low known.facts) (registers_read i)) low in put_low order i f g h.0 (reads_all_low order start known f g (registers_read i) at h.1))
     ]
 
-    by_first : (o : Option Term) → by_terms facts i ≡ o → option_or o (if reads_same facts i then Some zero_term else None) ≡ Some t → Differs start t (put_value order i f) (put_value order i g)
-    by_first (Some u) eo h = terms_differ order start facts i f g t at.flat at.new_flat at.all (eo ∙ h)
+    by_first : (o : Option Term) → by_terms known.facts i ≡ o → option_or o (if reads_same known.facts i && loads_common known i then Some zero_term else None) ≡ Some t → Differs start t (put_value order i f) (put_value order i g)
+    by_first (Some u) eo h = terms_differ order start known i f g t enc at (eo ∙ h)
     by_first None eo h =
-        let c = cond_option (reads_same facts i) (Some (constant 0)) t h in
-        subst (λ t. Differs start t (put_value order i f) (put_value order i g)) (same_Some (constant 0) t c.1) (equal_differs start (put_value order i f) (put_value order i g) (put_below order i r f into enc at.flat) (equal c.0))
+        let c = cond_option (reads_same known.facts i && loads_common known i) (Some (constant 0)) t h in
+        let p = and_parts (reads_same known.facts i) (loads_common known i) c.0 in
+        subst (λ t. Differs start t (put_value order i f) (put_value order i g)) (same_Some (constant 0) t c.1) (equal_differs start (put_value order i f) (put_value order i g) (put_below order i r f into enc at.flat) (equal p.0 p.1))
 
 -- ---- by another register
 
-pub address_same : (start : ℕ) (facts : Facts) (f g : FlatState) (base src : Reg) (off at : ℤ) → AllHold start f facts g.registers → same_address facts base at src off ≡ true → address g base at ≡ address f src off
-unfolding same_address
-address_same start facts f g base src off at all e =
-    let h = any_holds (is_address base at src off) (Holds start f g.registers) facts e all in
+by_address : (order : Order) (start : ℕ) (facts : Facts) (f g : FlatState) (base src : Reg) (off at : ℤ) → AllHold start (value_in order start f) (value_in order start g) facts → list_any (is_address base at src off) facts ≡ true → address g base at ≡ address f src off
+by_address order start facts f g base src off at all e =
+    let h = any_holds (is_address base at src off) (Holds start (value_in order start f) (value_in order start g)) facts e all in
     let a = and_parts (is_register base h.0.of) (is_register src h.0.base && option_map_or (λ t. t.frames == 0 && (t.moved + extended at) % addresses == extended off) h.0.by false) h.1 in
     let b = and_parts (is_register src h.0.base) (option_map_or (λ t. t.frames == 0 && (t.moved + extended at) % addresses == extended off) h.0.by false) a.1 in
-    by_term h.0.by (subst (λ x. DiffersBy start h.0.by x (flat_register g base)) (register_value f.registers src h.0.base b.0) (subst (λ y. DiffersBy start h.0.by (value_in f.registers h.0.base) y) (register_value g.registers base h.0.of a.0) h.2)) b.1
+    by_term h.0.by (subst (λ x. DiffersBy start h.0.by x (flat_register g base)) (held (value_in order start f) (Register src) h.0.base b.0) (subst (λ y. DiffersBy start h.0.by (value_in order start f h.0.base) y) (held (value_in order start g) (Register base) h.0.of a.0) h.2)) b.1
   where
     by_term : (by : Option Term) → DiffersBy start by (flat_register f src) (flat_register g base) → option_map_or (λ t. t.frames == 0 && (t.moved + extended at) % addresses == extended off) by false ≡ true → address g base at ≡ address f src off
     by_term None d m = absurd (false≢true m)
@@ -294,6 +208,41 @@ address_same start facts f g base src off at all e =
         let s : Same (pos (flat_register g base)) (pos (flat_register f src) +ℤ pos t.moved) = subst (λ z. Same (pos (flat_register g base)) (pos (flat_register f src) +ℤ z)) (plain_shift start t c.0) (differs_same start t (flat_register f src) (flat_register g base) d) in
         let again : (pos (flat_register f src) +ℤ pos t.moved) +ℤ at ≡ pos (flat_register f src) +ℤ (pos t.moved +ℤ at) = omega (arith, ints) in
         modulo_same (same_trans (same_plus s (same_refl at)) (same_trans (same_equal again) (same_plus (same_refl (pos (flat_register f src))) sum)))
+
+-- both are one number
+folded_same : (start x y : ℕ) (u t : Term) (at off : ℤ) → Differs start u 0 y → Differs start t x 0 → is_folded at off (Some u) (Some t) ≡ true → modulo (pos y +ℤ at) addresses ≡ modulo (pos x +ℤ off) addresses
+folded_same start x y u t at off du dt e =
+    let c = and_parts ((u.frames + t.frames) % addresses == 0) (((u.moved + t.moved) + extended at) % addresses == extended off) e in
+    let none : (u.frames + t.frames) % addresses ≡ 0 = eqb-true ((u.frames + t.frames) % addresses) 0 c.0 in
+    let good : ((u.moved + t.moved) + extended at) % addresses ≡ extended off = eqb-true (((u.moved + t.moved) + extended at) % addresses) (extended off) c.1 in
+    let first : Same (pos y) (pos 0 +ℤ shift start u) = differs_same start u 0 y du in
+    let second : Same (pos 0) (pos x +ℤ shift start t) = differs_same start t x 0 dt in
+    let whole : (plus u t).frames ≡ 0 = none in
+    let sum : Same (shift start u +ℤ shift start t) (pos (u.moved + t.moved)) = same_trans (same_sym (shift_plus start u t)) (same_trans (same_equal (zero_frames start (plus u t) none)) (modulo-same (pos (u.moved + t.moved)))) in
+    let moved : Same (pos (u.moved + t.moved) +ℤ at) off = same_trans (same_plus (same_refl (pos (u.moved + t.moved))) (same_sym (modulo-same at))) (same_trans (same_sym (modulo-same (pos ((u.moved + t.moved) + extended at)))) (same_trans (same_equal (ap pos good)) (modulo-same off))) in
+    let both : Same (pos y +ℤ pos 0) ((pos 0 +ℤ shift start u) +ℤ (pos x +ℤ shift start t)) = same_plus first second in
+    let left : pos y +ℤ pos 0 ≡ pos y = omega (arith, ints) in
+    let right : (pos 0 +ℤ shift start u) +ℤ (pos x +ℤ shift start t) ≡ pos x +ℤ (shift start u +ℤ shift start t) = omega (arith, ints) in
+    let base : Same (pos y) (pos x +ℤ pos (u.moved + t.moved)) = same_trans (same_equal (sym left)) (same_trans both (same_trans (same_equal right) (same_plus (same_refl (pos x)) sum))) in
+    let again : (pos x +ℤ pos (u.moved + t.moved)) +ℤ at ≡ pos x +ℤ (pos (u.moved + t.moved) +ℤ at) = omega (arith, ints) in
+    modulo_same (same_trans (same_plus base (same_refl at)) (same_trans (same_equal again) (same_plus (same_refl (pos x)) moved)))
+  where
+    zero_frames : (start : ℕ) (t : Term) → t.frames ≡ 0 → shift start t ≡ pos t.moved
+    zero_frames start t e =
+        let product : t.frames * start ≡ 0 = ap (λ n. n * start) e ∙ (omega arith) in
+        omega (arith, ints)
+
+pub address_same : (order : Order) (start : ℕ) (facts : Facts) (f g : FlatState) (base src : Reg) (off at : ℤ) → AllHold start (value_in order start f) (value_in order start g) facts → same_address facts base at src off ≡ true → address g base at ≡ address f src off
+unfolding same_address
+address_same order start facts f g base src off at all e = elim (or_cases (list_any (is_address base at src off) facts) (is_folded at off (numbered facts (Register base)) (pinned facts (Register src))) e) [
+  | inl there ↦ by_address order start facts f g base src off at all there
+  | inr folded ↦ by_number (numbered facts (Register base)) (pinned facts (Register src)) refl refl folded
+]
+  where
+    by_number : (u t : Option Term) → numbered facts (Register base) ≡ u → pinned facts (Register src) ≡ t → is_folded at off u t ≡ true → address g base at ≡ address f src off
+    by_number (Some u) (Some t) eu et h = folded_same start (flat_register f src) (flat_register g base) u t at off (numbered_differs start (value_in order start f) (value_in order start g) facts (Register base) u all eu) (pinned_differs start (value_in order start f) (value_in order start g) facts (Register src) t all et) h
+    by_number (Some u) None eu et h = absurd (false≢true h)
+    by_number None t eu et h = absurd (false≢true h)
 
 pub size_is : (a b : Size) → same_size a b ≡ true → b ≡ a
 size_is B B e = refl
@@ -313,62 +262,40 @@ size_is DW B e = absurd (false≢true e)
 size_is DW H e = absurd (false≢true e)
 size_is DW W e = absurd (false≢true e)
 
-loaded_same : (order : Order) (k a b : ℕ) (f g : FlatState) → g.memory ≡ f.memory → a ≡ b → flat_number order g k a ≡ flat_number order f k b
-loaded_same order k a b f g memory e = ap₂ (λ m a. number_of order k (bytes_from m a k)) memory e
-
 -- what one puts that stands for another, into the same register
 record LoadsSame (order : Order) (i moved : Insn) (f g : FlatState) : Type 0 where
   into : put_into moved ≡ put_into i
   value : put_value order moved g ≡ put_value order i f
 
-abbrev named : ℕ → Reg
-named zero = R0
-named (suc zero) = R1
-named (suc (suc zero)) = R2
-named (suc (suc (suc zero))) = R3
-named (suc (suc (suc (suc zero)))) = R4
-named (suc (suc (suc (suc (suc zero))))) = R5
-named (suc (suc (suc (suc (suc (suc zero)))))) = R6
-named (suc (suc (suc (suc (suc (suc (suc zero))))))) = R7
-named (suc (suc (suc (suc (suc (suc (suc (suc zero)))))))) = R8
-named (suc (suc (suc (suc (suc (suc (suc (suc (suc zero))))))))) = R9
-named n = R10
+-- by an address that is the same
+loaded_alike : (order : Order) (start : ℕ) (known : Known) (i moved : Insn) (a b : Access) (f g : FlatState) → HasEncoding i → HasEncoding moved → AtOnce order start known f g → Leaves start known.left i moved f g → access_of i ≡ Some a → access_of moved ≡ Some b → byte_count b.size ≡ byte_count a.size
+    → goes_alike known (byte_count a.size) a.base a.offset b.base b.offset ≡ true → bytes_from g.memory (address g b.base b.offset) (byte_count a.size) ≡ bytes_from f.memory (address f a.base a.offset) (byte_count a.size)
+loaded_alike order start known i moved a b f g enc enc' at leaves ea eb size e =
+    let h = and_parts (same_address known.facts b.base b.offset a.base a.offset) (is_common known (byte_count a.size) a.base a.offset b.base b.offset) e in
+    let there = address_same order start known.facts f g b.base a.base a.offset b.offset at.all h.0 in
+    access_common order known start (byte_count a.size) a.base b.base a.offset b.offset f g (access_is order start known i moved a b f g enc enc' at leaves ea eb size there) at.common h.1
 
-named_is : (r : Reg) → named (register_number r) ≡ r
-named_is R0 = refl
-named_is R1 = refl
-named_is R2 = refl
-named_is R3 = refl
-named_is R4 = refl
-named_is R5 = refl
-named_is R6 = refl
-named_is R7 = refl
-named_is R8 = refl
-named_is R9 = refl
-named_is R10 = refl
-
-pub register_is : (a b : Reg) → same_register a b ≡ true → b ≡ a
-register_is a b e = sym (named_is b) ∙ ap named (sym (eqb-true (register_number a) (register_number b) e)) ∙ named_is a
-
-load_same : (order : Order) (start : ℕ) (facts : Facts) (i moved : Insn) (f g : FlatState) → AtOnce start facts f g → loads_alike facts i moved ≡ true → LoadsSame order i moved f g
-load_same order start facts (Load size dst src off) (Load other into base at) f g one e =
-    let a = and_parts (same_size size other) (same_register dst into && same_address facts base at src off) e in
-    let b = and_parts (same_register dst into) (same_address facts base at src off) a.1 in
-    let where_is = address_same start facts f g base src off at one.all b.1 in
+load_same : (order : Order) (start : ℕ) (known : Known) (i moved : Insn) (f g : FlatState) → HasEncoding i → HasEncoding moved → AtOnce order start known f g → Leaves start known.left i moved f g → loads_alike known i moved ≡ true → LoadsSame order i moved f g
+load_same order start known (Load size dst src off) (Load other into base at) f g enc enc' one leaves e =
+    let a = and_parts (same_size size other) (same_register dst into && goes_alike known (byte_count size) src off base at) e in
+    let b = and_parts (same_register dst into) (goes_alike known (byte_count size) src off base at) a.1 in
+    let size_same : other ≡ size = size_is size other a.0 in
+    let bytes = loaded_alike order start known (Load size dst src off) (Load other into base at) (record { base = src; offset = off; size = size; reads = true; writes = false }) (record { base = base; offset = at; size = other; reads = true; writes = false }) f g enc enc' one leaves refl refl (ap byte_count size_same) b.1 in
     record {
       into = ap Some (register_is dst into b.0);
-      value = subst (λ size'. flat_number order g (byte_count size') (address g base at) ≡ flat_number order f (byte_count size) (address f src off)) (sym (size_is size other a.0)) (loaded_same order (byte_count size) (address g base at) (address f src off) f g one.memory_same where_is);
+      value = subst (λ size'. flat_number order g (byte_count size') (address g base at) ≡ flat_number order f (byte_count size) (address f src off)) (sym size_same) (ap (number_of order (byte_count size)) bytes);
     }
-load_same order start facts (LoadSx size dst src off) (LoadSx other into base at) f g one e =
-    let a = and_parts (same_size size other) (same_register dst into && same_address facts base at src off) e in
-    let b = and_parts (same_register dst into) (same_address facts base at src off) a.1 in
-    let where_is = address_same start facts f g base src off at one.all b.1 in
+load_same order start known (LoadSx size dst src off) (LoadSx other into base at) f g enc enc' one leaves e =
+    let a = and_parts (same_size size other) (same_register dst into && goes_alike known (byte_count size) src off base at) e in
+    let b = and_parts (same_register dst into) (goes_alike known (byte_count size) src off base at) a.1 in
+    let size_same : other ≡ size = size_is size other a.0 in
+    let bytes = loaded_alike order start known (LoadSx size dst src off) (LoadSx other into base at) (record { base = src; offset = off; size = size; reads = true; writes = false }) (record { base = base; offset = at; size = other; reads = true; writes = false }) f g enc enc' one leaves refl refl (ap byte_count size_same) b.1 in
     record {
       into = ap Some (register_is dst into b.0);
-      value = subst (λ size'. modulo (cast_signed (size_type size') (flat_number order g (byte_count size') (address g base at))) addresses ≡ modulo (cast_signed (size_type size) (flat_number order f (byte_count size) (address f src off))) addresses) (sym (size_is size other a.0))
-          (ap (λ z. modulo (cast_signed (size_type size) z) addresses) (loaded_same order (byte_count size) (address g base at) (address f src off) f g one.memory_same where_is));
+      value = subst (λ size'. modulo (cast_signed (size_type size') (flat_number order g (byte_count size') (address g base at))) addresses ≡ modulo (cast_signed (size_type size) (flat_number order f (byte_count size) (address f src off))) addresses) (sym size_same)
+          (ap (λ bs. modulo (cast_signed (size_type size) (number_of order (byte_count size) bs)) addresses) bytes);
     }
-load_same order start facts i moved f g one e = absurd (false≢true e)
+load_same order start known i moved f g enc enc' one leaves e = absurd (false≢true e)
 
 -- ---- low halves of 64-bit results
 
@@ -417,11 +344,11 @@ low_put f g Xor dst src e h = low_compute Xor (flat_register f dst) (flat_operan
 low_put f g Lsh dst src e h = low_compute Lsh (flat_register f dst) (flat_operand f src) (flat_register g dst) (flat_operand g src) e h.0 (operand_low f g src h.1)
 low_put f g op dst src e h = absurd (false≢true e)
 
-has_low : (order : Order) (start : ℕ) (facts : Facts) (i : Insn) (f g : FlatState) → AtOnce start facts f g → has_low_result facts i ≡ true → AreLow (put_value order i f) (put_value order i g)
-has_low order start facts (Alu op W64 dst src) f g at e =
-    let h = and_parts (keeps_low op) (list_all (is_low facts) (registers_read (Alu op W64 dst src))) e in
-    low_put f g op dst src h.0 (all_low start f facts g.registers (registers_read (Alu op W64 dst src)) at.high at.all h.1)
-has_low order start facts i f g at e = absurd (false≢true e)
+has_low : (order : Order) (start : ℕ) (known : Known) (i : Insn) (f g : FlatState) → AtOnce order start known f g → has_low_result known.facts i ≡ true → AreLow (put_value order i f) (put_value order i g)
+has_low order start known (Alu op W64 dst src) f g at e =
+    let h = and_parts (keeps_low op) (list_all (is_low known.facts) (registers_read (Alu op W64 dst src))) e in
+    low_put f g op dst src h.0 (reads_all_low order start known f g (registers_read (Alu op W64 dst src)) at h.1)
+has_low order start known i f g at e = absurd (false≢true e)
 
 -- the end of the frame, less where it begins
 framed_shift : (start : ℕ) → shift start frame_offset ≡ pos 0 -ℤ pos start
@@ -452,7 +379,7 @@ framed_differs order start i moved f g end e = absurd (false≢true e)
 -- ---- what both put
 
 -- where they are the same but for where they lead, and put a number, they are the same
-plain_is : (i : Insn) (r : Reg) → put_into i ≡ Some r → undirected i ≡ i
+pub plain_is : (i : Insn) (r : Reg) → put_into i ≡ Some r → undirected i ≡ i
 plain_is (Alu op width dst src) r e = refl
 plain_is (Neg width dst) r e = refl
 plain_is (MovSx width b dst src) r e = refl
@@ -479,18 +406,21 @@ pub record PutBoth (order : Order) (start : ℕ) (i moved : Insn) (r : Reg) (by 
   pub into : put_into moved ≡ Some r
   pub value : DiffersBy start by (put_value order i f) (put_value order moved g)
 
-pub put_both : (order : Order) (start : ℕ) (facts : Facts) (same : Bool) (i moved : Insn) (r : Reg) (by : Option Term) (f g : FlatState) → IsTrue same ↔ (undirected moved ≡ undirected i) → put_into i ≡ Some r → HasEncoding i → AtOnce start facts f g
-    → put_by facts same i moved ≡ Some by → PutBoth order start i moved r by f g
-put_both order start facts true i moved r by f g same into enc at e =
+pub put_both : (order : Order) (start : ℕ) (known : Known) (same : Bool) (i moved : Insn) (r : Reg) (by : Option Term) (f g : FlatState) → IsTrue same ↔ (undirected moved ≡ undirected i) → put_into i ≡ Some r → HasEncoding i → HasEncoding moved → AtOnce order start known f g → Leaves start known.left i moved f g
+    → put_by known same i moved ≡ Some by → PutBoth order start i moved r by f g
+put_both order start known true i moved r by f g same into enc enc' at leaves e =
     let is : moved ≡ i = put_again i moved r into (same.0 refl) in
-    subst (λ m. PutBoth order start i m r by f g) (sym is) (by_result (result_term facts i) refl e)
+    subst (λ m. PutBoth order start i m r by f g) (sym is) (by_result (result_term known i) refl e)
   where
-    by_result : (o : Option Term) → result_term facts i ≡ o → option_or (option_map Some o) (low_result facts i) ≡ Some by → PutBoth order start i i r by f g
-    by_result (Some t) eo h = subst (λ by. PutBoth order start i i r by f g) (same_Some (Some t) by h) (record { into = into; value = result_differs order start facts i r f g t into enc at eo })
+    leaves_itself : Leaves start known.left i i f g
+    leaves_itself = subst (λ m. Leaves start known.left i m f g) (put_again i moved r into (same.0 refl)) leaves
+
+    by_result : (o : Option Term) → result_term known i ≡ o → option_or (option_map Some o) (low_result known.facts i) ≡ Some by → PutBoth order start i i r by f g
+    by_result (Some t) eo h = subst (λ by. PutBoth order start i i r by f g) (same_Some (Some t) by h) (record { into = into; value = result_differs order start known i r f g t into enc at leaves_itself eo })
     by_result None eo h =
-        let c = cond_option (has_low_result facts i) (Some None) by h in
-        subst (λ by. PutBoth order start i i r by f g) (same_Some None by c.1) (record { into = into; value = has_low order start facts i f g at c.0 })
-put_both order start facts false i moved r by f g same into enc at e = by_load (loads_alike facts i moved) refl e
+        let c = cond_option (has_low_result known.facts i) (Some None) by h in
+        subst (λ by. PutBoth order start i i r by f g) (same_Some None by c.1) (record { into = into; value = has_low order start known i f g at c.0 })
+put_both order start known false i moved r by f g same into enc enc' at leaves e = by_load (loads_alike known i moved) refl e
   where
     by_frame : (b : Bool) → is_framed i moved ≡ b → cond b (Some (Some frame_offset)) None ≡ Some by → PutBoth order start i moved r by f g
     by_frame false eb h = absurd (none-some _ h)
@@ -498,8 +428,8 @@ put_both order start facts false i moved r by f g same into enc at e = by_load (
         let d = framed_differs order start i moved f g at.pointers.0 eb in
         subst (λ by. PutBoth order start i moved r by f g) (same_Some (Some frame_offset) by h) (record { into = d.into ∙ into; value = d.value })
 
-    by_load : (b : Bool) → loads_alike facts i moved ≡ b → cond b (Some (Some zero_term)) (if is_framed i moved then Some (Some frame_offset) else None) ≡ Some by → PutBoth order start i moved r by f g
+    by_load : (b : Bool) → loads_alike known i moved ≡ b → cond b (Some (Some zero_term)) (if is_framed i moved then Some (Some frame_offset) else None) ≡ Some by → PutBoth order start i moved r by f g
     by_load false eb h = by_frame (is_framed i moved) refl h
     by_load true eb h =
-        let l = load_same order start facts i moved f g at eb in
+        let l = load_same order start known i moved f g enc enc' at leaves eb in
         subst (λ by. PutBoth order start i moved r by f g) (same_Some (Some zero_term) by h) (record { into = l.into ∙ into; value = equal_differs start (put_value order i f) (put_value order moved g) (put_below order i r f into enc at.flat) l.value })

@@ -20,7 +20,7 @@ pub record Setting : Type 0 where
   pub bounds : Bounds
   pub old_valid : IsProgram is
   pub new_valid : IsProgram js
-  pub matches : Matches (program order is) (program order js) notes bounds.length
+  pub matches : Matches (program order is) (program order js) notes bounds
   pub context : List ℕ
   pub bytes : AreBytes context
   pub long : length context ≡ bounds.length

@@ -1,6 +1,6 @@
 -- The simulation: by induction on the old program's two runs, each step of which the new program follows by extra instructions and one of its own.
 use Rattle.std.proofs.Common.{◌≡◌, ℕ, zero, suc, ◌+◌, ◌*◌, ◌^◌, ◌<◌, ◌≤◌, refl, sym, ap, ap₂, ◌∙◌, subst, arith, Bool, true, false, List, [], ◌∷◌, length, Option, Some, None, cond}
-use Rattle.std.specs.Prelude.{ℤ, pos, ltb, option_and_then, option_map}
+use Rattle.std.specs.Prelude.{ℤ, pos, ◌||◌, ltb, option_and_then, option_map}
 use Rattle.std.proofs.lemmas.Bool.{cond-true, cond-false, le-ltb, false≢true}
 use Rattle.std.proofs.lemmas.Option.{none-some, option_and_then_some}
 use Rattle.std.specs.List.{list_any}
@@ -35,10 +35,10 @@ use Rattle.bpf_semantics.proofs.StateLemmas.{exit_is, left_is, value_fits, opera
 use Rattle.bpf_kept.specs.Zero.{zero_does}
 use Rattle.bpf_kept.specs.Terms.{Facts}
 use Rattle.bpf_kept.specs.Rules.{put_into, undirected, is_jump}
-use Rattle.bpf_kept.specs.Guards.{Front, guarded, passes}
+use Rattle.bpf_kept.specs.Guards.{Front, guarded, guards_sum, passes}
 use Rattle.bpf_kept.specs.Meaning.{most_for_one}
 use Rattle.bpf_kept.specs.Matching.{most_extras, most_at_start, led}
-use Rattle.bpf_kept.proofs.PutLaw.{put_value}
+use Rattle.bpf_kept.proofs.PutValue.{put_value}
 
 -- ---- instructions that neither call nor exit
 
@@ -84,7 +84,7 @@ pub record IsGuard (front : Front) (facts : Facts) (m : Insn) : Type 0 where
   pub imm : ℤ
   pub off : ℤ
   pub is : m ≡ JumpIf Gt W64 dst (Imm imm) off
-  pub tested : list_any (guarded front dst (extended imm)) facts ≡ true
+  pub tested : (list_any (guarded front dst (extended imm)) facts || guards_sum front facts dst (extended imm)) ≡ true
 
 pub guard_is : (front : Front) (facts : Facts) (m : Insn) → passes front facts m ≡ true → IsGuard front facts m
 unfolding passes
@@ -235,6 +235,12 @@ module _ (order : Order) (js : List Insn) (valid : IsProgram js) (context : List
   exits_there : (s : State) (m : Insn) (v : ℕ) → insn_at js s.top.slot ≡ Some m → Finish new s v → (s.waiting ≡ []) × (m ≡ Exit) × (number_of_register s R0 ≡ Some v)
   unfolding finish_of
   exits_there s m v stands finish = exit_is s.waiting (number_of_register s R0) m v (ap (option_and_then (λ i. result_of_exit s.waiting (number_of_register s R0) i)) (sym stands) ∙ finish)
+
+  pub new_state : (n : ℕ) (s : State) → Steps new n (start context) s → IsState s
+  new_state n s run = state_is n s run
+
+  pub new_placed : (place : Placement) (n : ℕ) (s : State) → Steps new n (start context) s → IsPlacement (length context) place → IsPlacement (length s.context) place
+  new_placed place n s run placed = subst (λ c. IsPlacement (length c) place) (sym (context_same n s run)) placed
 
   -- it isn't stuck, so it steps
   pub steps_on : (n : ℕ) (s : State) (m : Insn) → Steps new n (start context) s → insn_at js s.top.slot ≡ Some m → (m ≡ Exit → ⊥) → (t : State) × Step new s t

@@ -10,6 +10,7 @@ use Rattle.std.proofs.lemmas.Int.{ints}
 use Rattle.bpf_insn.specs.Arithmetic.{modulo, compare, jumps, low}
 use Rattle.bpf_insn.specs.Effects.{operand_register}
 use Rattle.bpf_insn.specs.Instruction.{register_number}
+use Rattle.bpf_insn.specs.declared.order.Order.{Order}
 use Rattle.bpf_insn.specs.declared.instruction.Reg.{Reg}
 use Rattle.bpf_insn.specs.declared.instruction.Operand.{Operand}
 use Rattle.bpf_insn.specs.declared.instruction.Operand.TheVariants.{Imm, Reg as FromReg}
@@ -23,10 +24,10 @@ use Rattle.bpf_semantics.proofs.FlatArith.{Same, modulo_same, same_refl, same_sy
 use Rattle.bpf_kept.specs.Far.{middle}
 use Rattle.bpf_kept.specs.declared.notes.Term.{Term}
 use Rattle.bpf_kept.specs.Terms.{Facts, Differs, AreLow, shift}
-use Rattle.bpf_kept.specs.Rules.{own, is_same, is_low, reads_low, reads_same, turned_test, same_term, is_offset, are_offsets, are, by_equality, is_kept}
+use Rattle.bpf_kept.specs.Rules.{Known, own, is_same, is_low, reads_low, reads_same, turned_test, same_term, is_offset, are_offsets, are, by_equality, is_kept}
 use Rattle.bpf_kept.proofs.TermLaw.{differs_same}
-use Rattle.bpf_kept.proofs.HoldsLaw.{own_differs, plain_shift, all_same, all_low}
-use Rattle.bpf_kept.proofs.PutLaw.{AtOnce}
+use Rattle.bpf_kept.proofs.HoldsLaw.{plain_shift}
+use Rattle.bpf_kept.proofs.PutLaw.{AtOnce, register_differs, reads_all_same, reads_all_low}
 
 -- ---- pointers into the context, in order
 
@@ -117,7 +118,10 @@ are_terms test facts dst src e = by_left (own facts dst) refl e
     by_left None eo h = absurd (false≢true h)
     by_left (Some a) eo h = by_right a eo (own facts src) refl h
 
-module _ (start : ℕ) (facts : Facts) (f g : FlatState) (at : AtOnce start facts f g) where
+module _ (order : Order) (start : ℕ) (known : Known) (f g : FlatState) (at : AtOnce order start known f g) where
+  abbrev facts : Facts
+  facts = known.facts
+
   operand_same : (src : Operand) → AllByRecursion (λ r. get_or g.registers (register_number r) 0 ≡ flat_register f r) (operand_register src) → flat_operand g src ≡ flat_operand f src
   operand_same (Imm imm) h = refl
   operand_same (FromReg r) h = h.0
@@ -134,15 +138,15 @@ module _ (start : ℕ) (facts : Facts) (f g : FlatState) (at : AtOnce start fact
   by_reads : (cond : Cond) (width : Width) (dst : Reg) (src : Operand) → reads_same facts (JumpIf cond width dst src (pos 0)) ≡ true → jumps width cond (flat_register g dst) (flat_operand g src) ≡ jumps width cond (flat_register f dst) (flat_operand f src)
   unfolding reads_same
   by_reads cond width dst src e = elim (or_cases (list_all (is_same facts) (dst ∷ operand_register src)) (reads_low (JumpIf cond width dst src (pos 0)) && list_all (is_low facts) (dst ∷ operand_register src)) e) [
-    | inl same ↦ (let h = all_same start f facts g.registers (dst ∷ operand_register src) at.flat at.all same in ap₂ (λ a b. jumps width cond a b) h.0 (operand_same src h.1))
-    | inr low ↦ (let h = and_parts (reads_low (JumpIf cond width dst src (pos 0))) (list_all (is_low facts) (dst ∷ operand_register src)) low in by_low cond width dst src h.0 (all_low start f facts g.registers (dst ∷ operand_register src) at.high at.all h.1))
+    | inl same ↦ (let h = reads_all_same order start known f g (dst ∷ operand_register src) at same in ap₂ (λ a b. jumps width cond a b) h.0 (operand_same src h.1))
+    | inr low ↦ (let h = and_parts (reads_low (JumpIf cond width dst src (pos 0))) (list_all (is_low facts) (dst ∷ operand_register src)) low in by_low cond width dst src h.0 (reads_all_low order start known f g (dst ∷ operand_register src) at h.1))
   ]
 
   equal_there : (dst src : Reg) → are same_term facts dst src ≡ true → (flat_register g dst == flat_register g src) ≡ (flat_register f dst == flat_register f src)
   equal_there dst src e =
       let t = are_terms same_term facts dst src e in
       equality_stays start t.left t.right (flat_register f dst) (flat_register f src) (flat_register g dst) (flat_register g src) (at.flat.numbers (register_number dst)) (at.flat.numbers (register_number src)) t.passes
-      (own_differs start f facts g.registers dst t.left at.all t.left_is) (own_differs start f facts g.registers src t.right at.all t.right_is)
+      (register_differs order start facts f g dst t.left at.all t.left_is) (register_differs order start facts f g src t.right at.all t.right_is)
 
   equality_there : (cond : Cond) (width : Width) (dst : Reg) (src : Operand) (off : ℤ) → by_equality facts (JumpIf cond width dst src off) ≡ true → jumps width cond (flat_register g dst) (flat_operand g src) ≡ jumps width cond (flat_register f dst) (flat_operand f src)
   equality_there Eq W64 dst (FromReg src) off e = equal_there dst src e
@@ -162,5 +166,5 @@ module _ (start : ℕ) (facts : Facts) (f g : FlatState) (at : AtOnce start fact
       let h = are_terms are_offsets facts dst src e in
       let both = and_parts (is_offset h.left) (is_offset h.right) h.passes in
       order_turns cond other (flat_register f dst) (flat_register f src) (flat_register g dst) (flat_register g src) t
-      (opposite start h.left (flat_register f dst) (flat_register g dst) (at.flat.numbers (register_number dst)) both.0 (own_differs start f facts g.registers dst h.left at.all h.left_is))
-      (opposite start h.right (flat_register f src) (flat_register g src) (at.flat.numbers (register_number src)) both.1 (own_differs start f facts g.registers src h.right at.all h.right_is))
+      (opposite start h.left (flat_register f dst) (flat_register g dst) (at.flat.numbers (register_number dst)) both.0 (register_differs order start facts f g dst h.left at.all h.left_is))
+      (opposite start h.right (flat_register f src) (flat_register g src) (at.flat.numbers (register_number src)) both.1 (register_differs order start facts f g src h.right at.all h.right_is))

@@ -8,15 +8,18 @@ use Rattle.bpf_insn.specs.Effects.{Access, access_of, register_written}
 use Rattle.bpf_insn.specs.Limits.{frame_bytes}
 use Rattle.bpf_insn.specs.Instruction.{Instructions, register_number, byte_count, slot_count, insn_at, is_straight}
 use Rattle.bpf_insn.specs.declared.instruction.Reg.{Reg}
-use Rattle.bpf_insn.specs.declared.instruction.Operand.TheVariants.{Imm}
+use Rattle.bpf_insn.specs.declared.instruction.Operand.TheVariants.{Imm, Reg as FromReg}
 use Rattle.bpf_insn.specs.declared.instruction.Width.TheVariants.{W64}
+use Rattle.bpf_insn.specs.declared.instruction.AluOp.TheVariants.{Add}
 use Rattle.bpf_insn.specs.declared.instruction.Cond.TheVariants.{Gt}
 use Rattle.bpf_insn.specs.declared.instruction.Insn.{Insn}
-use Rattle.bpf_insn.specs.declared.instruction.Insn.TheVariants.{JumpIf}
+use Rattle.bpf_insn.specs.declared.instruction.Insn.TheVariants.{Alu, JumpIf}
 use Rattle.bpf_semantics.specs.Flat.{addresses}
 use Rattle.bpf_kept.specs.Far.{middle}
 use Rattle.bpf_kept.specs.Terms.{Facts}
-use Rattle.bpf_kept.specs.Rules.{is_register}
+use Rattle.bpf_kept.specs.Rules.{same_register, is_register, is_same, pinned}
+use Rattle.bpf_kept.specs.declared.notes.Holder.{Holder}
+use Rattle.bpf_kept.specs.declared.notes.Holder.TheVariants.{Register, Slot}
 use Rattle.bpf_kept.specs.declared.notes.Term.{Term}
 use Rattle.bpf_kept.specs.declared.notes.Fact.{Fact}
 use Rattle.bpf_kept.specs.declared.notes.Need.{Need}
@@ -68,12 +71,26 @@ is_tested_by front limit t r =
     (t.frames == 0 && are_accessed front front.length limit (cast_signed w64 ((t.moved + middle) % addresses)) r)
     || (t.frames == 1 && are_accessed front frame_bytes limit (cast_signed w64 (t.moved % addresses)) r)
 
+abbrev pub is_tested_in : Front → ℕ → Term → Holder → Bool
+is_tested_in front limit t (Register r) = is_tested_by front limit t r
+is_tested_in front limit t (Slot n) = false
+
 abbrev pub is_tested : Front → ℕ → Fact → Bool
-is_tested front limit fact = option_map_or (λ t. option_map_or (is_tested_by front limit t) fact.base false) fact.by false
+is_tested front limit fact = option_map_or (λ t. option_map_or (is_tested_in front limit t) fact.base false) fact.by false
 
 abbrev pub guarded : Front → Reg → ℕ → Fact → Bool
 guarded front dst limit fact = is_register dst fact.of && is_tested front limit fact
 
+-- A number is tested, and then the old program adds it to a pointer whose address is known. So the number is the pointer behind the sum, moved. Of a
+-- pointer that an index has moved before, the number alone says nothing.
+abbrev pub is_added : Front → Facts → Reg → ℕ → Insn → Bool
+is_added front facts dst limit (Alu Add W64 to (FromReg r)) =
+    same_register r dst && (is_same facts dst && option_map_or (λ t. is_tested_by (record { old = front.old; slot = front.slot + 1; length = front.length }) limit t to) (pinned facts (Register to)) false)
+is_added front facts dst limit i = false
+
+unfoldable pub guards_sum : Front → Facts → Reg → ℕ → Bool
+guards_sum front facts dst limit = option_map_or (is_added front facts dst limit) (insn_at front.old.list front.slot) false
+
 unfoldable pub passes : Front → Facts → Insn → Bool
-passes front facts (JumpIf Gt W64 dst (Imm imm) off) = list_any (guarded front dst (extended imm)) facts
+passes front facts (JumpIf Gt W64 dst (Imm imm) off) = list_any (guarded front dst (extended imm)) facts || guards_sum front facts dst (extended imm)
 passes front facts i = false

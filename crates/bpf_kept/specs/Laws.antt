@@ -49,17 +49,17 @@ ZeroStepIsStep = (place : Placement) (p : Instructions) (f g : FlatState) → Is
 
 -- ---- notes that match show that the meaning is kept
 
--- for one function, whose frame has the same in both, and a new program that is never stuck
+-- for one function, and a new program that is never stuck
 abbrev pub MatchingKeepsFlatMeaning : Type 0
 MatchingKeepsFlatMeaning =
-    (old new : Instructions) (notes : Notes) (bounds : Bounds) → IsProgram old.list → IsProgram new.list → bounds.padded ≡ false → Matches old new notes bounds.length → NeverStuck new bounds.length
+    (old new : Instructions) (notes : Notes) (bounds : Bounds) → IsProgram old.list → IsProgram new.list → bounds.padded ≡ false → Matches old new notes bounds → NeverStuck new bounds.length
     → KeepsFlatMeaning old new bounds (StandsForExit old notes)
 
 -- with a certificate of the new program, for a range of lengths in which the contexts' is
 abbrev pub CertifiedKeepsFlatMeaning : Type 0
 CertifiedKeepsFlatMeaning =
     (old new : Instructions) (notes : Notes) (bounds : Bounds) (c : CertificateView) → IsProgram old.list → IsProgram new.list → IsCertificate c → Certified new c → c.least ≤ bounds.length → bounds.length ≤ c.most
-    → bounds.padded ≡ false → Matches old new notes bounds.length → KeepsFlatMeaning old new bounds (StandsForExit old notes)
+    → bounds.padded ≡ false → Matches old new notes bounds → KeepsFlatMeaning old new bounds (StandsForExit old notes)
 
 -- ---- traps
 

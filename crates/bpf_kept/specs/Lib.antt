@@ -11,8 +11,12 @@ pub mod Anywhere
 pub mod Exact
 -- what the new program has in a place, by what the old one has
 pub mod Terms
+-- the slots of the frame
+pub mod Slots
 -- what instructions make of that
 pub mod Rules
+-- counters of turns
+pub mod Counters
 -- guards
 pub mod Guards
 -- what the notes have to say at each slot
@@ -25,3 +29,4 @@ pub mod Shown
 pub mod NoteFaults
 -- what the code hands on
 pub mod Fronts
+pub mod Knowns

@@ -1,21 +1,27 @@
--- What has to hold of the notes at each slot of the new program, where the old one is one function, and the new one keeps in its frame what the old
--- one keeps there. Nothing here speaks of runs.
-use Rattle.std.specs.Prelude.{◌≡◌, ◌↔◌, ℕ, zero, suc, ◌+◌, ◌==◌, ◌&&◌, ◌^◌, ◌<◌, ◌≤◌, nat_le, Bool, IsTrue, true, false, List, [], ◌∷◌, get_or, length as count, Option, Some, None, if◌then◌else◌}
+-- What has to hold of the notes at each slot of the new program, where the old one is one function. Nothing here speaks of runs.
+use Rattle.std.specs.Prelude.{◌≡◌, ◌↔◌, ℕ, zero, suc, ◌+◌, ◌==◌, ◌&&◌, ◌^◌, ◌<◌, ◌≤◌, nat_le, Bool, IsTrue, true, false, not, List, [], ◌∷◌, ◌++◌, get_or, length as count, Option, Some, None, option_map, ◌||◌, if◌then◌else◌}
 use Rattle.std.specs.List.{list_all}
 use Rattle.std.specs.Option.{option_map_or}
 use Rattle.bpf_insn.specs.Options.{◌>>=◌}
 use Rattle.bpf_insn.specs.Effects.{is_frame_pointer}
+use Rattle.bpf_insn.specs.Limits.{frame_bytes}
 use Rattle.bpf_insn.specs.Instruction.{Instructions, slots, slot_count, insn_at, distance, goes_on, target}
-use Rattle.bpf_insn.specs.declared.instruction.Reg.{Reg}
 use Rattle.bpf_insn.specs.declared.instruction.Reg.TheVariants.{R0, R1, R2, R3, R4, R5, R6, R7, R8, R9, R10}
 use Rattle.bpf_insn.specs.declared.instruction.Insn.{Insn}
-use Rattle.bpf_insn.specs.declared.instruction.Insn.TheVariants.{Exit}
+use Rattle.bpf_insn.specs.declared.instruction.Operand.TheVariants.{Reg as FromReg}
+use Rattle.bpf_insn.specs.declared.instruction.Insn.TheVariants.{Alu, Store, StoreImm, Exit}
+use Rattle.bpf_semantics.specs.Flat.{addresses}
+use Rattle.bpf_kept.specs.declared.notes.Holder.{Holder}
+use Rattle.bpf_kept.specs.declared.notes.Holder.TheVariants.{Register, Slot}
 use Rattle.bpf_kept.specs.declared.notes.Fact.{Fact}
 use Rattle.bpf_kept.specs.declared.notes.Note.{Note}
 use Rattle.bpf_kept.specs.declared.notes.Change.{Change}
 use Rattle.bpf_kept.specs.declared.notes.Change.TheVariants.{Kept, Made}
-use Rattle.bpf_kept.specs.Terms.{Facts, zero_term, context_offset}
-use Rattle.bpf_kept.specs.Rules.{put_into, undirected, paired, holds_behind}
+use Rattle.bpf_kept.specs.Meaning.{Bounds}
+use Rattle.bpf_kept.specs.Terms.{Facts, is_noted, frame_slots, zero_term, context_offset}
+use Rattle.bpf_kept.specs.Slots.{slot_facts, slot_at}
+use Rattle.bpf_kept.specs.Rules.{Known, put_into, undirected, paired, holds_behind, by_itself, are_told}
+use Rattle.bpf_kept.specs.Counters.{all_count_behind, has_turn}
 use Rattle.bpf_kept.specs.Guards.{Front, passes}
 
 -- ---- notes
@@ -35,14 +41,49 @@ most_extras = 128
 abbrev pub most_at_start : ℕ
 most_at_start = 256
 
+-- ---- what is known where something is noted
+
+-- in a slot the old program has 0
+abbrev pub is_zero_slot : ℕ → Fact
+is_zero_slot n = record { of = None; base = Some (Slot n); by = Some zero_term }
+
+abbrev pub same_slot : ℕ → Fact
+same_slot n = by_itself (Slot n)
+
+-- what a note says
+abbrev pub said : Note → Facts
+said note = note.facts ++ slot_facts is_zero_slot (is_noted note.zeros) frame_slots
+
+-- and r10 is the same in both, and each slot that isn't noted as another one
+unfoldable pub facts_at : Note → Facts
+facts_at note = said note ++ by_itself (Register R10) ∷ slot_facts same_slot (λ n. not (is_noted note.apart n)) frame_slots
+
+-- The instruction may put where the frame ends, or begins, into a register or the frame.
+abbrev pub hands_frame : Insn → Bool
+hands_frame (Alu op width dst (FromReg r)) = is_frame_pointer r
+hands_frame (Store size dst off src) = is_frame_pointer src
+hands_frame i = false
+
+-- So many of the lowest bytes of the frame no access by another register than r10 goes to: all, if the new program has no pointer into it elsewhere;
+-- else as many as the runs leave that are spoken of. With r3 = r10 an access by r3 may go to any slot.
+unfoldable pub left_alone : Instructions → ℕ → ℕ
+left_alone new untouched = if list_all (λ i. not (hands_frame i)) new.list then frame_bytes else untouched
+
+abbrev pub known_at : Instructions → Bounds → Note → Known
+known_at new bounds note = record { facts = facts_at note; apart = note.apart; counters = note.counters; turns = bounds.turns; left = left_alone new bounds.untouched }
+
 -- ---- edges
 
--- What is noted asks for no more than what holds, where the old program is in front of a slot; and few enough extra instructions stand there.
-abbrev pub suits : Facts → Change → ℕ → ℕ → Note → Bool
-suits facts change slot most note = note.old == slot && (nat_le note.extras most && list_all (holds_behind facts change) note.facts)
+-- What is noted asks for no more than what holds: its facts, each slot of the frame, and its counters.
+abbrev pub is_given : Known → Change → Option ℕ → Note → Bool
+is_given known change step note = list_all (holds_behind known.facts change) (said note) && (are_told known change note.apart && all_count_behind known change step note.counters)
 
-unfoldable pub arrives : Notes → Facts → Change → ℕ → ℕ → ℕ → Bool
-arrives notes facts change slot most new_slot = option_map_or (suits facts change slot most) (note_at notes new_slot) false
+-- So it is, where the old program is in front of a slot, and few enough extra instructions stand there.
+abbrev pub suits : Known → Change → Option ℕ → ℕ → ℕ → Note → Bool
+suits known change step slot most note = note.old == slot && (nat_le note.extras most && is_given known change step note)
+
+unfoldable pub arrives : Notes → Known → Change → Option ℕ → ℕ → ℕ → ℕ → Bool
+arrives notes known change step slot most new_slot = option_map_or (suits known change step slot most) (note_at notes new_slot) false
 
 -- ---- an old instruction, and the one that stands for it
 
@@ -51,78 +92,88 @@ abbrev pub led : ℕ → Insn → Option ℕ
 led slot i = distance i >>= target slot
 
 -- the next one stands behind it, if it may follow
-abbrev pub falls : Notes → Facts → Change → ℕ → ℕ → Insn → Insn → Bool
-falls notes facts change slot new_slot i moved = if goes_on i then arrives notes facts change (slot + slot_count i) most_extras (new_slot + slot_count moved) else true
+abbrev pub falls : Notes → Known → Change → ℕ → ℕ → Insn → Insn → Bool
+falls notes known change slot new_slot i moved = if goes_on i then arrives notes known change (Some slot) (slot + slot_count i) most_extras (new_slot + slot_count moved) else true
 
 -- where the old one leads, the new one leads
-abbrev pub leads_to : Notes → Facts → Change → ℕ → Insn → ℕ → Bool
-leads_to notes facts change new_slot moved to = option_map_or (arrives notes facts change to most_extras) (led new_slot moved) false
+abbrev pub leads_to : Notes → Known → Change → ℕ → ℕ → Insn → ℕ → Bool
+leads_to notes known change slot new_slot moved to = option_map_or (arrives notes known change (Some slot) to most_extras) (led new_slot moved) false
 
-abbrev pub leads : Notes → Facts → Change → ℕ → ℕ → Insn → Insn → Bool
-leads notes facts change slot new_slot i moved = option_map_or (leads_to notes facts change new_slot moved) (led slot i) true
+abbrev pub leads : Notes → Known → Change → ℕ → ℕ → Insn → Insn → Bool
+leads notes known change slot new_slot i moved = option_map_or (leads_to notes known change slot new_slot moved) (led slot i) true
 
-abbrev pub goes : Notes → Facts → ℕ → ℕ → Insn → Insn → Change → Bool
-goes notes facts slot new_slot i moved change = falls notes facts change slot new_slot i moved && leads notes facts change slot new_slot i moved
+abbrev pub goes : Notes → Known → ℕ → ℕ → Insn → Insn → Change → Bool
+goes notes known slot new_slot i moved change = falls notes known change slot new_slot i moved && leads notes known change slot new_slot i moved
 
-unfoldable pub stands : Notes → Facts → Bool → ℕ → ℕ → Insn → Insn → Bool
-stands notes facts same slot new_slot i moved = option_map_or (goes notes facts slot new_slot i moved) (paired facts same i moved) false
+unfoldable pub stands : Notes → Known → Bool → ℕ → ℕ → Insn → Insn → Bool
+stands notes known same slot new_slot i moved = option_map_or (goes notes known slot new_slot i moved) (paired known same i moved) false
 
 -- ---- an extra instruction
 
-abbrev pub makes : Insn → Option Change
-makes moved = put_into moved >>= λ r. if is_frame_pointer r then None else Some (Made r moved)
+-- what the new program alone puts into a register, or by r10 into a slot of the frame
+abbrev pub made_in : Insn → Option Holder
+made_in (Store size dst off src) = option_map Slot (slot_at size dst off)
+made_in (StoreImm size dst off imm) = option_map Slot (slot_at size dst off)
+made_in moved = put_into moved >>= λ r. if is_frame_pointer r then None else Some (Register r)
 
-unfoldable pub extra : Front → Facts → Insn → Option Change
-extra front facts moved = if passes front facts moved then Some Kept else makes moved
+abbrev pub makes : Insn → Option Change
+makes moved = option_map (λ h. Made h moved) (made_in moved)
+
+-- a guard or the test of a counter that passes, or what is made
+unfoldable pub extra : Front → Known → Insn → Option Change
+extra front known moved = if passes front known.facts moved || has_turn known.counters front.slot moved then Some Kept else makes moved
 
 -- the next one has fewer extra ones in front
-unfoldable pub adds : Notes → Front → Facts → ℕ → ℕ → Insn → Bool
-adds notes front facts left new_slot moved = option_map_or (λ change. arrives notes facts change front.slot left (new_slot + slot_count moved)) (extra front facts moved) false
+unfoldable pub adds : Notes → Front → Known → ℕ → ℕ → Insn → Bool
+adds notes front known left new_slot moved = option_map_or (λ change. arrives notes known change None front.slot left (new_slot + slot_count moved)) (extra front known moved) false
 
 -- ---- what is noted of a new slot
 
-pub record IsBody (old new : Instructions) (notes : Notes) (slot : ℕ) (note : Note) : Type 0 where
+pub record IsBody (old new : Instructions) (notes : Notes) (bounds : Bounds) (slot : ℕ) (note : Note) : Type 0 where
   pub insn : Insn
   pub insn_is : insn_at old.list note.old ≡ Some insn
   pub moved : Insn
   pub moved_is : insn_at new.list slot ≡ Some moved
   pub same : Bool
   pub same_is : IsTrue same ↔ (undirected moved ≡ undirected insn)
-  pub good : stands notes note.facts same note.old slot insn moved ≡ true
+  pub good : stands notes (known_at new bounds note) same note.old slot insn moved ≡ true
 
-pub record IsExtra (old new : Instructions) (notes : Notes) (length slot : ℕ) (note : Note) (left : ℕ) : Type 0 where
+pub record IsExtra (old new : Instructions) (notes : Notes) (bounds : Bounds) (slot : ℕ) (note : Note) (left : ℕ) : Type 0 where
   pub moved : Insn
   pub moved_is : insn_at new.list slot ≡ Some moved
-  pub good : adds notes (record { old = old; slot = note.old; length = length }) note.facts left slot moved ≡ true
+  pub good : adds notes (record { old = old; slot = note.old; length = bounds.length }) (known_at new bounds note) left slot moved ≡ true
 
 -- by how many extra instructions stand from here on
-abbrev pub IsEither : Instructions → Instructions → Notes → ℕ → ℕ → Note → ℕ → Type 0
-IsEither old new notes length slot note zero = IsBody old new notes slot note
-IsEither old new notes length slot note (suc left) = IsExtra old new notes length slot note left
+abbrev pub IsEither : Instructions → Instructions → Notes → Bounds → ℕ → Note → ℕ → Type 0
+IsEither old new notes bounds slot note zero = IsBody old new notes bounds slot note
+IsEither old new notes bounds slot note (suc left) = IsExtra old new notes bounds slot note left
 
 -- what is noted of a slot holds there
-abbrev pub HoldsAt : Instructions → Instructions → Notes → ℕ → ℕ → Type 0
-HoldsAt old new notes length slot = (note : Note) → note_at notes slot ≡ Some note → IsEither old new notes length slot note note.extras
+abbrev pub HoldsAt : Instructions → Instructions → Notes → Bounds → ℕ → Type 0
+HoldsAt old new notes bounds slot = (note : Note) → note_at notes slot ≡ Some note → IsEither old new notes bounds slot note note.extras
 
 -- ---- the start
 
--- r1 is where the context begins, and all is the same in both
-abbrev pub by_itself : Reg → Fact
-by_itself r = record { of = Some r; base = Some r; by = Some zero_term }
-
+-- r1 is where the context begins, all is the same in both, and the frame is 0
 abbrev pub start_facts : Facts
 start_facts =
-    record { of = Some R1; base = None; by = Some context_offset } ∷ record { of = None; base = Some R1; by = Some context_offset }
-    ∷ by_itself R0 ∷ by_itself R1 ∷ by_itself R2 ∷ by_itself R3 ∷ by_itself R4 ∷ by_itself R5 ∷ by_itself R6 ∷ by_itself R7 ∷ by_itself R8 ∷ by_itself R9 ∷ by_itself R10 ∷ []
+    record { of = Some (Register R1); base = None; by = Some context_offset } ∷ record { of = None; base = Some (Register R1); by = Some context_offset }
+    ∷ by_itself (Register R0) ∷ by_itself (Register R1) ∷ by_itself (Register R2) ∷ by_itself (Register R3) ∷ by_itself (Register R4) ∷ by_itself (Register R5)
+    ∷ by_itself (Register R6) ∷ by_itself (Register R7) ∷ by_itself (Register R8) ∷ by_itself (Register R9) ∷ by_itself (Register R10)
+    ∷ slot_facts is_zero_slot (λ n. true) frame_slots ++ slot_facts same_slot (λ n. true) frame_slots
+
+unfoldable pub known_at_start : Instructions → Bounds → Known
+known_at_start new bounds = record { facts = start_facts; apart = []; counters = []; turns = bounds.turns; left = left_alone new bounds.untouched }
 
 -- ---- the notes match
 
-pub record Matches (old new : Instructions) (notes : Notes) (length : ℕ) : Type 0 where
-  pub short : length < 2 ^ 32
+pub record Matches (old new : Instructions) (notes : Notes) (bounds : Bounds) : Type 0 where
+  pub short : bounds.length < 2 ^ 32
+  pub few_turns : bounds.turns < addresses
   pub order_is : new.order ≡ old.order
   pub few : count notes ≤ slots new.list
-  pub start : arrives notes start_facts Kept 0 most_at_start 0 ≡ true
-  pub each : (slot : ℕ) → HoldsAt old new notes length slot
+  pub start : arrives notes (known_at_start new bounds) Kept None 0 most_at_start 0 ≡ true
+  pub each : (slot : ℕ) → HoldsAt old new notes bounds slot
 
 -- ---- which exits of the new program are named
 

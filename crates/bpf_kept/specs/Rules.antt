@@ -1,5 +1,5 @@
 -- What instructions make of facts. Nothing here speaks of runs.
-use Rattle.std.specs.Prelude.{ℕ, ◌+◌, zero, ◌==◌, ◌%◌, ◌^◌, nat_lt, ℤ, pos, negsuc, Bool, true, false, not, ◌&&◌, ◌||◌, Option, Some, None, is_none, option_map, if◌then◌else◌}
+use Rattle.std.specs.Prelude.{ℕ, ◌+◌, zero, ◌==◌, ◌%◌, ◌^◌, nat_lt, ℤ, pos, negsuc, Bool, true, false, not, ◌&&◌, ◌||◌, List, Option, Some, None, is_none, option_map, if◌then◌else◌}
 use Rattle.std.specs.List.{find, list_all, list_any}
 use Rattle.std.specs.Option.{is_some, option_map_or, option_or}
 use Rattle.std.specs.Ordering.{int_eq}
@@ -23,25 +23,46 @@ use Rattle.bpf_insn.specs.declared.instruction.Insn.{Insn}
 use Rattle.bpf_insn.specs.declared.instruction.Insn.TheVariants.{Alu, Neg, MovSx, End, LoadImm64, Load, LoadSx, Store, StoreImm, Ja, JaLong, JumpIf, CallLocal, Exit}
 use Rattle.bpf_semantics.specs.Flat.{addresses}
 use Rattle.bpf_kept.specs.Far.{middle}
+use Rattle.bpf_kept.specs.declared.notes.Holder.{Holder}
+use Rattle.bpf_kept.specs.declared.notes.Holder.TheVariants.{Register, Slot}
 use Rattle.bpf_kept.specs.declared.notes.Term.{Term}
 use Rattle.bpf_kept.specs.declared.notes.Fact.{Fact}
+use Rattle.bpf_kept.specs.declared.notes.TurnsLeft.{TurnsLeft}
 use Rattle.bpf_kept.specs.declared.notes.Change.{Change}
-use Rattle.bpf_kept.specs.declared.notes.Change.TheVariants.{Kept, Put, Made}
-use Rattle.bpf_kept.specs.Terms.{Facts, constant, zero_term, frame_offset, frame_end, plus, minus, negated, times}
+use Rattle.bpf_kept.specs.declared.notes.Change.TheVariants.{Kept, Put, Stored, Made}
+use Rattle.bpf_kept.specs.Terms.{Facts, is_noted, frame_slots, constant, zero_term, frame_offset, frame_end, plus, minus, negated, times}
+use Rattle.bpf_kept.specs.Slots.{each_slot, slot_at, misses, reaches, is_clear}
+
+-- What is known in front of an instruction: facts; which slots of the frame may differ; what counts turns, where the old program may come to an
+-- instruction so often; and how many of the frame's lowest bytes no access by another register than r10 goes to.
+pub record Known : Type 0 where
+  pub facts : Facts
+  pub apart : List Bool
+  pub counters : List (Option TurnsLeft)
+  pub turns : ℕ
+  pub left : ℕ
 
 -- ---- which facts give which
 
 abbrev pub same_register : Reg → Reg → Bool
 same_register a b = register_number a == register_number b
 
-abbrev pub is_register : Reg → Option Reg → Bool
-is_register r None = false
-is_register r (Some of) = same_register of r
+abbrev pub same_holder : Holder → Holder → Bool
+same_holder (Register a) (Register b) = same_register a b
+same_holder (Slot m) (Slot n) = m == n
+same_holder a b = false
 
--- both are one register, or both 0
-abbrev pub is_base : Option Reg → Option Reg → Bool
+abbrev pub is_holder : Holder → Option Holder → Bool
+is_holder h None = false
+is_holder h (Some of) = same_holder of h
+
+abbrev pub is_register : Reg → Option Holder → Bool
+is_register r of = is_holder (Register r) of
+
+-- both are one register or slot, or both 0
+abbrev pub is_base : Option Holder → Option Holder → Bool
 is_base None other = is_none other
-is_base (Some r) other = is_register r other
+is_base (Some h) other = is_holder h other
 
 abbrev pub same_term : Term → Term → Bool
 same_term a b = a.frames == b.frames && a.moved == b.moved
@@ -59,13 +80,16 @@ is_enough None want = is_none want
 abbrev pub gives : Fact → Fact → Bool
 gives have want = is_base have.of want.of && (is_base have.base want.base && is_enough have.by want.by)
 
--- ---- what a register of the new program has, by the same register of the old one
+-- ---- what a register or slot of the new program has, by the same one of the old one
 
-abbrev pub is_own : Reg → Fact → Bool
-is_own r fact = is_register r fact.of && (is_register r fact.base && is_some fact.by)
+abbrev pub is_own : Holder → Fact → Bool
+is_own h fact = is_holder h fact.of && (is_holder h fact.base && is_some fact.by)
 
-unfoldable pub own : Facts → Reg → Option Term
-own facts r = find (is_own r) facts >>= λ fact. fact.by
+unfoldable pub own_in : Facts → Holder → Option Term
+own_in facts h = find (is_own h) facts >>= λ fact. fact.by
+
+abbrev pub own : Facts → Reg → Option Term
+own facts r = own_in facts (Register r)
 
 -- the same
 abbrev pub is_zero : Term → Bool
@@ -80,6 +104,10 @@ is_low_fact r fact = is_register r fact.of && (is_register r fact.base && is_eno
 
 abbrev pub is_low : Facts → Reg → Bool
 is_low facts r = list_any (is_low_fact r) facts
+
+-- It goes to no slot in which the programs may have something else. There the new one may count down, and what is read twice would differ.
+unfoldable pub is_common : Known → ℕ → Reg → ℤ → Reg → ℤ → Bool
+is_common known count src off base at = each_slot (λ n. not (is_noted known.apart n) || misses known.left count src off base at n) frame_slots
 
 -- ---- an instruction that puts a number into a register, and does nothing else
 
@@ -120,6 +148,7 @@ by_terms facts (Alu Lsh W64 dst (Imm imm)) = by_constant facts Lsh dst imm
 by_terms facts (Alu Xor W64 dst (Imm imm)) = by_constant facts Xor dst imm
 by_terms facts (Alu op W64 dst src) = computed facts op dst src
 by_terms facts (Neg W64 dst) = option_map negated (own facts dst)
+by_terms facts (Load size dst src off) = slot_at size src off >>= λ n. own_in facts (Slot n)
 by_terms facts i = None
 
 -- a mask of 32 bits
@@ -142,8 +171,14 @@ reads_low i = false
 unfoldable pub reads_same : Facts → Insn → Bool
 reads_same facts i = list_all (is_same facts) (registers_read i) || (reads_low i && list_all (is_low facts) (registers_read i))
 
-unfoldable pub result_term : Facts → Insn → Option Term
-result_term facts i = option_or (by_terms facts i) (if reads_same facts i then Some zero_term else None)
+-- the bytes that it loads are the same
+abbrev pub loads_common : Known → Insn → Bool
+loads_common known (Load size dst src off) = is_common known (byte_count size) src off src off
+loads_common known (LoadSx size dst src off) = is_common known (byte_count size) src off src off
+loads_common known i = true
+
+unfoldable pub result_term : Known → Insn → Option Term
+result_term known i = option_or (by_terms known.facts i) (if reads_same known.facts i && loads_common known i then Some zero_term else None)
 
 -- 64-bit operations whose low halves depend on low halves alone
 abbrev pub keeps_low : AluOp → Bool
@@ -161,6 +196,22 @@ abbrev pub has_low_result : Facts → Insn → Bool
 has_low_result facts (Alu op W64 dst src) = keeps_low op && list_all (is_low facts) (registers_read (Alu op W64 dst src))
 has_low_result facts i = false
 
+-- ---- numbers by themselves
+
+-- What the old program has in a register or slot is one number: with a term it is 0. An index that isn't known has no such term.
+abbrev pub is_pin : Holder → Fact → Bool
+is_pin h fact = is_none fact.of && (is_holder h fact.base && is_some fact.by)
+
+unfoldable pub pinned : Facts → Holder → Option Term
+pinned facts h = find (is_pin h) facts >>= λ fact. fact.by
+
+-- and what the new program has is one number: with a term, by 0
+abbrev pub is_number : Holder → Fact → Bool
+is_number h fact = is_holder h fact.of && (is_none fact.base && is_some fact.by)
+
+unfoldable pub numbered : Facts → Holder → Option Term
+numbered facts h = find (is_number h) facts >>= λ fact. fact.by
+
 -- ---- loads and stores by another register
 
 -- it has what the old one's base has, but for a constant that the displacement makes good
@@ -170,19 +221,33 @@ is_address base at src off fact = is_register base fact.of && (is_register src f
 abbrev pub same_size : Size → Size → Bool
 same_size a b = byte_count a == byte_count b
 
-unfoldable pub same_address : Facts → Reg → ℤ → Reg → ℤ → Bool
-same_address facts base at src off = list_any (is_address base at src off) facts
+-- both are one number, and so is the address. An index that is in the old register makes it another one.
+abbrev pub is_folded : ℤ → ℤ → Option Term → Option Term → Bool
+is_folded at off (Some u) (Some t) = (u.frames + t.frames) % addresses == 0 && ((u.moved + t.moved) + extended at) % addresses == extended off
+is_folded at off u t = false
 
-abbrev pub loads_alike : Facts → Insn → Insn → Bool
-loads_alike facts (Load size dst src off) (Load other into base at) = same_size size other && (same_register dst into && same_address facts base at src off)
-loads_alike facts (LoadSx size dst src off) (LoadSx other into base at) = same_size size other && (same_register dst into && same_address facts base at src off)
-loads_alike facts i moved = false
+unfoldable pub same_address : Facts → Reg → ℤ → Reg → ℤ → Bool
+same_address facts base at src off = list_any (is_address base at src off) facts || is_folded at off (numbered facts (Register base)) (pinned facts (Register src))
+
+abbrev pub goes_alike : Known → ℕ → Reg → ℤ → Reg → ℤ → Bool
+goes_alike known count src off base at = same_address known.facts base at src off && is_common known count src off base at
+
+abbrev pub loads_alike : Known → Insn → Insn → Bool
+loads_alike known (Load size dst src off) (Load other into base at) = same_size size other && (same_register dst into && goes_alike known (byte_count size) src off base at)
+loads_alike known (LoadSx size dst src off) (LoadSx other into base at) = same_size size other && (same_register dst into && goes_alike known (byte_count size) src off base at)
+loads_alike known i moved = false
 
 -- what is stored is the same
 abbrev pub stores_alike : Facts → Insn → Insn → Bool
 stores_alike facts (Store size dst off src) (Store other base at from) = same_size size other && (same_register src from && (is_same facts src && same_address facts base at dst off))
 stores_alike facts (StoreImm size dst off imm) (StoreImm other base at value) = same_size size other && (int_eq imm value && same_address facts base at dst off)
 stores_alike facts i moved = false
+
+-- to which bytes of the own frame it may go
+abbrev pub reached : ℕ → Insn → Insn → Option Change
+reached left (Store size dst off src) (Store other base at from) = reaches left (byte_count size) dst off base at
+reached left (StoreImm size dst off imm) (StoreImm other base at value) = reaches left (byte_count size) dst off base at
+reached left i moved = None
 
 -- the end of the own frame is moved to a register, and the new instruction puts its offset there
 abbrev pub is_framed : Insn → Insn → Bool
@@ -245,34 +310,57 @@ is_kept facts (JumpIf cond width dst src off) = reads_same facts (JumpIf cond wi
 is_kept facts Exit = is_same facts R0
 is_kept facts i = false
 
--- neither changes a register, and both do the same
+-- neither changes a register or the memory, and both do the same
 unfoldable pub keeps : Facts → Bool → Insn → Insn → Bool
-keeps facts same i moved = (is_jump i && is_jump moved) || ((same && is_kept facts i) || (by_order facts i moved || stores_alike facts i moved))
+keeps facts same i moved = (is_jump i && is_jump moved) || ((same && is_kept facts i) || by_order facts i moved)
 
 -- by what the new result differs from the old one: the same instruction; a load by another register; an offset into the frame
 abbrev pub low_result : Facts → Insn → Option (Option Term)
 low_result facts i = if has_low_result facts i then Some None else None
 
-abbrev pub put_by : Facts → Bool → Insn → Insn → Option (Option Term)
-put_by facts true i moved = option_or (option_map Some (result_term facts i)) (low_result facts i)
-put_by facts false i moved = if loads_alike facts i moved then Some (Some zero_term) else if is_framed i moved then Some (Some frame_offset) else None
+abbrev pub put_by : Known → Bool → Insn → Insn → Option (Option Term)
+put_by known true i moved = option_or (option_map Some (result_term known i)) (low_result known.facts i)
+put_by known false i moved = if loads_alike known i moved then Some (Some zero_term) else if is_framed i moved then Some (Some frame_offset) else None
 
-abbrev pub put : Reg → Option Term → Change
-put r by = Put (record { of = Some r; base = Some r; by = by })
+-- and so is what it puts or stores
+abbrev pub pin_of : Facts → Insn → Option Term
+pin_of facts (Alu Mov W64 dst (Imm imm)) = Some (negated (constant (extended imm)))
+pin_of facts (Alu Mov W64 dst (FromReg src)) = pinned facts (Register src)
+pin_of facts (Alu Add W64 dst (Imm imm)) = option_map (λ t. minus t (constant (extended imm))) (pinned facts (Register dst))
+pin_of facts (LoadImm64 dst value) = Some (negated (constant value))
+pin_of facts (Load size dst src off) = slot_at size src off >>= λ n. pinned facts (Slot n)
+pin_of facts (Store size dst off src) = pinned facts (Register src)
+pin_of facts (StoreImm size dst off imm) = Some (negated (constant (extended imm)))
+pin_of facts i = None
 
-abbrev pub puts : Facts → Bool → Insn → Insn → Option Change
-puts facts same i moved = put_into i >>= λ r. if is_frame_pointer r then None else option_map (put r) (put_by facts same i moved)
+abbrev pub put : Holder → Option Term → Option Term → Change
+put h pin by = Put (record { of = Some h; base = Some h; by = by }) pin
+
+abbrev pub puts : Known → Bool → Insn → Insn → Option Change
+puts known same i moved = put_into i >>= λ r. if is_frame_pointer r then None else option_map (put (Register r) (pin_of known.facts i)) (put_by known same i moved)
+
+-- both store eight bytes to one slot of the frame by r10: by what the stored numbers differ
+abbrev pub stored_by : Facts → Reg → Option (Option Term)
+stored_by facts src = option_or (option_map Some (own facts src)) (if is_low facts src then Some None else None)
+
+abbrev pub puts_slot : Facts → Insn → Option Change
+puts_slot facts (Store size dst off src) = slot_at size dst off >>= λ n. option_map (put (Slot n) (pin_of facts (Store size dst off src))) (stored_by facts src)
+puts_slot facts (StoreImm size dst off imm) = option_map (λ n. put (Slot n) (pin_of facts (StoreImm size dst off imm)) (Some zero_term)) (slot_at size dst off)
+puts_slot facts i = None
+
+abbrev pub stores : Known → Bool → Insn → Insn → Option Change
+stores known same i moved = option_or (if same then puts_slot known.facts i else None) (if stores_alike known.facts i moved then reached known.left i moved else None)
 
 -- what both change, where the one stands for the other; `same` says whether they are the same but for where they lead
-unfoldable pub paired : Facts → Bool → Insn → Insn → Option Change
-paired facts same i moved = if keeps facts same i moved then Some Kept else puts facts same i moved
+unfoldable pub paired : Known → Bool → Insn → Insn → Option Change
+paired known same i moved = if keeps known.facts same i moved then Some Kept else option_or (stores known same i moved) (puts known same i moved)
 
 -- ---- extra instructions, while the old program stands still
 
-abbrev pub sum_base : Option Reg → Option Reg → Option Reg → Bool
+abbrev pub sum_base : Option Holder → Option Holder → Option Holder → Bool
 sum_base a b want = (is_none a && is_base b want) || (is_none b && is_base a want)
 
-abbrev pub difference_base : Option Reg → Option Reg → Option Reg → Bool
+abbrev pub difference_base : Option Holder → Option Holder → Option Holder → Bool
 difference_base a b want = (is_none b && is_base a want) || (is_base a b && is_none want)
 
 abbrev pub both : (Term → Term → Term) → Option Term → Option Term → Option Term
@@ -298,12 +386,12 @@ made_by facts Sub dst want b = list_any (is_difference dst b want) facts
 made_by facts op dst want b = false
 
 -- the operand by itself: a constant, or the frame's end
-abbrev pub known_number : Option Reg → Term → Fact
+abbrev pub known_number : Option Holder → Term → Fact
 known_number of t = record { of = of; base = None; by = Some t }
 
 abbrev pub known_operand : Operand → Option Fact
 known_operand (Imm imm) = Some (known_number None (constant (extended imm)))
-known_operand (FromReg r) = if is_frame_pointer r then Some (known_number (Some r) frame_end) else None
+known_operand (FromReg r) = if is_frame_pointer r then Some (known_number (Some (Register r)) frame_end) else None
 
 -- what is known of the operand: of a register, or of 0 and so of each constant
 abbrev pub of_number : ℕ → Fact → Option Fact
@@ -316,29 +404,67 @@ of_operand (FromReg r) fact = if is_register r fact.of then Some fact else None
 abbrev pub by_operand : Facts → AluOp → Reg → Operand → Fact → Fact → Bool
 by_operand facts op dst src want fact = option_map_or (made_by facts op dst want) (of_operand src fact) false
 
+abbrev pub made_from : Facts → AluOp → Reg → Operand → Fact → Bool
+made_from facts op dst src want = option_map_or (made_by facts op dst want) (known_operand src) false || list_any (by_operand facts op dst src want) facts
+
+-- what is in a slot
+abbrev pub of_slot : ℕ → Fact → Fact → Bool
+of_slot n want fact = is_holder (Slot n) fact.of && is_moved fact want
+
 unfoldable pub made : Facts → Insn → Fact → Bool
-made facts (Alu op W64 dst src) want = option_map_or (made_by facts op dst want) (known_operand src) false || list_any (by_operand facts op dst src want) facts
+made facts (Alu op W64 dst src) want = made_from facts op dst src want
 made facts (LoadImm64 dst value) want = is_moved (known_number None (constant value)) want || list_any (λ fact. option_map_or (λ b. is_moved b want) (of_number value fact) false) facts
+made facts (Load size dst src off) want = option_map_or (λ n. list_any (of_slot n want) facts) (slot_at size src off) false
+made facts (Store size dst off src) want = made_from facts Mov src (FromReg src) want
+made facts (StoreImm size dst off imm) want = made_from facts Mov R0 (Imm imm) want
 made facts i want = false
 
 -- ---- what holds behind a change
 
--- it is of neither program's register
-abbrev pub stays : Reg → Fact → Bool
-stays r fact = not (is_register r fact.of) && not (is_register r fact.base)
+-- it is of neither program's register or slot
+abbrev pub stays : Holder → Fact → Bool
+stays h fact = not (is_holder h fact.of) && not (is_holder h fact.base)
 
 -- what is put, and what is left of the rest
-abbrev pub put_gives : Facts → Fact → Fact → Bool
-put_gives facts fact want = gives fact want || option_map_or (λ r. list_any (λ have. stays r have && gives have want) facts) fact.of false
+abbrev pub pins : Option Holder → Fact → Term → Bool
+pins h want t = gives (record { of = None; base = h; by = Some t }) want
 
-abbrev pub made_gives : Facts → Reg → Insn → Fact → Bool
-made_gives facts r i want = (is_register r want.of && made facts i want) || list_any (λ have. not (is_register r have.of) && gives have want) facts
+abbrev pub put_gives : Facts → Fact → Option Term → Fact → Bool
+put_gives facts fact pin want =
+    gives fact want || (option_map_or (pins fact.of want) pin false || option_map_or (λ h. list_any (λ have. stays h have && gives have want) facts) fact.of false)
+
+abbrev pub made_gives : Facts → Holder → Insn → Fact → Bool
+made_gives facts h i want = (is_holder h want.of && made facts i want) || list_any (λ have. not (is_holder h have.of) && gives have want) facts
+
+abbrev pub outlives : ℕ → ℕ → Fact → Bool
+outlives from to fact = is_clear from to fact.of && is_clear from to fact.base
+
+abbrev pub stored_gives : Facts → ℕ → ℕ → Fact → Bool
+stored_gives facts from to want = list_any (λ have. outlives from to have && gives have want) facts
 
 abbrev pub change_gives : Facts → Change → Fact → Bool
 change_gives facts Kept want = list_any (λ have. gives have want) facts
-change_gives facts (Put fact) want = put_gives facts fact want
-change_gives facts (Made r i) want = made_gives facts r i want
+change_gives facts (Put fact pin) want = put_gives facts fact pin want
+change_gives facts (Stored from to) want = stored_gives facts from to want
+change_gives facts (Made h i) want = made_gives facts h i want
 
 -- that 0 is 0 holds always
 unfoldable pub holds_behind : Facts → Change → Fact → Bool
 holds_behind facts change want = gives (known_number None zero_term) want || change_gives facts change want
+
+-- a register or slot has the same in both
+abbrev pub by_itself : Holder → Fact
+by_itself h = record { of = Some h; base = Some h; by = Some zero_term }
+
+-- a slot in which the programs may have something else behind a change: it was one, or it is written
+abbrev pub is_parted : List Bool → Change → ℕ → Bool
+is_parted apart (Put fact pin) n = is_holder (Slot n) fact.of || is_noted apart n
+is_parted apart (Made h i) n = same_holder (Slot n) h || is_noted apart n
+is_parted apart change n = is_noted apart n
+
+-- Each slot that isn't noted as one has the same. Else the old program would read a counter as its own number.
+abbrev pub is_told : Known → Change → List Bool → ℕ → Bool
+is_told known change apart n = not (is_parted known.apart change n) || (is_noted apart n || holds_behind known.facts change (by_itself (Slot n)))
+
+unfoldable pub are_told : Known → Change → List Bool → Bool
+are_told known change apart = each_slot (is_told known change apart) frame_slots

@@ -1,12 +1,13 @@
 -- Terms: how far what the new program has is from what the old one has.
-use Rattle.std.specs.Prelude.{◌≡◌, ℕ, ◌+◌, ◌-◌, ◌*◌, ◌%◌, ◌^◌, ℤ, pos, ◌+ℤ◌, ◌-ℤ◌, List, get_or, Option, Some, None}
+use Rattle.std.specs.Prelude.{◌≡◌, ℕ, ◌+◌, ◌-◌, ◌*◌, ◌%◌, ◌^◌, ◌<◌, nat_lt, ℤ, pos, ◌+ℤ◌, ◌-ℤ◌, Bool, true, false, List, get_or, Option, Some, None, if◌then◌else◌}
 use Rattle.std.specs.List.{AllByRecursion}
 use Rattle.bpf_insn.specs.Arithmetic.{modulo}
-use Rattle.bpf_insn.specs.Instruction.{register_number}
 use Rattle.bpf_insn.specs.Limits.{frame_bytes}
-use Rattle.bpf_insn.specs.declared.instruction.Reg.{Reg}
-use Rattle.bpf_semantics.specs.Flat.{FlatState, addresses}
+use Rattle.bpf_insn.specs.declared.order.Order.{Order}
+use Rattle.bpf_semantics.specs.Flat.{FlatState, IsAmong, addresses, flat_register, flat_number}
 use Rattle.bpf_kept.specs.Far.{middle}
+use Rattle.bpf_kept.specs.declared.notes.Holder.{Holder}
+use Rattle.bpf_kept.specs.declared.notes.Holder.TheVariants.{Register, Slot}
 use Rattle.bpf_kept.specs.declared.notes.Term.{Term}
 use Rattle.bpf_kept.specs.declared.notes.Fact.{Fact}
 
@@ -16,10 +17,19 @@ Facts = List Fact
 
 -- ---- what they mean, where the function's own frame begins at an address
 
--- what a register holds, or 0
-abbrev pub value_in : List ℕ → Option Reg → ℕ
-value_in registers None = 0
-value_in registers (Some r) = get_or registers (register_number r) 0
+-- a frame has so many slots, of eight bytes each
+abbrev pub frame_slots : ℕ
+frame_slots = 64
+
+-- the number in a slot; there is none behind the frame
+abbrev pub slot_number : Order → ℕ → FlatState → ℕ → ℕ
+slot_number order own f n = if nat_lt n frame_slots then flat_number order f 8 (own + 8 * n) else 0
+
+-- what a register or a slot holds, or 0
+abbrev pub value_in : Order → ℕ → FlatState → Option Holder → ℕ
+value_in order own f None = 0
+value_in order own f (Some (Register r)) = flat_register f r
+value_in order own f (Some (Slot n)) = slot_number order own f n
 
 -- what is added to the base, modulo 2 ^ 64
 abbrev pub shift : ℕ → Term → ℤ
@@ -37,12 +47,29 @@ abbrev pub DiffersBy : ℕ → Option Term → ℕ → ℕ → Type 0
 DiffersBy own (Some t) x y = Differs own t x y
 DiffersBy own None x y = AreLow x y
 
--- where the old program is in state f, and the new one has these registers
-abbrev pub Holds : ℕ → FlatState → List ℕ → Fact → Type 0
-Holds own f registers fact = DiffersBy own fact.by (value_in f.registers fact.base) (value_in registers fact.of)
+-- where all that may hold something holds this in the old program, and that in the new one
+abbrev pub Values : Type 0
+Values = Option Holder → ℕ
 
-abbrev pub AllHold : ℕ → FlatState → Facts → List ℕ → Type 0
-AllHold own f facts registers = AllByRecursion (Holds own f registers) facts
+abbrev pub Holds : ℕ → Values → Values → Fact → Type 0
+Holds own old new fact = DiffersBy own fact.by (old fact.base) (new fact.of)
+
+abbrev pub AllHold : ℕ → Values → Values → Facts → Type 0
+AllHold own old new facts = AllByRecursion (Holds own old new) facts
+
+-- ---- the memory
+
+-- whether it is noted of a slot
+abbrev pub is_noted : List Bool → ℕ → Bool
+is_noted noted n = get_or noted n false
+
+-- the byte at an address lies in a slot in which the programs may have something else
+abbrev pub IsApart : ℕ → List Bool → ℕ → Type 0
+IsApart own apart a = (n : ℕ) × (n < frame_slots) × (is_noted apart n ≡ true) × IsAmong (own + 8 * n) 8 a
+
+-- each other byte is the same
+abbrev pub IsCommon : ℕ → List Bool → FlatState → FlatState → Type 0
+IsCommon own apart f g = (a : ℕ) → a < addresses → (IsApart own apart a → ⊥) → g.memory a ≡ f.memory a
 
 -- ---- arithmetic on terms
 

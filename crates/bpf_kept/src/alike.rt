@@ -1,165 +1,16 @@
 //! An instruction of the old program, and one that stands for it in the new one.
 
-ghost use Rattle.std.specs.Prelude.{◌≡◌, ◌↔◌, ◌==◌, ◌&&◌, ◌+◌, ◌%◌, IsTrue};
-ghost use Rattle.bpf_insn.specs.Arithmetic.{extended};
-ghost use Rattle.bpf_semantics.specs.Flat.{addresses};
-ghost use Rattle.bpf_kept.specs.Rules.{is_address, same_size, same_address, loads_alike, stores_alike, is_framed, turned_test, same_term, are_offsets, are, by_equality, by_order, undirected, is_jump, is_kept, keeps, put_by, put, puts, paired};
+ghost use Rattle.std.specs.Prelude.{◌≡◌, ◌↔◌, IsTrue};
+ghost use Rattle.bpf_kept.specs.Rules.{is_framed, turned_test, same_term, are_offsets, are, by_equality, by_order, undirected, is_jump, is_kept, keeps, put_by, puts, paired};
+ghost use Rattle.bpf_kept.specs.Knowns.{known_of};
 
-use crate::facts::{is_register, is_same, own, same_register};
-use crate::notes::{Change, Fact, Term};
+use crate::accesses::{loads_alike, pin_of, put, stores};
+use crate::facts::{is_same, own, same_register};
+use crate::known::KnownHere;
+use crate::notes::{Change, Fact, Holder, Term};
 use crate::results::{low_result, put_into, reads_same, result_term};
 use crate::terms::{are_offsets, frame_offset, same_term, zero};
-use bpf_insn::{AluOp, Cond, FRAME_BYTES, Insn, Operand, Reg, Size, Width, extended};
-
-// ---- loads and stores by another register
-
-/// By which register an access goes, and how far away.
-#[derive(Clone, Copy)]
-struct Displaced {
-    base: Reg,
-    off: i16,
-}
-
-/// Whether a constant more is made good by displacements.
-fn is_made_good(t: Term, at: i16, off: i16) -> bool
-    ensures { result ≡ (t.frames == 0 && (t.moved + extended at) % addresses == extended off) }
-{
-    t.frames == 0 && t.moved.wrapping_add(extended(i32::from(at))) == extended(i32::from(off))
-}
-
-/// Whether a fact says that an address of the new program is one of the old one.
-fn is_address(new: Displaced, old: Displaced, fact: Fact) -> bool
-    ensures { result ≡ is_address new.base new.off old.base old.off fact }
-{
-    is_register(new.base, fact.of)
-        && is_register(old.base, fact.base)
-        && match fact.by {
-            Some(t) => is_made_good(t, new.off, old.off),
-            None => false,
-        }
-}
-
-/// Whether the addresses are the same.
-#[tactic(auto, unfolding(crate::specs::Rules::same_address))]
-fn same_address(facts: &[Fact], new: Displaced, old: Displaced) -> bool
-    ensures { result ≡ same_address facts.now new.base new.off old.base old.off }
-{
-    facts.iter().any(|fact| is_address(new, old, *fact))
-}
-
-/// Whether two sizes are the same.
-fn same_size(a: Size, b: Size) -> bool
-    ensures { result ≡ same_size a b }
-{
-    a.bytes() == b.bytes()
-}
-
-/// Whether one instruction loads what the other does, into the same register.
-fn loads_alike(facts: &[Fact], insn: &Insn, moved: &Insn) -> bool
-    ensures { result ≡ loads_alike facts.now insn.now moved.now }
-{
-    match (*insn, *moved) {
-        (
-            Insn::Load {
-                size,
-                dst,
-                src,
-                off,
-            },
-            Insn::Load {
-                size: other,
-                dst: into,
-                src: base,
-                off: at,
-            },
-        ) => {
-            same_size(size, other)
-                && same_register(dst, into)
-                && same_address(
-                    facts,
-                    Displaced { base, off: at },
-                    Displaced { base: src, off },
-                )
-        }
-        (
-            Insn::LoadSx {
-                size,
-                dst,
-                src,
-                off,
-            },
-            Insn::LoadSx {
-                size: other,
-                dst: into,
-                src: base,
-                off: at,
-            },
-        ) => {
-            same_size(size, other)
-                && same_register(dst, into)
-                && same_address(
-                    facts,
-                    Displaced { base, off: at },
-                    Displaced { base: src, off },
-                )
-        }
-        _ => false,
-    }
-}
-
-/// Whether one instruction stores what the other does, at the same address.
-fn stores_alike(facts: &[Fact], insn: &Insn, moved: &Insn) -> bool
-    ensures { result ≡ stores_alike facts.now insn.now moved.now }
-{
-    match (*insn, *moved) {
-        (
-            Insn::Store {
-                size,
-                dst,
-                off,
-                src,
-            },
-            Insn::Store {
-                size: other,
-                dst: base,
-                off: at,
-                src: from,
-            },
-        ) => {
-            same_size(size, other)
-                && same_register(src, from)
-                && is_same(facts, src)
-                && same_address(
-                    facts,
-                    Displaced { base, off: at },
-                    Displaced { base: dst, off },
-                )
-        }
-        (
-            Insn::StoreImm {
-                size,
-                dst,
-                off,
-                imm,
-            },
-            Insn::StoreImm {
-                size: other,
-                dst: base,
-                off: at,
-                imm: value,
-            },
-        ) => {
-            same_size(size, other)
-                && imm == value
-                && same_address(
-                    facts,
-                    Displaced { base, off: at },
-                    Displaced { base: dst, off },
-                )
-        }
-        _ => false,
-    }
-}
+use bpf_insn::{AluOp, Cond, FRAME_BYTES, Insn, Operand, Reg, Width};
 
 /// Whether one moves the end of the own frame to a register, and the other puts its offset there.
 fn is_framed(insn: &Insn, moved: &Insn) -> bool
@@ -325,7 +176,7 @@ fn is_kept(facts: &[Fact], insn: &Insn) -> bool
     }
 }
 
-/// Whether neither changes a register, and both do the same.
+/// Whether neither changes a register or the memory, and both do the same.
 #[tactic(auto, unfolding(crate::specs::Rules::keeps))]
 fn keeps(facts: &[Fact], same: bool, insn: &Insn, moved: &Insn) -> bool
     ensures { result ≡ keeps facts.now same insn.now moved.now }
@@ -333,19 +184,18 @@ fn keeps(facts: &[Fact], same: bool, insn: &Insn, moved: &Insn) -> bool
     (is_jump(insn) && is_jump(moved))
         || (same && is_kept(facts, insn))
         || by_order(facts, insn, moved)
-        || stores_alike(facts, insn, moved)
 }
 
 /// By what the new result differs from the old one.
-fn put_by(facts: &[Fact], same: bool, insn: &Insn, moved: &Insn) -> Option<Option<Term>>
-    ensures { result ≡ put_by facts.now same insn.now moved.now }
+fn put_by(known: &KnownHere<'_>, same: bool, insn: &Insn, moved: &Insn) -> Option<Option<Term>>
+    ensures { result ≡ put_by (known_of known.now) same insn.now moved.now }
 {
     if same {
-        match result_term(facts, insn) {
+        match result_term(known, insn) {
             Some(t) => Some(Some(t)),
-            None => low_result(facts, insn),
+            None => low_result(known.facts, insn),
         }
-    } else if loads_alike(facts, insn, moved) {
+    } else if loads_alike(known, insn, moved) {
         Some(Some(zero()))
     } else if is_framed(insn, moved) {
         Some(Some(frame_offset()))
@@ -354,39 +204,28 @@ fn put_by(facts: &[Fact], same: bool, insn: &Insn, moved: &Insn) -> Option<Optio
     }
 }
 
-/// That a register differs so from the old program's.
-fn put(r: Reg, by: Option<Term>) -> Change
-    ensures { result ≡ put r by }
-{
-    Change::Put {
-        fact: Fact {
-            of: Some(r),
-            base: Some(r),
-            by,
-        },
-    }
-}
-
 /// What both put into a register, where the one stands for the other.
-fn puts(facts: &[Fact], same: bool, insn: &Insn, moved: &Insn) -> Option<Change>
-    ensures { result ≡ puts facts.now same insn.now moved.now }
+fn puts(known: &KnownHere<'_>, same: bool, insn: &Insn, moved: &Insn) -> Option<Change>
+    ensures { result ≡ puts (known_of known.now) same insn.now moved.now }
 {
     let r = put_into(insn)?;
     if r.is_frame_pointer() {
         return None;
     }
-    let by = put_by(facts, same, insn, moved)?;
-    Some(put(r, by))
+    let by = put_by(known, same, insn, moved)?;
+    Some(put(Holder::Register(r), pin_of(known.facts, insn), by))
 }
 
 /// What both change, where the one stands for the other.
 #[tactic(auto, unfolding(crate::specs::Rules::paired))]
-pub fn paired(facts: &[Fact], same: bool, insn: &Insn, moved: &Insn) -> Option<Change>
-    ensures { result ≡ paired facts.now same insn.now moved.now }
+pub fn paired(known: &KnownHere<'_>, same: bool, insn: &Insn, moved: &Insn) -> Option<Change>
+    ensures { result ≡ paired (known_of known.now) same insn.now moved.now }
 {
-    if keeps(facts, same, insn, moved) {
-        Some(Change::Kept)
-    } else {
-        puts(facts, same, insn, moved)
+    if keeps(known.facts, same, insn, moved) {
+        return Some(Change::Kept);
+    }
+    match stores(known, same, insn, moved) {
+        Some(change) => Some(change),
+        None => puts(known, same, insn, moved),
     }
 }

@@ -1,10 +1,10 @@
-//! Facts: which give which, and what they say of a register.
+//! Facts: which give which, and what they say of a register or of a slot of the frame.
 
 ghost use Rattle.std.specs.Prelude.{◌≡◌};
-ghost use Rattle.bpf_kept.specs.Rules.{same_register, is_register, is_base, gives, is_own, own, is_same, is_low_fact, is_low, stays};
+ghost use Rattle.bpf_kept.specs.Rules.{same_register, same_holder, is_holder, is_register, is_base, gives, is_own, own_in, own, is_same, is_low_fact, is_low, is_pin, pinned, is_number, numbered, stays, by_itself, known_number};
 
-use crate::notes::{Fact, Term};
-use crate::terms::{is_enough, is_zero};
+use crate::notes::{Fact, Holder, Term};
+use crate::terms::{is_enough, is_zero, zero};
 use bpf_insn::Reg;
 
 /// Whether two registers are the same.
@@ -14,22 +14,40 @@ pub fn same_register(a: Reg, b: Reg) -> bool
     a as u8 == b as u8
 }
 
-/// Whether it is this register, and not 0.
-pub fn is_register(r: Reg, of: Option<Reg>) -> bool
-    ensures { result ≡ is_register r of }
+/// Whether two are one register, or one slot.
+pub fn same_holder(a: Holder, b: Holder) -> bool
+    ensures { result ≡ same_holder a b }
+{
+    match (a, b) {
+        (Holder::Register(a), Holder::Register(b)) => same_register(a, b),
+        (Holder::Slot(m), Holder::Slot(n)) => m == n,
+        _ => false,
+    }
+}
+
+/// Whether it is this register or slot, and not 0.
+pub fn is_holder(h: Holder, of: Option<Holder>) -> bool
+    ensures { result ≡ is_holder h of }
 {
     match of {
-        Some(of) => same_register(of, r),
+        Some(of) => same_holder(of, h),
         None => false,
     }
 }
 
-/// Whether both are one register, or both 0.
-pub fn is_base(a: Option<Reg>, b: Option<Reg>) -> bool
+/// Whether it is this register, and not 0.
+pub fn is_register(r: Reg, of: Option<Holder>) -> bool
+    ensures { result ≡ is_register r of }
+{
+    is_holder(Holder::Register(r), of)
+}
+
+/// Whether both are one register or slot, or both 0.
+pub fn is_base(a: Option<Holder>, b: Option<Holder>) -> bool
     ensures { result ≡ is_base a b }
 {
     match a {
-        Some(r) => is_register(r, b),
+        Some(h) => is_holder(h, b),
         None => b.is_none(),
     }
 }
@@ -41,31 +59,60 @@ pub fn gives(have: Fact, want: Fact) -> bool
     is_base(have.of, want.of) && is_base(have.base, want.base) && is_enough(have.by, want.by)
 }
 
-/// Whether it is of neither program's register.
-pub fn stays(r: Reg, fact: Fact) -> bool
-    ensures { result ≡ stays r fact }
+/// Whether it is of neither program's register or slot.
+pub fn stays(h: Holder, fact: Fact) -> bool
+    ensures { result ≡ stays h fact }
 {
-    !is_register(r, fact.of) && !is_register(r, fact.base)
+    !is_holder(h, fact.of) && !is_holder(h, fact.base)
 }
 
-// ---- a register
-
-/// Whether a fact says how far a register is from the old program's.
-fn is_own(r: Reg, fact: Fact) -> bool
-    ensures { result ≡ is_own r fact }
+/// That a register or slot is the same in both.
+pub fn by_itself(h: Holder) -> Fact
+    ensures { result ≡ by_itself h }
 {
-    is_register(r, fact.of) && is_register(r, fact.base) && fact.by.is_some()
+    Fact {
+        of: Some(h),
+        base: Some(h),
+        by: Some(zero()),
+    }
 }
 
-/// How far a register is from the old program's.
-#[tactic(auto, unfolding(crate::specs::Rules::own))]
-pub fn own(facts: &[Fact], r: Reg) -> Option<Term>
-    ensures { result ≡ own facts.now r }
+/// That a register or slot, or 0, is a number.
+pub fn known_number(of: Option<Holder>, t: Term) -> Fact
+    ensures { result ≡ known_number of t }
 {
-    match facts.iter().find(|fact| is_own(r, **fact)) {
+    Fact {
+        of,
+        base: None,
+        by: Some(t),
+    }
+}
+
+// ---- by the old program's
+
+/// Whether a fact says how far a register or slot is from the old program's.
+fn is_own(h: Holder, fact: Fact) -> bool
+    ensures { result ≡ is_own h fact }
+{
+    is_holder(h, fact.of) && is_holder(h, fact.base) && fact.by.is_some()
+}
+
+/// How far a register or slot is from the old program's.
+#[tactic(auto, unfolding(crate::specs::Rules::own_in))]
+pub fn own_in(facts: &[Fact], h: Holder) -> Option<Term>
+    ensures { result ≡ own_in facts.now h }
+{
+    match facts.iter().find(|fact| is_own(h, **fact)) {
         Some(fact) => fact.by,
         None => None,
     }
+}
+
+/// How far a register is.
+pub fn own(facts: &[Fact], r: Reg) -> Option<Term>
+    ensures { result ≡ own facts.now r }
+{
+    own_in(facts, Holder::Register(r))
 }
 
 /// Whether it holds the same in both programs.
@@ -90,4 +137,42 @@ pub fn is_low(facts: &[Fact], r: Reg) -> bool
     ensures { result ≡ is_low facts.now r }
 {
     facts.iter().any(|fact| is_low_fact(r, *fact))
+}
+
+// ---- numbers by themselves
+
+/// Whether a fact says that what the old program has is one number.
+fn is_pin(h: Holder, fact: Fact) -> bool
+    ensures { result ≡ is_pin h fact }
+{
+    fact.of.is_none() && is_holder(h, fact.base) && fact.by.is_some()
+}
+
+/// What makes 0 with the number that the old program has in a register or slot.
+#[tactic(auto, unfolding(crate::specs::Rules::pinned))]
+pub fn pinned(facts: &[Fact], h: Holder) -> Option<Term>
+    ensures { result ≡ pinned facts.now h }
+{
+    match facts.iter().find(|fact| is_pin(h, **fact)) {
+        Some(fact) => fact.by,
+        None => None,
+    }
+}
+
+/// Whether a fact says that what the new program has is one number.
+fn is_number(h: Holder, fact: Fact) -> bool
+    ensures { result ≡ is_number h fact }
+{
+    is_holder(h, fact.of) && fact.base.is_none() && fact.by.is_some()
+}
+
+/// The number that the new program has in a register or slot.
+#[tactic(auto, unfolding(crate::specs::Rules::numbered))]
+pub fn numbered(facts: &[Fact], h: Holder) -> Option<Term>
+    ensures { result ≡ numbered facts.now h }
+{
+    match facts.iter().find(|fact| is_number(h, **fact)) {
+        Some(fact) => fact.by,
+        None => None,
+    }
 }

@@ -1,6 +1,6 @@
 //! Guards: extra tests that never lead to their trap, since an access of the old program surely follows.
 
-ghost use Rattle.std.specs.Prelude.{◌≡◌, ◌==◌, ◌+◌, ◌%◌, pos, ◌+ℤ◌, ◌-ℤ◌, false};
+ghost use Rattle.std.specs.Prelude.{◌≡◌, ◌==◌, ◌+◌, ◌%◌, ◌<◌, pos, ◌+ℤ◌, ◌-ℤ◌, false};
 ghost use Rattle.std.specs.Option.{option_map_or};
 ghost use Rattle.bpf_insn.specs.Arithmetic.{extended};
 ghost use Rattle.bpf_insn.specs.Effects.{register_written};
@@ -10,13 +10,16 @@ ghost use Rattle.std.specs.List.{list_any};
 ghost use Rattle.bpf_semantics.specs.Flat.{addresses};
 ghost use Rattle.bpf_kept.specs.Far.{middle};
 ghost use Rattle.bpf_kept.specs.Fronts.{front};
-ghost use Rattle.bpf_kept.specs.Guards.{if_by, accesses_by, is_passed, is_met, is_ahead, are_accessed, is_tested_by, is_tested, guarded, passes};
+ghost use Rattle.bpf_kept.specs.Guards.{if_by, accesses_by, is_passed, is_met, is_ahead, are_accessed, is_tested_by, is_tested, guarded, is_added, guards_sum, passes};
+ghost use Rattle.bpf_kept.specs.Rules.{pinned};
+ghost use Rattle.bpf_kept.specs.declared.notes.Holder.TheVariants.{Register};
+ghost use Rattle.bpf_insn.specs.Limits.{max_slots};
 
 use crate::code::insn_at;
-use crate::facts::{is_register, same_register};
-use crate::notes::{Fact, Need, Term};
+use crate::facts::{is_register, is_same, pinned, same_register};
+use crate::notes::{Fact, Holder, Need, Term};
 use crate::terms::MIDDLE;
-use bpf_insn::{Access, Code, Cond, FRAME_BYTES, Insn, Operand, Reg, Size, Width, extended};
+use bpf_insn::{Access, AluOp, Code, Cond, FRAME_BYTES, Insn, Operand, Reg, Size, Width, extended};
 
 /// How many instructions are looked at.
 const FARTHEST_AHEAD: u32 = 33;
@@ -171,7 +174,7 @@ fn is_tested<C: Code>(old: &C, site: GuardSite, limit: u64, fact: Fact) -> bool
     ensures { result ≡ is_tested (front (C.program old.now) site.slot site.length) limit fact }
 {
     match (fact.by, fact.base) {
-        (Some(t), Some(r)) => is_tested_by(old, site, limit, t, r),
+        (Some(t), Some(Holder::Register(r))) => is_tested_by(old, site, limit, t, r),
         _ => false,
     }
 }
@@ -183,14 +186,71 @@ fn guarded<C: Code>(old: &C, site: GuardSite, dst: Reg, limit: u64, fact: Fact) 
     is_register(dst, fact.of) && is_tested(old, site, limit, fact)
 }
 
-/// Whether a register is known to be no greater than a constant.
-fn is_below<C: Code>(old: &C, site: GuardSite, facts: &[Fact], dst: Reg, imm: i32) -> bool
-    ensures { result ≡ list_any (guarded (front (C.program old.now) site.slot site.length) dst (extended imm)) facts.now }
+/// A register, and the greatest number of it that passes.
+#[derive(Clone, Copy)]
+struct TestedRegister {
+    dst: Reg,
+    limit: u64,
+}
+
+/// Whether a register is known to be no greater than what passes.
+fn is_below<C: Code>(old: &C, site: GuardSite, facts: &[Fact], tested: TestedRegister) -> bool
+    ensures { result ≡ list_any (guarded (front (C.program old.now) site.slot site.length) tested.dst tested.limit) facts.now }
 {
-    let limit = extended(imm);
     facts
         .iter()
-        .any(|fact| guarded(old, site, dst, limit, *fact))
+        .any(|fact| guarded(old, site, tested.dst, tested.limit, *fact))
+}
+
+/// Whether the sum of a pointer, whose address is known, and a number passes.
+fn is_sum_tested<C: Code>(old: &C, site: GuardSite, facts: &[Fact], limit: u64, to: Reg) -> bool
+    requires { site.slot < max_slots }
+    ensures { result ≡ option_map_or (λ t. is_tested_by (front (C.program old.now) (site.slot + 1) site.length) limit t to) (pinned facts.now (Register to)) false }
+{
+    let behind = GuardSite {
+        slot: site.slot + 1,
+        length: site.length,
+    };
+    match pinned(facts, Holder::Register(to)) {
+        Some(t) => is_tested_by(old, behind, limit, t, to),
+        None => false,
+    }
+}
+
+/// Whether an old instruction adds what is tested to a pointer, and the sum passes.
+fn is_added<C: Code>(
+    old: &C,
+    site: GuardSite,
+    facts: &[Fact],
+    tested: TestedRegister,
+    insn: &Insn,
+) -> bool
+    requires { site.slot < max_slots }
+    ensures { result ≡ is_added (front (C.program old.now) site.slot site.length) facts.now tested.dst tested.limit insn.now }
+{
+    let Insn::Alu {
+        op: AluOp::Add,
+        width: Width::W64,
+        dst: to,
+        src: Operand::Reg(r),
+    } = *insn
+    else {
+        return false;
+    };
+    same_register(r, tested.dst)
+        && is_same(facts, tested.dst)
+        && is_sum_tested(old, site, facts, tested.limit, to)
+}
+
+/// Whether the old instruction that the guard stands in front of does.
+#[tactic(auto, unfolding(crate::specs::Guards::guards_sum))]
+fn guards_sum<C: Code>(old: &C, site: GuardSite, facts: &[Fact], tested: TestedRegister) -> bool
+    ensures { result ≡ guards_sum (front (C.program old.now) site.slot site.length) facts.now tested.dst tested.limit }
+{
+    match insn_at(old, site.slot) {
+        Some(insn) => is_added(old, site, facts, tested, &insn),
+        None => false,
+    }
 }
 
 /// Whether an instruction is a guard that passes.
@@ -208,5 +268,9 @@ pub fn passes<C: Code>(old: &C, site: GuardSite, facts: &[Fact], insn: &Insn) ->
     else {
         return false;
     };
-    is_below(old, site, facts, dst, imm)
+    let tested = TestedRegister {
+        dst,
+        limit: extended(imm),
+    };
+    is_below(old, site, facts, tested) || guards_sum(old, site, facts, tested)
 }

@@ -2,20 +2,28 @@
 //! another, the laws, and the checker of notes.
 #![tactic(auto)]
 
+mod accesses;
 mod alike;
+mod behind;
+mod bounds;
 mod code;
+mod commons;
+mod counters;
 mod edges;
 mod facts;
 mod guards;
+mod known;
 mod laws;
 mod made;
 mod note_fault;
 mod notes;
 mod pass;
 mod results;
+mod slots;
 mod stands;
 mod terms;
 
+pub use bounds::RunBounds;
 pub use laws::{
     certified_keeps_flat_meaning, exact_runs_are_flat, far_is_placement, flat_meaning_is_exact,
     flat_meaning_is_far, matching_keeps_flat_meaning, near_and_wide_are_far,
@@ -23,5 +31,5 @@ pub use laws::{
     zero_start_fits, zero_step_is_step,
 };
 pub use note_fault::NoteFault;
-pub use notes::{Change, FACTS, Fact, Need, Note, Term};
+pub use notes::{COUNTERS, Change, FACTS, Fact, Holder, Need, Note, SLOTS, Term, TurnsLeft};
 pub use pass::{follows, follows_certified};

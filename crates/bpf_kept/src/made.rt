@@ -1,24 +1,28 @@
-//! What an extra instruction puts into a register of the new program alone.
+//! What an extra instruction puts into a register or slot of the new program alone.
 
-ghost use Rattle.std.specs.Prelude.{◌≡◌, ◌&&◌, false};
+ghost use Rattle.std.specs.Prelude.{◌≡◌, false};
+ghost use Rattle.std.specs.List.{list_any};
 ghost use Rattle.std.specs.Option.{option_map_or};
-ghost use Rattle.bpf_insn.specs.declared.instruction.Insn.TheVariants.{Alu};
-ghost use Rattle.bpf_kept.specs.Rules.{is_register, sum_base, difference_base, is_known, is_sum, is_difference, is_moved, made_by, known_number, known_operand, of_number, of_operand, by_operand, made, both, put_gives, made_gives, change_gives, holds_behind};
+ghost use Rattle.bpf_insn.specs.declared.instruction.Insn.TheVariants.{Alu, Load, LoadImm64};
+ghost use Rattle.bpf_insn.specs.declared.instruction.AluOp.TheVariants.{Mov};
+ghost use Rattle.bpf_insn.specs.declared.instruction.Reg.{Reg};
+ghost use Rattle.bpf_kept.specs.Rules.{is_register, sum_base, difference_base, is_known, is_sum, is_difference, is_moved, made_by, known_operand, of_number, of_operand, by_operand, made_from, of_slot, made, both};
 
-use crate::facts::{gives, is_base, is_register, stays};
-use crate::notes::{Change, Fact, Term};
-use crate::terms::{constant, frame_end, is_enough, minus, plus, zero};
-use bpf_insn::{AluOp, Insn, Operand, Reg, Width, extended};
+use crate::facts::{is_base, is_holder, is_register, known_number};
+use crate::notes::{Fact, Holder};
+use crate::slots::{Displaced, slot_at};
+use crate::terms::{constant, frame_end, is_enough, minus, plus};
+use bpf_insn::{AluOp, Insn, Operand, Reg, Size, Width, extended};
 
 /// Whether a sum has this base.
-fn sum_base(a: Option<Reg>, b: Option<Reg>, want: Option<Reg>) -> bool
+fn sum_base(a: Option<Holder>, b: Option<Holder>, want: Option<Holder>) -> bool
     ensures { result ≡ sum_base a b want }
 {
     (a.is_none() && is_base(b, want)) || (b.is_none() && is_base(a, want))
 }
 
 /// Whether a difference has this base.
-fn difference_base(a: Option<Reg>, b: Option<Reg>, want: Option<Reg>) -> bool
+fn difference_base(a: Option<Holder>, b: Option<Holder>, want: Option<Holder>) -> bool
     ensures { result ≡ difference_base a b want }
 {
     (b.is_none() && is_base(a, want)) || (is_base(a, b) && want.is_none())
@@ -68,17 +72,6 @@ fn made_by(facts: &[Fact], op: AluOp, dst: Reg, want: Fact, b: Fact) -> bool
     }
 }
 
-/// That a register, or 0, is a number.
-fn known_number(of: Option<Reg>, t: Term) -> Fact
-    ensures { result ≡ known_number of t }
-{
-    Fact {
-        of,
-        base: None,
-        by: Some(t),
-    }
-}
-
 /// What an operand is by itself: a constant, or the frame's end.
 fn known_operand(src: Operand) -> Option<Fact>
     ensures { result ≡ known_operand src }
@@ -86,7 +79,7 @@ fn known_operand(src: Operand) -> Option<Fact>
     match src {
         Operand::Imm(imm) => Some(known_number(None, constant(extended(imm)))),
         Operand::Reg(r) => if r.is_frame_pointer() {
-            Some(known_number(Some(r), frame_end()))
+            Some(known_number(Some(Holder::Register(r)), frame_end()))
         } else {
             None
         },
@@ -132,11 +125,10 @@ fn of_operand(src: Operand, fact: Fact) -> Option<Fact>
     }
 }
 
-/// An operation, and what is wanted of its result.
+/// An operation of 64 bits, and what is wanted of its result.
 #[derive(Clone, Copy)]
 struct WantedResult {
     op: AluOp,
-    width: Width,
     dst: Reg,
     src: Operand,
     want: Fact,
@@ -153,7 +145,7 @@ fn by_operand(facts: &[Fact], wanted: WantedResult, fact: Fact) -> bool
 }
 
 /// Whether it is by the operand itself.
-fn by_itself(facts: &[Fact], wanted: WantedResult) -> bool
+fn by_number(facts: &[Fact], wanted: WantedResult) -> bool
     ensures { result ≡ option_map_or (made_by facts.now wanted.op wanted.dst wanted.want) (known_operand wanted.src) false }
 {
     match known_operand(wanted.src) {
@@ -163,21 +155,73 @@ fn by_itself(facts: &[Fact], wanted: WantedResult) -> bool
 }
 
 /// Whether the result is known as wanted, by the operand or by a fact of it.
-#[tactic(auto, unfolding(crate::specs::Rules::made))]
-fn is_computed(facts: &[Fact], wanted: WantedResult) -> bool
-    ensures { result ≡ made facts.now (Alu wanted.op wanted.width wanted.dst wanted.src) wanted.want }
+fn made_from(facts: &[Fact], wanted: WantedResult) -> bool
+    ensures { result ≡ made_from facts.now wanted.op wanted.dst wanted.src wanted.want }
 {
-    match wanted.width {
-        Width::W64 => {
-            by_itself(facts, wanted) || facts.iter().any(|fact| by_operand(facts, wanted, *fact))
-        }
+    by_number(facts, wanted) || facts.iter().any(|fact| by_operand(facts, wanted, *fact))
+}
+
+/// Whether a constant is known as wanted, by itself or by what 0 is.
+#[tactic(auto, unfolding(crate::specs::Rules::made))]
+fn made_constant(facts: &[Fact], value: u64, want: Fact) -> bool
+    ensures { (dst : Reg) → result ≡ made facts.now (LoadImm64 dst value) want }
+{
+    is_moved(known_number(None, constant(value)), want)
+        || facts.iter().any(|fact| is_number(value, want, *fact))
+}
+
+/// Whether a fact says as wanted what is in a slot.
+fn of_slot(n: u8, want: Fact, fact: Fact) -> bool
+    ensures { result ≡ of_slot n want fact }
+{
+    is_holder(Holder::Slot(n), fact.of) && is_moved(fact, want)
+}
+
+/// Whether one of them does.
+fn is_in_slot(facts: &[Fact], n: u8, want: Fact) -> bool
+    ensures { result ≡ list_any (of_slot n want) facts.now }
+{
+    facts.iter().any(|fact| of_slot(n, want, *fact))
+}
+
+/// Whether what is loaded of a whole slot is known as wanted.
+#[tactic(auto, unfolding(crate::specs::Rules::made))]
+fn made_of_slot(facts: &[Fact], size: Size, from: Displaced, want: Fact) -> bool
+    ensures { (dst : Reg) → result ≡ made facts.now (Load size dst from.base from.off) want }
+{
+    match slot_at(size, from) {
+        Some(n) => is_in_slot(facts, n, want),
+        None => false,
+    }
+}
+
+/// Whether what is moved or stored is known as wanted.
+fn made_of(facts: &[Fact], dst: Reg, src: Operand, want: Fact) -> bool
+    ensures { result ≡ made_from facts.now Mov dst src want }
+{
+    let wanted = WantedResult {
+        op: AluOp::Mov,
+        dst,
+        src,
+        want,
+    };
+    made_from(facts, wanted)
+}
+
+/// Whether the result of an operation is known as wanted.
+#[tactic(auto, unfolding(crate::specs::Rules::made))]
+fn made_alu(facts: &[Fact], width: Width, wanted: WantedResult) -> bool
+    ensures { result ≡ made facts.now (Alu wanted.op width wanted.dst wanted.src) wanted.want }
+{
+    match width {
+        Width::W64 => made_from(facts, wanted),
         Width::W32 => false,
     }
 }
 
 /// Whether what an extra instruction puts is known as wanted.
 #[tactic(auto, unfolding(crate::specs::Rules::made))]
-fn made(facts: &[Fact], insn: &Insn, want: Fact) -> bool
+pub fn made(facts: &[Fact], insn: &Insn, want: Fact) -> bool
     ensures { result ≡ made facts.now insn.now want }
 {
     match *insn {
@@ -186,68 +230,15 @@ fn made(facts: &[Fact], insn: &Insn, want: Fact) -> bool
             width,
             dst,
             src,
-        } => {
-            let wanted = WantedResult {
-                op,
-                width,
-                dst,
-                src,
-                want,
-            };
-            is_computed(facts, wanted)
+        } => made_alu(facts, width, WantedResult { op, dst, src, want }),
+        Insn::LoadImm64 { value, .. } => made_constant(facts, value, want),
+        Insn::Load { size, src, off, .. } => {
+            made_of_slot(facts, size, Displaced { base: src, off }, want)
         }
-        Insn::LoadImm64 { value, .. } => {
-            is_moved(known_number(None, constant(value)), want)
-                || facts.iter().any(|fact| is_number(value, want, *fact))
-        }
+        Insn::Store { src, .. } => made_of(facts, src, Operand::Reg(src), want),
+        Insn::StoreImm { imm, .. } => made_of(facts, Reg::R0, Operand::Imm(imm), want),
         Insn::Neg { .. } | Insn::MovSx { .. } | Insn::End { .. } => false,
-        Insn::Load { .. } | Insn::LoadSx { .. } | Insn::Store { .. } => false,
-        Insn::StoreImm { .. } | Insn::Atomic { .. } | Insn::Ja { .. } => false,
+        Insn::LoadSx { .. } | Insn::Atomic { .. } | Insn::Ja { .. } => false,
         Insn::JaLong { .. } | Insn::JumpIf { .. } | Insn::CallLocal { .. } | Insn::Exit => false,
     }
-}
-
-// ---- what holds behind a change
-
-/// Whether what is put gives it, or what is left of the rest.
-fn put_gives(facts: &[Fact], fact: Fact, want: Fact) -> bool
-    ensures { result ≡ put_gives facts.now fact want }
-{
-    gives(fact, want)
-        || match fact.of {
-            Some(r) => facts
-                .iter()
-                .any(|have| stays(r, *have) && gives(*have, want)),
-            None => false,
-        }
-}
-
-/// Whether it is of this register, and what the new program alone puts there is known so.
-fn is_made_so(facts: &[Fact], r: Reg, insn: &Insn, want: Fact) -> bool
-    ensures { result ≡ (is_register r want.of && made facts.now insn.now want) }
-{
-    is_register(r, want.of) && made(facts, insn, want)
-}
-
-/// Whether what the new program alone puts gives it, or the rest.
-fn made_gives(facts: &[Fact], r: Reg, insn: &Insn, want: Fact) -> bool
-    ensures { result ≡ made_gives facts.now r insn.now want }
-{
-    is_made_so(facts, r, insn, want)
-        || facts
-            .iter()
-            .any(|have| !is_register(r, have.of) && gives(*have, want))
-}
-
-/// Whether a fact holds behind a change, by those in front of it.
-#[tactic(auto, unfolding(crate::specs::Rules::holds_behind))]
-pub fn holds_behind(facts: &[Fact], change: Change, want: Fact) -> bool
-    ensures { result ≡ holds_behind facts.now change want }
-{
-    gives(known_number(None, zero()), want)
-        || match change {
-            Change::Kept => facts.iter().any(|have| gives(*have, want)),
-            Change::Put { fact } => put_gives(facts, fact, want),
-            Change::Made { into, insn } => made_gives(facts, into, &insn, want),
-        }
 }

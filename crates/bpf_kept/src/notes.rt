@@ -1,4 +1,5 @@
-//! Notes: which instruction of the new program stands for which one of the old one, and what its registers hold there by the old one's.
+//! Notes: which instruction of the new program stands for which one of the old one, and what registers and slots of the frame hold there by the old
+//! one's.
 
 use bpf_insn::{Insn, Reg};
 
@@ -10,14 +11,38 @@ pub struct Term {
     pub moved: u64,
 }
 
-/// What the new program has in a register (None: 0), by what the old one has in a register (None: 0): it is so far from that, or their low halves
-/// are the same (None).
+/// How many slots a frame has. Slot n has the eight bytes from 8n on, counted from the frame's first byte.
+pub const SLOTS: usize = 64;
+
+/// What holds a number: a register, or a slot of the function's own frame, from 0 to 63.
+#[derive(Clone, Copy)]
+pub enum Holder {
+    Register(Reg),
+    Slot(u8),
+}
+
+/// What the new program has in a place (None: 0), by what the old one has in a place (None: 0): it is so far from that, or their low halves are the
+/// same (None).
 #[derive(Clone, Copy)]
 pub struct Fact {
-    pub of: Option<Reg>,
-    pub base: Option<Reg>,
+    pub of: Option<Holder>,
+    pub base: Option<Holder>,
     pub by: Option<Term>,
 }
+
+/// A place of the new program counts turns: it holds as many as are left of those that the old program may come to an instruction in one call, less
+/// those that are taken ahead.
+#[derive(Clone, Copy)]
+pub struct TurnsLeft {
+    pub of: Holder,
+    /// The old slot of the instruction.
+    pub head: u32,
+    /// How many turns are taken ahead: 1 between where the counter is taken down and the instruction.
+    pub taken: u32,
+}
+
+/// How many counters are noted in front of an instruction.
+pub const COUNTERS: usize = 16;
 
 /// How many facts are noted in front of an instruction. That 0 is 0 fills what is left.
 pub const FACTS: usize = 24;
@@ -29,19 +54,27 @@ pub struct Note {
     pub old: u32,
     /// How many extra instructions stand from here on in front of the one that stands for the old one: 0 where this is it.
     pub extras: u32,
+    /// In which slots of the frame the new program may have something else than the old one.
+    pub apart: [bool; SLOTS],
+    /// In which slots of the frame the old program has 0.
+    pub zeros: [bool; SLOTS],
     /// What holds in front of it.
     pub facts: [Fact; FACTS],
+    /// What counts turns there.
+    pub counters: [Option<TurnsLeft>; COUNTERS],
 }
 
-/// What an instruction changes in registers.
+/// What an instruction changes in registers and in the frame.
 #[derive(Clone, Copy)]
 pub enum Change {
     /// Nothing.
     Kept,
-    /// Both programs put a number into a register, and then this holds.
-    Put { fact: Fact },
-    /// The new program alone puts what the instruction makes into a register.
-    Made { into: Reg, insn: Insn },
+    /// Both programs put a number into a place, and then this holds. If a term is given, what the old one has there and the term are 0.
+    Put { fact: Fact, pin: Option<Term> },
+    /// Both programs store the same bytes at one address. In the own frame that may be any from one byte on, below another.
+    Stored { from: u32, to: u32 },
+    /// The new program alone puts what the instruction makes into a place.
+    Made { into: Holder, insn: Insn },
 }
 
 /// What a guard needs of an access behind it, by a pointer.

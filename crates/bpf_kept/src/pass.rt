@@ -1,16 +1,19 @@
 //! Whether a new program keeps the meaning of an old one on plain addresses: a pass over the new program's slots decides whether the notes are a
 //! simulation relation (Milner), and the law says what that means for runs.
 
-ghost use Rattle.std.specs.Prelude.{◌≡◌, ◌↔◌, ◌≤◌, ℕ, IsOk, IfErr, IsTrue, length as list_length};
+ghost use Rattle.std.specs.Prelude.{◌≡◌, ◌↔◌, ◌≤◌, ℕ, IsOk, IfErr, IsTrue, None, length as list_length};
 ghost use Rattle.bpf_insn.specs.Limits.{max_slots};
 ghost use Rattle.bpf_kept.specs.declared.notes.Change.TheVariants.{Kept};
 ghost use Rattle.bpf_safety.specs.Certified.{Certified};
 ghost use Rattle.bpf_kept.specs.Meaning.{NeverStuck};
-ghost use Rattle.bpf_kept.specs.Matching.{most_at_start, start_facts, arrives, HoldsAt, Matches};
-ghost use Rattle.bpf_kept.specs.Shown.{Keeps};
+ghost use Rattle.bpf_kept.specs.Matching.{most_at_start, left_alone, arrives, HoldsAt, Matches};
+ghost use Rattle.bpf_kept.specs.Knowns.{start_for};
+ghost use Rattle.bpf_kept.specs.Shown.{bounds_of, Keeps};
 ghost use Rattle.bpf_kept.specs.NoteFaults.{IsFor, IsNoteFault, IsFaultBeside, IsLowest, IsAt};
 
-use crate::edges::{Arrival, arrives, start_facts};
+use crate::bounds::RunBounds;
+use crate::edges::{Arrival, arrives};
+use crate::known::{KnownHere, left_alone, start_facts};
 use crate::laws::{
     certified_keeps_flat_meaning, flat_meaning_is_exact, flat_meaning_is_far,
     matching_keeps_flat_meaning,
@@ -29,14 +32,16 @@ fn all_hold<O: Code, N: Code>(
     old: &O,
     new: &N,
     notes: &[Option<Note>],
-    length: u32,
+    bounds: RunBounds,
+    left: u32,
 ) -> Result<(), NoteFault>
+    requires left { left ≡ left_alone (N.program new.now) bounds.untouched }
     requires few { list_length notes.now ≤ max_slots }
-    ensures exact { IsOk result ↔ ((slot : ℕ) → HoldsAt (O.program old.now) (N.program new.now) notes.now length slot) }
-    ensures err { IfErr result (IsAt (IsLowest (O.program old.now) (N.program new.now) notes.now length)) }
+    ensures exact { IsOk result ↔ ((slot : ℕ) → HoldsAt (O.program old.now) (N.program new.now) notes.now (bounds_of bounds) slot) }
+    ensures err { IfErr result (IsAt (IsLowest (O.program old.now) (N.program new.now) notes.now (bounds_of bounds))) }
 {
     for slot in 0..notes.len() as u32 {
-        if !holds_at(old, new, notes, NewSlot { slot, length }) {
+        if !holds_at(old, new, notes, NewSlot { slot, bounds, left }) {
             return Err(NoteFault::At { slot });
         }
     }
@@ -51,15 +56,24 @@ fn same_order(a: Order, b: Order) -> bool
 }
 
 /// Whether what is noted of the first slot asks for no more than what holds at the start.
-fn starts(notes: &[Option<Note>]) -> bool
-    ensures { result ≡ arrives notes.now start_facts Kept 0 most_at_start 0 }
+fn starts(notes: &[Option<Note>], bounds: RunBounds, left: u32) -> bool
+    ensures { result ≡ arrives notes.now (start_for bounds.turns left) Kept None 0 most_at_start 0 }
 {
+    let facts = start_facts();
+    let known = KnownHere {
+        facts: facts.as_slice(),
+        apart: &[],
+        counters: &[],
+        turns: bounds.turns,
+        left,
+    };
     let arrival = Arrival {
+        step: None,
         slot: 0,
         most: MOST_AT_START,
         new_slot: 0,
     };
-    arrives(notes, &start_facts(), Change::Kept, arrival)
+    arrives(notes, &known, Change::Kept, arrival)
 }
 
 /// Whether the notes match.
@@ -67,10 +81,10 @@ fn matches<O: Code, N: Code>(
     old: &O,
     new: &N,
     notes: &[Option<Note>],
-    length: u32,
+    bounds: RunBounds,
 ) -> Result<(), NoteFault>
-    ensures exact { IsOk result ↔ Matches (O.program old.now) (N.program new.now) notes.now length }
-    ensures err { IfErr result (IsNoteFault (O.program old.now) (N.program new.now) notes.now length) }
+    ensures exact { IsOk result ↔ Matches (O.program old.now) (N.program new.now) notes.now (bounds_of bounds) }
+    ensures err { IfErr result (IsNoteFault (O.program old.now) (N.program new.now) notes.now (bounds_of bounds)) }
 {
     if !same_order(new.order(), old.order()) {
         return Err(NoteFault::Order);
@@ -78,10 +92,11 @@ fn matches<O: Code, N: Code>(
     if notes.len() > new.slots() as usize {
         return Err(NoteFault::TooMany);
     }
-    if !starts(notes) {
+    let left = left_alone(new, bounds.untouched);
+    if !starts(notes, bounds, left) {
         return Err(NoteFault::Start);
     }
-    all_hold(old, new, notes, length)
+    all_hold(old, new, notes, bounds, left)
 }
 
 /// Whether the new program is shown to keep the meaning of the old one, which is one function: on each context of so many bytes on which the old
@@ -92,18 +107,18 @@ pub fn follows<O: Code, N: Code>(
     old: &O,
     new: &N,
     notes: &[Option<Note>],
-    length: u32,
+    bounds: RunBounds,
 ) -> Result<(), NoteFault>
-    ensures keeps { IsOk result → NeverStuck (N.program new.now) length → Keeps (O.program old.now) (N.program new.now) notes.now length }
-    ensures exact { IsOk result ↔ Matches (O.program old.now) (N.program new.now) notes.now length }
-    ensures err { IfErr result (IsNoteFault (O.program old.now) (N.program new.now) notes.now length) }
+    ensures keeps { IsOk result → NeverStuck (N.program new.now) bounds.length → Keeps (O.program old.now) (N.program new.now) notes.now (bounds_of bounds) }
+    ensures exact { IsOk result ↔ Matches (O.program old.now) (N.program new.now) notes.now (bounds_of bounds) }
+    ensures err { IfErr result (IsNoteFault (O.program old.now) (N.program new.now) notes.now (bounds_of bounds)) }
 {
     let _slots = old.slots();
     let _new_slots = new.slots();
     matching_keeps_flat_meaning();
     flat_meaning_is_far();
     flat_meaning_is_exact();
-    matches(old, new, notes, length)
+    matches(old, new, notes, bounds)
 }
 
 /// Whether a certificate is for contexts of so many bytes.
@@ -119,11 +134,11 @@ pub fn follows_certified<O: Code, N: Code>(
     new: &N,
     notes: &[Option<Note>],
     certificate: &Certificate,
-    length: u32,
+    bounds: RunBounds,
 ) -> Result<(), NoteFault>
-    ensures keeps { IsOk result → Certified (N.program new.now) certificate.now → Keeps (O.program old.now) (N.program new.now) notes.now length }
-    ensures exact { IsOk result ↔ (IsFor certificate.now length × Matches (O.program old.now) (N.program new.now) notes.now length) }
-    ensures err { IfErr result (IsFaultBeside certificate.now (O.program old.now) (N.program new.now) notes.now length) }
+    ensures keeps { IsOk result → Certified (N.program new.now) certificate.now → Keeps (O.program old.now) (N.program new.now) notes.now (bounds_of bounds) }
+    ensures exact { IsOk result ↔ (IsFor certificate.now bounds.length × Matches (O.program old.now) (N.program new.now) notes.now (bounds_of bounds)) }
+    ensures err { IfErr result (IsFaultBeside certificate.now (O.program old.now) (N.program new.now) notes.now (bounds_of bounds)) }
 {
     certificate.valid();
     let _slots = old.slots();
@@ -131,8 +146,8 @@ pub fn follows_certified<O: Code, N: Code>(
     certified_keeps_flat_meaning();
     flat_meaning_is_far();
     flat_meaning_is_exact();
-    if !is_for(certificate, length) {
+    if !is_for(certificate, bounds.length) {
         return Err(NoteFault::Length);
     }
-    matches(old, new, notes, length)
+    matches(old, new, notes, bounds)
 }

@@ -4,15 +4,20 @@ ghost use Rattle.std.specs.Prelude.{◌≡◌, true, option_and_then};
 ghost use Rattle.std.specs.List.{list_all};
 ghost use Rattle.std.specs.Option.{option_map_or};
 ghost use Rattle.bpf_insn.specs.Effects.{registers_read};
+ghost use Rattle.bpf_insn.specs.Instruction.{byte_count};
 ghost use Rattle.bpf_insn.specs.declared.instruction.AluOp.TheVariants.{Xor};
-ghost use Rattle.bpf_insn.specs.declared.instruction.Insn.TheVariants.{Alu};
+ghost use Rattle.bpf_insn.specs.declared.instruction.Insn.TheVariants.{Alu, Load};
 ghost use Rattle.bpf_insn.specs.declared.instruction.Reg.{Reg};
-ghost use Rattle.bpf_kept.specs.Rules.{put_into, operand_term, linear, computed, by_constant, by_terms, own, is_mask, reads_low, reads_same, result_term, keeps_low, is_same, is_low, has_low_result, low_result};
+ghost use Rattle.bpf_kept.specs.Rules.{put_into, operand_term, linear, computed, by_constant, by_terms, own, own_in, is_mask, reads_low, reads_same, loads_common, is_common, result_term, keeps_low, is_same, is_low, has_low_result, low_result};
+ghost use Rattle.bpf_kept.specs.Knowns.{known_of};
 
-use crate::facts::{is_low, is_same, own};
-use crate::notes::{Fact, Term};
+use crate::commons::is_common;
+use crate::facts::{is_low, is_same, own, own_in};
+use crate::known::KnownHere;
+use crate::notes::{Fact, Holder, Term};
+use crate::slots::{Displaced, slot_at};
 use crate::terms::{minus, negated, plus, times, zero};
-use bpf_insn::{AluOp, EndBits, Insn, Operand, Reg, Width, extended};
+use bpf_insn::{AluOp, EndBits, Insn, Operand, Reg, Size, Width, extended};
 
 /// The register into which it puts a number, if it does nothing else.
 pub fn put_into(insn: &Insn) -> Option<Reg>
@@ -120,6 +125,14 @@ fn alu_by_terms(facts: &[Fact], op: AluOp, width: Width, dst: Reg, src: Operand)
     }
 }
 
+/// Of a load of a whole slot.
+fn load_by_terms(facts: &[Fact], size: Size, from: Displaced) -> Option<Term>
+    ensures { (dst : Reg) → result ≡ by_terms facts.now (Load size dst from.base from.off) }
+{
+    let n = slot_at(size, from)?;
+    own_in(facts, Holder::Slot(n))
+}
+
 /// How far the result is from the old program's, by how far the operands are.
 fn by_terms(facts: &[Fact], insn: &Insn) -> Option<Term>
     ensures { result ≡ by_terms facts.now insn.now }
@@ -135,8 +148,11 @@ fn by_terms(facts: &[Fact], insn: &Insn) -> Option<Term>
             Width::W64 => own(facts, dst).map(negated),
             Width::W32 => None,
         },
+        Insn::Load { size, src, off, .. } => {
+            load_by_terms(facts, size, Displaced { base: src, off })
+        }
         Insn::MovSx { .. } | Insn::End { .. } | Insn::LoadImm64 { .. } => None,
-        Insn::Load { .. } | Insn::LoadSx { .. } | Insn::Store { .. } => None,
+        Insn::LoadSx { .. } | Insn::Store { .. } => None,
         Insn::StoreImm { .. } | Insn::Atomic { .. } | Insn::Ja { .. } => None,
         Insn::JaLong { .. } | Insn::JumpIf { .. } | Insn::CallLocal { .. } | Insn::Exit => None,
     }
@@ -229,14 +245,37 @@ pub fn reads_same(facts: &[Fact], insn: &Insn) -> bool
     all_same(facts, insn) || (reads_low(insn) && all_low(facts, insn))
 }
 
+/// Whether the bytes at an address are the same.
+fn is_common_at(known: &KnownHere<'_>, size: Size, from: Displaced) -> bool
+    ensures { result ≡ is_common (known_of known.now) (byte_count size) from.base from.off from.base from.off }
+{
+    is_common(known, size.bytes(), from, from)
+}
+
+/// Whether the bytes that it loads are the same.
+fn loads_common(known: &KnownHere<'_>, insn: &Insn) -> bool
+    ensures { result ≡ loads_common (known_of known.now) insn.now }
+{
+    match *insn {
+        Insn::Load { size, src, off, .. } => is_common_at(known, size, Displaced { base: src, off }),
+        Insn::LoadSx { size, src, off, .. } => {
+            is_common_at(known, size, Displaced { base: src, off })
+        }
+        Insn::Alu { .. } | Insn::Neg { .. } | Insn::MovSx { .. } | Insn::End { .. } => true,
+        Insn::LoadImm64 { .. } | Insn::Store { .. } | Insn::StoreImm { .. } => true,
+        Insn::Atomic { .. } | Insn::Ja { .. } | Insn::JaLong { .. } => true,
+        Insn::JumpIf { .. } | Insn::CallLocal { .. } | Insn::Exit => true,
+    }
+}
+
 /// How far the result is from the old program's.
 #[tactic(auto, unfolding(crate::specs::Rules::result_term))]
-pub fn result_term(facts: &[Fact], insn: &Insn) -> Option<Term>
-    ensures { result ≡ result_term facts.now insn.now }
+pub fn result_term(known: &KnownHere<'_>, insn: &Insn) -> Option<Term>
+    ensures { result ≡ result_term (known_of known.now) insn.now }
 {
-    match by_terms(facts, insn) {
+    match by_terms(known.facts, insn) {
         Some(t) => Some(t),
-        None => if reads_same(facts, insn) {
+        None => if reads_same(known.facts, insn) && loads_common(known, insn) {
             Some(zero())
         } else {
             None

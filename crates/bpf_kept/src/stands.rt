@@ -1,17 +1,27 @@
 //! What is noted of a slot of the new program: an instruction that stands for an old one, or an extra one.
 
-ghost use Rattle.std.specs.Prelude.{◌≡◌, ◌<◌, ◌≤◌, ◌↔◌, ◌-◌, IsTrue};
+ghost use Rattle.std.specs.Prelude.{◌≡◌, ◌<◌, ◌≤◌, ◌↔◌, ◌-◌, IsTrue, Some, None, option_map, option_and_then, if◌then◌else◌};
+ghost use Rattle.bpf_insn.specs.Effects.{is_frame_pointer};
+ghost use Rattle.bpf_kept.specs.Rules.{put_into};
+ghost use Rattle.bpf_kept.specs.declared.notes.Holder.TheVariants.{Register, Slot};
 ghost use Rattle.bpf_insn.specs.Limits.{max_slots};
 ghost use Rattle.bpf_kept.specs.Fronts.{front};
-ghost use Rattle.bpf_kept.specs.Matching.{led, falls, leads, stands, makes, extra, adds, IsBody, IsExtra, HoldsAt};
+ghost use Rattle.bpf_kept.specs.Knowns.{known_of, known_for};
+ghost use Rattle.bpf_kept.specs.Slots.{slot_at};
+ghost use Rattle.bpf_kept.specs.Shown.{bounds_of};
+ghost use Rattle.bpf_kept.specs.Matching.{left_alone, led, falls, leads, stands, made_in, makes, extra, adds, IsBody, IsExtra, HoldsAt};
 
 use crate::alike::{are_same, paired};
+use crate::bounds::RunBounds;
 use crate::code::insn_at;
+use crate::counters::has_turn;
 use crate::edges::{Arrival, arrives, note_at};
 use crate::guards::{GuardSite, passes};
-use crate::notes::{Change, Fact, Note};
+use crate::known::{KnownHere, facts_at};
+use crate::notes::{Change, Holder, Note};
 use crate::results::put_into;
-use bpf_insn::{Code, Insn, target};
+use crate::slots::{Displaced, slot_at};
+use bpf_insn::{Code, Insn, Size, target};
 
 /// The greatest number of extra instructions in front of one.
 const MOST_EXTRAS: u32 = 128;
@@ -35,27 +45,28 @@ fn led(slot: u32, insn: &Insn) -> Option<u32>
 }
 
 /// Whether the next new instruction stands for the next old one, if that may follow.
-fn falls(notes: &[Option<Note>], facts: &[Fact], change: Change, pair: StandIn) -> bool
+fn falls(notes: &[Option<Note>], known: &KnownHere<'_>, change: Change, pair: StandIn) -> bool
     requires old { pair.slot < max_slots }
     requires new { pair.new_slot < max_slots }
-    ensures { result ≡ falls notes.now facts.now change pair.slot pair.new_slot pair.insn pair.moved }
+    ensures { result ≡ falls notes.now (known_of known.now) change pair.slot pair.new_slot pair.insn pair.moved }
 {
     if !pair.insn.goes_on() {
         return true;
     }
     let arrival = Arrival {
+        step: Some(pair.slot),
         slot: pair.slot + pair.insn.slots(),
         most: MOST_EXTRAS,
         new_slot: pair.new_slot + pair.moved.slots(),
     };
-    arrives(notes, facts, change, arrival)
+    arrives(notes, known, change, arrival)
 }
 
 /// Whether the new one leads where the old one leads.
-fn leads(notes: &[Option<Note>], facts: &[Fact], change: Change, pair: StandIn) -> bool
+fn leads(notes: &[Option<Note>], known: &KnownHere<'_>, change: Change, pair: StandIn) -> bool
     requires old { pair.slot < max_slots }
     requires new { pair.new_slot < max_slots }
-    ensures { result ≡ leads notes.now facts.now change pair.slot pair.new_slot pair.insn pair.moved }
+    ensures { result ≡ leads notes.now (known_of known.now) change pair.slot pair.new_slot pair.insn pair.moved }
 {
     let Some(slot) = led(pair.slot, &pair.insn) else {
         return true;
@@ -64,78 +75,141 @@ fn leads(notes: &[Option<Note>], facts: &[Fact], change: Change, pair: StandIn) 
         return false;
     };
     let arrival = Arrival {
+        step: Some(pair.slot),
         slot,
         most: MOST_EXTRAS,
         new_slot,
     };
-    arrives(notes, facts, change, arrival)
+    arrives(notes, known, change, arrival)
 }
 
 /// Whether the one stands for the other; `same` says whether they are the same but for where they lead.
 #[tactic(auto, unfolding(crate::specs::Matching::stands))]
-fn stands(notes: &[Option<Note>], facts: &[Fact], same: bool, pair: StandIn) -> bool
+fn stands(notes: &[Option<Note>], known: &KnownHere<'_>, same: bool, pair: StandIn) -> bool
     requires old { pair.slot < max_slots }
     requires new { pair.new_slot < max_slots }
-    ensures { result ≡ stands notes.now facts.now same pair.slot pair.new_slot pair.insn pair.moved }
+    ensures { result ≡ stands notes.now (known_of known.now) same pair.slot pair.new_slot pair.insn pair.moved }
 {
-    match paired(facts, same, &pair.insn, &pair.moved) {
-        Some(change) => falls(notes, facts, change, pair) && leads(notes, facts, change, pair),
+    match paired(known, same, &pair.insn, &pair.moved) {
+        Some(change) => falls(notes, known, change, pair) && leads(notes, known, change, pair),
         None => false,
     }
 }
 
-/// What an extra instruction puts into a register.
-fn makes(moved: &Insn) -> Option<Change>
-    ensures { result ≡ makes moved.now }
+/// The register into which it puts something, but for r10.
+fn written_by(moved: &Insn) -> Option<Holder>
+    ensures { result ≡ option_and_then (λ r. if is_frame_pointer r then None else Some (Register r)) (put_into moved.now) }
 {
     let into = put_into(moved)?;
     if into.is_frame_pointer() {
         return None;
     }
+    Some(Holder::Register(into))
+}
+
+/// The slot of the frame to which it stores eight bytes by r10.
+fn stored_in(size: Size, to: Displaced) -> Option<Holder>
+    ensures { result ≡ option_map Slot (slot_at size to.base to.off) }
+{
+    let n = slot_at(size, to)?;
+    Some(Holder::Slot(n))
+}
+
+/// Into what an extra instruction puts something, by r10 where it is a slot of the frame.
+fn made_in(moved: &Insn) -> Option<Holder>
+    ensures { result ≡ made_in moved.now }
+{
+    match *moved {
+        Insn::Store { size, dst, off, .. } => stored_in(size, Displaced { base: dst, off }),
+        Insn::StoreImm { size, dst, off, .. } => stored_in(size, Displaced { base: dst, off }),
+        Insn::Alu { .. } | Insn::Neg { .. } | Insn::MovSx { .. } => written_by(moved),
+        Insn::End { .. } | Insn::LoadImm64 { .. } => written_by(moved),
+        Insn::Load { .. } | Insn::LoadSx { .. } => written_by(moved),
+        Insn::Atomic { .. } | Insn::Ja { .. } | Insn::JaLong { .. } => None,
+        Insn::JumpIf { .. } | Insn::CallLocal { .. } | Insn::Exit => None,
+    }
+}
+
+/// What an extra instruction puts there.
+fn makes(moved: &Insn) -> Option<Change>
+    ensures { result ≡ makes moved.now }
+{
+    let into = made_in(moved)?;
     Some(Change::Made { into, insn: *moved })
 }
 
 /// What an extra instruction changes.
 #[tactic(auto, unfolding(crate::specs::Matching::extra))]
-fn extra<O: Code>(old: &O, site: GuardSite, facts: &[Fact], moved: &Insn) -> Option<Change>
-    ensures { result ≡ extra (front (O.program old.now) site.slot site.length) facts.now moved.now }
+fn extra<O: Code>(old: &O, site: GuardSite, known: &KnownHere<'_>, moved: &Insn) -> Option<Change>
+    ensures { result ≡ extra (front (O.program old.now) site.slot site.length) (known_of known.now) moved.now }
 {
-    if passes(old, site, facts, moved) {
+    if passes(old, site, known.facts, moved) || has_turn(known.counters, site.slot, moved) {
         Some(Change::Kept)
     } else {
         makes(moved)
     }
 }
 
-/// A slot of the new program, and how many bytes a context has.
+/// An extra instruction at a new slot, how many more there are, and in front of which old slot.
 #[derive(Clone, Copy)]
-pub struct NewSlot {
-    pub slot: u32,
-    pub length: u32,
+struct ExtraAt {
+    site: GuardSite,
+    left: u32,
+    new_slot: u32,
 }
 
 /// Whether an instruction of the new program is an extra one, and the next one has fewer in front.
 #[tactic(auto, unfolding(crate::specs::Matching::adds))]
-fn adds<O: Code>(old: &O, notes: &[Option<Note>], at: NewSlot, note: &Note, moved: &Insn) -> bool
-    requires some { 0 < note.now.extras }
-    requires below { at.slot < max_slots }
-    ensures { result ≡ adds notes.now (front (O.program old.now) note.now.old at.length) note.now.facts (note.now.extras - 1) at.slot moved.now }
+fn adds<O: Code>(
+    old: &O,
+    notes: &[Option<Note>],
+    known: &KnownHere<'_>,
+    at: ExtraAt,
+    moved: &Insn,
+) -> bool
+    requires { at.new_slot < max_slots }
+    ensures { result ≡ adds notes.now (front (O.program old.now) at.site.slot at.site.length) (known_of known.now) at.left at.new_slot moved.now }
 {
-    let site = GuardSite {
-        slot: note.old,
-        length: at.length,
-    };
-    match extra(old, site, &note.facts, moved) {
+    match extra(old, at.site, known, moved) {
         Some(change) => {
             let arrival = Arrival {
-                slot: note.old,
-                most: note.extras - 1,
-                new_slot: at.slot + moved.slots(),
+                step: None,
+                slot: at.site.slot,
+                most: at.left,
+                new_slot: at.new_slot + moved.slots(),
             };
-            arrives(notes, &note.facts, change, arrival)
+            arrives(notes, known, change, arrival)
         }
         None => false,
     }
+}
+
+// ---- what is noted
+
+/// A slot of the new program, of which runs something is said, and how many of the lowest bytes of its frames no access by another register than r10
+/// goes to.
+#[derive(Clone, Copy)]
+pub struct NewSlot {
+    pub slot: u32,
+    pub bounds: RunBounds,
+    pub left: u32,
+}
+
+/// Whether a pair stands for one another, where something is noted.
+fn stands_at(notes: &[Option<Note>], at: NewSlot, note: &Note, same: bool, pair: StandIn) -> bool
+    requires old { pair.slot < max_slots }
+    requires new { pair.new_slot < max_slots }
+    ensures { result ≡ stands notes.now (known_for at.bounds.turns at.left note.now) same pair.slot pair.new_slot pair.insn pair.moved }
+{
+    let facts = facts_at(note);
+    let known = KnownHere {
+        facts: facts.as_slice(),
+        apart: &note.apart,
+        counters: &note.counters,
+        turns: at.bounds.turns,
+        left: at.left,
+    };
+    stands(notes, &known, same, pair)
 }
 
 /// Whether the instruction at a new slot stands for the old one that is noted.
@@ -143,23 +217,50 @@ fn is_body<O: Code, N: Code>(
     old: &O,
     new: &N,
     notes: &[Option<Note>],
-    slot: u32,
+    at: NewSlot,
     note: &Note,
 ) -> bool
-    ensures { IsTrue result ↔ IsBody (O.program old.now) (N.program new.now) notes.now slot note.now }
+    requires { at.left ≡ left_alone (N.program new.now) at.bounds.untouched }
+    ensures { IsTrue result ↔ IsBody (O.program old.now) (N.program new.now) notes.now (bounds_of at.bounds) at.slot note.now }
 {
-    match (insn_at(old, note.old), insn_at(new, slot)) {
+    match (insn_at(old, note.old), insn_at(new, at.slot)) {
         (Some(insn), Some(moved)) => {
             let pair = StandIn {
                 slot: note.old,
-                new_slot: slot,
+                new_slot: at.slot,
                 insn,
                 moved,
             };
-            stands(notes, &note.facts, are_same(&insn, &moved), pair)
+            stands_at(notes, at, note, are_same(&insn, &moved), pair)
         }
         _ => false,
     }
+}
+
+/// Whether an instruction of the new program is an extra one, where something is noted.
+fn adds_at<O: Code>(old: &O, notes: &[Option<Note>], at: NewSlot, note: &Note, moved: &Insn) -> bool
+    requires some { 0 < note.now.extras }
+    requires below { at.slot < max_slots }
+    ensures { result ≡ adds notes.now (front (O.program old.now) note.now.old at.bounds.length) (known_for at.bounds.turns at.left note.now) (note.now.extras - 1) at.slot moved.now }
+{
+    let facts = facts_at(note);
+    let known = KnownHere {
+        facts: facts.as_slice(),
+        apart: &note.apart,
+        counters: &note.counters,
+        turns: at.bounds.turns,
+        left: at.left,
+    };
+    let site = GuardSite {
+        slot: note.old,
+        length: at.bounds.length,
+    };
+    let extra_at = ExtraAt {
+        site,
+        left: note.extras - 1,
+        new_slot: at.slot,
+    };
+    adds(old, notes, &known, extra_at, moved)
 }
 
 /// Whether the instruction at a new slot is an extra one.
@@ -170,21 +271,23 @@ fn is_extra<O: Code, N: Code>(
     at: NewSlot,
     note: &Note,
 ) -> bool
-    requires { 0 < note.now.extras }
-    ensures { IsTrue result ↔ IsExtra (O.program old.now) (N.program new.now) notes.now at.length at.slot note.now (note.now.extras - 1) }
+    requires some { 0 < note.now.extras }
+    requires left { at.left ≡ left_alone (N.program new.now) at.bounds.untouched }
+    ensures { IsTrue result ↔ IsExtra (O.program old.now) (N.program new.now) notes.now (bounds_of at.bounds) at.slot note.now (note.now.extras - 1) }
 {
     match insn_at(new, at.slot) {
-        Some(moved) => adds(old, notes, at, note, &moved),
+        Some(moved) => adds_at(old, notes, at, note, &moved),
         None => false,
     }
 }
 
 /// Whether what is noted of a new slot holds there.
 pub fn holds_at<O: Code, N: Code>(old: &O, new: &N, notes: &[Option<Note>], at: NewSlot) -> bool
-    ensures { IsTrue result ↔ HoldsAt (O.program old.now) (N.program new.now) notes.now at.length at.slot }
+    requires { at.left ≡ left_alone (N.program new.now) at.bounds.untouched }
+    ensures { IsTrue result ↔ HoldsAt (O.program old.now) (N.program new.now) notes.now (bounds_of at.bounds) at.slot }
 {
     match note_at(notes, at.slot) {
-        Some(note) if note.extras == 0 => is_body(old, new, notes, at.slot, note),
+        Some(note) if note.extras == 0 => is_body(old, new, notes, at, note),
         Some(note) => is_extra(old, new, notes, at, note),
         None => true,
     }

@@ -1,16 +1,21 @@
 //! Programs, notes and what is shown of them: each line of standard input sets something, or asks, and is answered.
 //!
 //! `old ORDER INSN ; INSN ..` and `new ORDER INSN ; INSN ..` set a program, in `little` or `big`. `none` takes all notes away, and `none SLOT` that of
-//! a new slot. `note SLOT OLD EXTRAS FACT ..` notes facts, of four words each: a new register, an old one, how often the frame's start is taken away
-//! (`low`: the low halves are the same), and what is added. `0` in place of a register is the number 0, and `m` is 2^63.
+//! a new slot. `note SLOT OLD EXTRAS ITEM ..` notes something. `apart N` is a slot of the frame with something else, `zero N` one in which the old
+//! program has 0, and `counts PLACE HEAD TAKEN` a counter. Four other words are a fact: a new place, an old one, how often the frame's start is taken
+//! away (`low`: the low halves are the same), and what is added. A place is a register, or `s` and a slot of the frame. `0` in place of one is the
+//! number 0, and `m` is 2^63.
 //!
-//! `follows LENGTH` and `certified LENGTH LEAST MOST`, with a certificate for such lengths, are answered: `yes`, or `no` with the number of what fails,
-//! and `at SLOT` where it is a new slot's. Other lines begin with `#`, and are written as they are.
+//! `follows LENGTH TURNS UNTOUCHED` and `certified LENGTH LEAST MOST TURNS UNTOUCHED`, with a certificate for such lengths, are answered: `yes`, or `no`
+//! with the number of what fails, and `at SLOT` where it is a new slot's. Other lines begin with `#`, and are written as they are.
 #![tactic(auto)]
 
 use bpf_cert::{Certificate, read};
 use bpf_insn::{Order, Program, Reg};
-use bpf_kept::{FACTS, Fact, Note, NoteFault, Term, follows, follows_certified};
+use bpf_kept::{
+    COUNTERS, FACTS, Fact, Holder, Note, NoteFault, RunBounds, SLOTS, Term, TurnsLeft, follows,
+    follows_certified,
+};
 use bpf_text::assemble;
 use std::alloc::Global;
 use std::io::{self, BufRead, BufReader, BufWriter, Write};
@@ -77,6 +82,17 @@ fn register_of(word: Option<&str>) -> Option<Reg> {
     }
 }
 
+/// A register, a slot of the frame, or None.
+fn holder_of(word: Option<&str>) -> Option<Holder> {
+    match register_of(word) {
+        Some(r) => Some(Holder::Register(r)),
+        None => match word?.strip_prefix("s") {
+            Some(slot) => Some(Holder::Slot(number_of(Some(slot)) as u8)),
+            None => None,
+        },
+    }
+}
+
 /// What differs: a term, or nothing in the low halves.
 fn term_of(words: &mut SplitWhitespace<'_>) -> Option<Term> {
     let frames = words.next();
@@ -90,22 +106,80 @@ fn term_of(words: &mut SplitWhitespace<'_>) -> Option<Term> {
     }
 }
 
+/// The next fact or counter is put in the first place that is left.
+struct NextPlaces {
+    facts: usize,
+    counters: usize,
+}
+
+/// Notes that a slot of the frame is so.
+fn mark(slots: &mut [bool; SLOTS], word: Option<&str>) {
+    if let Some(slot) = slots.get_mut(number_of(word) as usize) {
+        *slot = true;
+    }
+}
+
+/// Notes a counter.
+fn note_counter(note: &mut Note, place: usize, words: &mut SplitWhitespace<'_>) {
+    let of = holder_of(words.next()).unwrap_or(Holder::Slot(0));
+    let head = number_of(words.next());
+    let taken = number_of(words.next());
+    if let Some(counter) = note.counters.get_mut(place) {
+        *counter = Some(TurnsLeft { of, head, taken });
+    }
+}
+
+/// Notes a fact, whose first word is there.
+fn note_fact(note: &mut Note, place: usize, of: &str, words: &mut SplitWhitespace<'_>) {
+    let noted = Fact {
+        of: holder_of(Some(of)),
+        base: holder_of(words.next()),
+        by: term_of(words),
+    };
+    if let Some(fact) = note.facts.get_mut(place) {
+        *fact = noted;
+    }
+}
+
 /// The note that words say.
 fn note_of(words: &mut SplitWhitespace<'_>) -> Note {
-    let old = number_of(words.next());
-    let extras = number_of(words.next());
-    let mut facts = [NOTHING; FACTS];
-    for fact in &mut facts {
-        let Some(of) = words.next() else {
-            break;
-        };
-        *fact = Fact {
-            of: register_of(Some(of)),
-            base: register_of(words.next()),
-            by: term_of(words),
-        };
+    let mut note = Note {
+        old: number_of(words.next()),
+        extras: number_of(words.next()),
+        apart: [false; SLOTS],
+        zeros: [false; SLOTS],
+        facts: [NOTHING; FACTS],
+        counters: [None; COUNTERS],
+    };
+    let mut places = NextPlaces {
+        facts: 0,
+        counters: 0,
+    };
+    for _ in 0..NOTES {
+        match words.next() {
+            None => break,
+            Some("apart") => mark(&mut note.apart, words.next()),
+            Some("zero") => mark(&mut note.zeros, words.next()),
+            Some("counts") => {
+                note_counter(&mut note, places.counters, words);
+                places.counters = places.counters.saturating_add(1);
+            }
+            Some(of) => {
+                note_fact(&mut note, places.facts, of, words);
+                places.facts = places.facts.saturating_add(1);
+            }
+        }
     }
-    Note { old, extras, facts }
+    note
+}
+
+/// Of which runs it is asked.
+fn bounds_of(length: u32, words: &mut SplitWhitespace<'_>) -> RunBounds {
+    RunBounds {
+        length,
+        turns: u64::from(number_of(words.next())),
+        untouched: number_of(words.next()),
+    }
 }
 
 /// The program that words say, its instructions with `;` between them.
@@ -150,16 +224,16 @@ impl Session {
     /// Whether the notes show that the new program keeps the meaning.
     fn shown(
         &self,
-        length: u32,
+        bounds: RunBounds,
         certificate: Option<&Certificate>,
     ) -> Option<Result<(), NoteFault>> {
         let old = self.old.as_ref()?;
         let new = self.new.as_ref()?;
         match certificate {
             Some(certificate) => {
-                Some(follows_certified(old, new, &self.notes, certificate, length))
+                Some(follows_certified(old, new, &self.notes, certificate, bounds))
             }
-            None => Some(follows(old, new, &self.notes, length)),
+            None => Some(follows(old, new, &self.notes, bounds)),
         }
     }
 }
@@ -191,13 +265,17 @@ fn heed(alloc: Global, out: &mut impl Write, session: &mut Session, line: &str) 
             Some(slot) => session.note(number_of(Some(slot)), None)?,
             None => session.notes.clear(),
         },
-        Some("follows") => tell(out, session.shown(number_of(words.next()), None))?,
+        Some("follows") => {
+            let length = number_of(words.next());
+            tell(out, session.shown(bounds_of(length, &mut words), None))?;
+        }
         Some("certified") => {
             let length = number_of(words.next());
             let least = number_of(words.next());
             let most = number_of(words.next());
             let certificate = certificate_of(alloc, least, most)?;
-            tell(out, session.shown(length, certificate.as_ref()))?;
+            let bounds = bounds_of(length, &mut words);
+            tell(out, session.shown(bounds, certificate.as_ref()))?;
         }
         _ => write!(out, "{line}\n")?,
     }

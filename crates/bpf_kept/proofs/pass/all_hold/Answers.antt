@@ -3,6 +3,7 @@ use Rattle.std.proofs.lemmas.Bool.{false≢true, cases_lt}
 use Rattle.std.proofs.lemmas.Option.{none-some}
 use Rattle.std.proofs.lemmas.List.{get_or_past}
 use Rattle.bpf_kept.specs.Matching.{HoldsAt}
+use Rattle.bpf_kept.specs.Shown.{bounds_of}
 use Rattle.bpf_kept.proofs.Further.{one_more}
 use Rattle.bpf_kept.proofs.pass.all_hold.Goals as goal
 
@@ -14,7 +15,7 @@ returns-then-not-holds_at-clause-err g c = (λ holds. false≢true (sym c.if-not
 
 pub loop-slot-preserved : goal.loop-slot-preserved
 loop-slot-preserved g c =
-    one_more (λ slot. HoldsAt (g.O.Code.program c.args.old.now) (g.N.Code.program c.args.new.now) c.args.notes.now c.args.length slot) c.loop-slot.slot c.loop-slot.invariant (c.holds_at.ensures.0 c.if-not-holds_at.false)
+    one_more (λ slot. HoldsAt (g.O.Code.program c.args.old.now) (g.N.Code.program c.args.new.now) c.args.notes.now (bounds_of c.args.bounds) slot) c.loop-slot.slot c.loop-slot.invariant (c.holds_at.ensures.0 c.if-not-holds_at.false)
 
 pub returns-clause-exact : goal.returns-clause-exact
 returns-clause-exact g c = (

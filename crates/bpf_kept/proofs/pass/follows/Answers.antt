@@ -9,6 +9,6 @@ pub returns-clause-keeps : goal.returns-clause-keeps
 returns-clause-keeps g c h never =
     let old : Instructions = g.O.Code.program c.args.old.now in
     let new : Instructions = g.N.Code.program c.args.new.now in
-    let m : Matches old new c.args.notes.now c.args.length = c.matches.ensures.exact.0 h in
-    kept c.flat_meaning_is_far.ensures c.flat_meaning_is_exact.ensures old new c.args.notes.now c.args.length c.slots-slots.ensures.valid m.short
-    (λ turns untouched. c.matching_keeps_flat_meaning.ensures old new c.args.notes.now (bounds_of c.args.length turns untouched) c.slots-slots.ensures.valid c.slots-new_slots.ensures.valid refl m never)
+    let m : Matches old new c.args.notes.now (bounds_of c.args.bounds) = c.matches.ensures.exact.0 h in
+    kept c.flat_meaning_is_far.ensures c.flat_meaning_is_exact.ensures old new c.args.notes.now (bounds_of c.args.bounds) c.slots-slots.ensures.valid m.short
+    (c.matching_keeps_flat_meaning.ensures old new c.args.notes.now (bounds_of c.args.bounds) c.slots-slots.ensures.valid c.slots-new_slots.ensures.valid refl m never)

@@ -1,0 +1,31 @@
+-- What is known in front of an instruction, as the code hands it on.
+use Rattle.std.specs.Prelude.{ℕ, [], ◌∷◌, take, Some, None}
+use Rattle.bpf_insn.specs.declared.instruction.Reg.TheVariants.{R0, R1, R2, R3, R4, R5, R6, R7, R8, R9, R10}
+use Rattle.bpf_kept.specs.declared.notes.Holder.TheVariants.{Register}
+use Rattle.bpf_kept.specs.declared.notes.Note.{Note}
+use Rattle.bpf_kept.specs.Terms.{Facts, context_offset}
+use Rattle.bpf_kept.specs.Rules.{Known, by_itself}
+use Rattle.bpf_kept.specs.Matching.{facts_at, start_facts}
+use Rattle.bpf_kept.specs.declared.known.FactList.{FactList}
+use Rattle.bpf_kept.specs.declared.known.KnownHere.{KnownHere}
+
+-- the facts of a list
+abbrev pub facts_in : FactList → Facts
+facts_in f = take f.count f.all
+
+abbrev pub known_of : KnownHere → Known
+known_of k = record { facts = k.facts.now; apart = k.apart.now; counters = k.counters.now; turns = k.turns; left = k.left }
+
+-- what holds of registers at the start
+abbrev pub first_facts : Facts
+first_facts =
+    record { of = Some (Register R1); base = None; by = Some context_offset } ∷ record { of = None; base = Some (Register R1); by = Some context_offset }
+    ∷ by_itself (Register R0) ∷ by_itself (Register R1) ∷ by_itself (Register R2) ∷ by_itself (Register R3) ∷ by_itself (Register R4) ∷ by_itself (Register R5)
+    ∷ by_itself (Register R6) ∷ by_itself (Register R7) ∷ by_itself (Register R8) ∷ by_itself (Register R9) ∷ by_itself (Register R10) ∷ []
+
+-- where something is noted, and at the start, if so many of the frame's lowest bytes are left alone
+abbrev pub known_for : ℕ → ℕ → Note → Known
+known_for turns left note = record { facts = facts_at note; apart = note.apart; counters = note.counters; turns = turns; left = left }
+
+abbrev pub start_for : ℕ → ℕ → Known
+start_for turns left = record { facts = start_facts; apart = []; counters = []; turns = turns; left = left }
