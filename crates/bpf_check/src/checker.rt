@@ -1,10 +1,16 @@
 //! The judgement of a program by a certificate.
 
-ghost use Rattle.std.specs.Prelude.{◌≡◌, IfOk, IfErr};
+ghost use Rattle.std.specs.Prelude.{◌≡◌, IfOk, IfErr, option_map};
 ghost use Rattle.bpf_safety.specs.Certified.{IsLeastFlaw};
+ghost use Rattle.bpf_safety.specs.Flaw.{flaws};
+ghost use Rattle.bpf_safety.specs.Flow.{visits};
+ghost use Rattle.bpf_safety.specs.Work.{compared_at_start};
+ghost use Rattle.bpf_check.specs.code.Counting.{compared, worked_through};
+ghost use Rattle.bpf_check.specs.code.Least.{IsLeastIn};
 ghost use Rattle.bpf_check.specs.CheckedProgram.{IsCertifiedBy, checked};
-ghost use Rattle.bpf_check.specs.RefusalNumbers.{refusal_number, refusal_slot};
+ghost use Rattle.bpf_check.specs.RefusalNumbers.{flaw_of, refusal_number, refusal_slot};
 
+use crate::arrival::Walk;
 use crate::checked::Checked;
 use crate::index::Index;
 use crate::least::lesser;
@@ -15,7 +21,19 @@ use crate::start::start_flaw;
 use bpf_cert::Certificate;
 use bpf_insn::Code;
 use bpf_safety::{certified_work, comparisons_are_few};
-use bpf_state::{State, Work};
+use bpf_state::Work;
+
+/// The least flaw of a program and a certificate. The states are large, so the start and the labels are judged with those of the walk.
+fn least_flaw<C: Code>(program: &C, certificate: &Index, work: &mut Work) -> Option<Refusal>
+    ensures flaw { IsLeastIn (flaws (C.program program.now) certificate.now) (option_map flaw_of result) }
+    ensures work { work.new ≡ worked_through (C.program program.now) certificate.now (visits (C.program program.now) certificate.now) (compared (compared_at_start certificate.now) work.old) }
+{
+    let mut walk = Walk::new();
+    let start = start_flaw(certificate, &mut walk.state, work);
+    let visits = visit_flaw(program, &*certificate, &mut walk, work);
+    let labels = label_flaw(program, certificate, &mut walk.state);
+    lesser(lesser(start, visits), labels)
+}
 
 /// Judges whether a certificate certifies a program, in one pass over the program and without memory. C1 to C13 at the
 /// lowest slot where a condition fails, and there the lowest number, if it doesn't.
@@ -34,11 +52,7 @@ pub fn check<'a, C: Code>(
     comparisons_are_few();
     let mut work = Work::new();
     let index = Index::of(certificate);
-    let mut room = State::blank();
-    let start = start_flaw(&index, &mut room, &mut work);
-    let visits = visit_flaw(program, &index, &mut work);
-    let labels = label_flaw(program, &index, &mut room);
-    match lesser(lesser(start, visits), labels) {
+    match least_flaw(program, &index, &mut work) {
         Some(refusal) => Err(refusal),
         None => Ok(Checked {
             program,

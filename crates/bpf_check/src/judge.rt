@@ -41,6 +41,7 @@ pub struct JudgedEdge<'a> {
 
 impl<'a> JudgedEdge<'a> {
     /// An edge that no state goes along.
+    #[inline(always)]
     pub fn dead(to: &Spot<'a>) -> JudgedEdge<'a>
         ensures live { result.is_live ≡ false }
         ensures seen { (c : CertificateView) (old : LabelView) (cost : Option ℤ) → IsSpot c to.now → seen_of result ≡ edge_seen c old cost to.now.slot None }
@@ -163,6 +164,7 @@ pub fn left_at_exit(site: &Site, here: &Here, cost: Option<i128>) -> Option<i128
 
 /// Judges the edge of a jump, if it has one, live or dead. The state is the one after the instruction, and aside is then the one on
 /// the edge where a test holds.
+#[inline(always)]
 pub fn judge_jump<'a>(
     site: &Site<'a>,
     state: &State,
@@ -193,6 +195,7 @@ pub fn judge_jump<'a>(
 }
 
 /// Makes the state after an instruction the one on its edge to the next one. False if that edge is dead or isn't there.
+#[inline(always)]
 pub fn go_to_next(site: &Site, state: &mut State) -> bool
     requires { IsSite site.now }
     ensures { edge_told result state.new ≡ next_of site.now.certificate.now site.now.here.slot site.now.insn state.old }
@@ -221,6 +224,7 @@ pub fn go_to_next(site: &Site, state: &mut State) -> bool
 
 /// Judges the edges of an instruction: of its jump, if it is one, and to the next instruction. Makes the state after it the one on
 /// its edge to the next one, if a state goes along that.
+#[inline(always)]
 pub fn judge_edges<'a>(
     site: &Site<'a>,
     state: &mut State,

@@ -1,6 +1,6 @@
 //! One pass over a program's instructions.
 
-ghost use Rattle.std.specs.Prelude.{◌≡◌, ◌+◌, ◌≤◌, option_map, IfSome};
+ghost use Rattle.std.specs.Prelude.{◌≡◌, ◌+◌, ◌≤◌, None, option_map, IfSome};
 ghost use Rattle.bpf_insn.specs.Instruction.{slot_count};
 ghost use Rattle.std.specs.List.{flat_map};
 ghost use Rattle.bpf_insn.specs.Limits.{greatest_slot};
@@ -78,16 +78,22 @@ fn pass_over<'a, P: Code>(
     visit_spot(program, certificate, here, insn, walk, work)
 }
 
-/// The least refusal of a program's instructions: the slots are visited in their order, so the first is the least.
-pub fn visit_flaw<P: Code>(program: &P, certificate: &Index, work: &mut Work) -> Option<Refusal>
+/// The least refusal of a program's instructions, by a walk that nothing has reached: the slots are visited in their order, so the first is the
+/// least.
+pub fn visit_flaw<'a, P: Code>(
+    program: &P,
+    certificate: &'a Index<'a>,
+    walk: &mut Walk<'a>,
+    work: &mut Work,
+) -> Option<Refusal>
+    requires { walk.old.here ≡ None }
     ensures refusal { IsLeastIn (flat_map (λ v. at v.slot (numbers_of_visit (P.program program.now) certificate.now v)) (visits (P.program program.now) certificate.now)) (option_map flaw_of result) }
     ensures work { work.new ≡ worked_through (P.program program.now) certificate.now (visits (P.program program.now) certificate.now) work.old }
 {
     let _ = program.slots();
-    let mut here = Spot::of(&*certificate, 0);
-    let mut walk = Walk::new();
+    let mut here = Spot::of(certificate, 0);
     'visits: while let Some(insn) = program.insn(here.slot) {
-        let refusal = pass_over(program, &*certificate, &mut here, insn, &mut walk, work);
+        let refusal = pass_over(program, certificate, &mut here, insn, walk, work);
         if refusal.is_some() {
             return refusal;
         }

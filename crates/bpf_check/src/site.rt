@@ -58,6 +58,7 @@ impl<'a> Spot<'a> {
 
     /// Looks up a slot behind this one.
     #[tactic(auto, using(crate::proofs::PlaceLemmas::spot_behind))]
+    #[inline(always)]
     fn behind(certificate: &'a Index, here: &Spot<'a>, slot: u32) -> Spot<'a>
         requires here { IsSpot certificate.now here.now }
         requires behind { here.now.slot < slot }
@@ -101,6 +102,7 @@ pub struct Site<'a> {
 
 impl<'a> Site<'a> {
     /// Looks up where an instruction leads.
+    #[inline(always)]
     pub fn of(certificate: &'a Index<'a>, here: Spot<'a>, insn: Insn) -> Site<'a>
         requires few { here.slot ≤ greatest_slot }
         requires here { IsSpot certificate.now here }
@@ -121,6 +123,7 @@ impl<'a> Site<'a> {
 }
 
 /// Where an instruction jumps, looked up.
+#[inline(always)]
 fn jump_of<'a>(certificate: &'a Index, here: &Spot<'a>, insn: &Insn) -> Option<Spot<'a>>
     requires { here.now.slot ≤ max_slots }
     ensures slot { option_map (λ t. t.slot) result ≡ jump_target here.now.slot insn.now }
@@ -133,6 +136,7 @@ fn jump_of<'a>(certificate: &'a Index, here: &Spot<'a>, insn: &Insn) -> Option<S
 }
 
 /// What an instruction calls, looked up.
+#[inline(always)]
 fn callee_of<'a>(certificate: &'a Index, slot: u32, insn: &Insn) -> Option<Callee<'a>>
     requires { slot ≤ max_slots }
     ensures value { option_map (λ f. function_view f.function.now) result ≡ callee certificate.now slot insn.now }

@@ -68,6 +68,7 @@ fn is_negative(left: Option<i128>) -> bool
 
 impl<'a> Seen<'a> {
     /// Which conditions fail.
+    #[inline(always)]
     pub fn judged(&self) -> Judged
         ensures { result ≡ judged_of self.now }
     {
@@ -87,6 +88,7 @@ impl<'a> Seen<'a> {
 
 /// Judges an instruction that a state reaches, and makes the walk what goes on from it: C3 to C7 if it isn't allowed there. Behind a
 /// conditional jump, the state aside is the one on the edge where the test holds, if that is live.
+#[inline(always)]
 pub fn judge<'a, P: Code>(
     program: &P,
     site: &Site<'a>,
@@ -164,6 +166,7 @@ pub fn judge<'a, P: Code>(
 }
 
 /// Visits an instruction with what reaches it, as far as a state is judged, and makes the walk what goes on from it.
+#[inline(always)]
 fn visit_arrival<'a, P: Code>(
     program: &P,
     site: &Site<'a>,

@@ -37,9 +37,12 @@ fn tighten_registers(registers: &mut [RegState; 11]) -> bool
     ensures long { length registers.new ≡ 11 }
 {
     for i in 0..11 {
-        match tightened_register(registers[i]) {
-            Some(held) => registers[i] = held,
-            None => return false,
+        // What is no number stays, and isn't copied.
+        if let RegState::Num(number) = &registers[i] {
+            match number.tighten() {
+                Some(tight) => registers[i] = RegState::Num(tight),
+                None => return false,
+            }
         }
     }
     true

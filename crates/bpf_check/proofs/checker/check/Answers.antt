@@ -1,4 +1,4 @@
-use Rattle.std.proofs.Common.{◌≡◌, Some, None, ap, subst}
+use Rattle.std.proofs.Common.{◌≡◌, Some, None, ap, refl, subst}
 use Rattle.bpf_cert.specs.View.{CertificateView}
 use Rattle.bpf_safety.specs.Flaw.{flaws}
 use Rattle.bpf_safety.specs.Flow.{visits}
@@ -16,7 +16,7 @@ returns-in-None-clause-certified g c =
     record {
       program = c.slots-slots.ensures.valid;
       certificate = c.valid.ensures;
-      certified = none_certifies p c.args.certificate.now (subst (λ (k : CertificateView). IsLeastIn (flaws p k) None) c.of-index.ensures (c.in-None.ensures _ _ (c.lesser.ensures _ _ c.start_flaw-start.ensures.refusal c.visit_flaw-visits.ensures.refusal) c.label_flaw-labels.ensures));
+      certified = none_certifies p c.args.certificate.now (subst (λ (k : CertificateView). IsLeastIn (flaws p k) None) c.of-index.ensures c.in-None.ensures.flaw);
     }
 
 pub returns-in-None-clause-ok : goal.returns-in-None-clause-ok
@@ -24,10 +24,9 @@ returns-in-None-clause-ok g c =
     let p = g.C.Code.program c.args.program.now in
     let k = c.args.certificate.now in
     let by = returns-in-None-clause-certified g c in
-    let start : c.start_flaw-start.new.work ≡ compared (compared_at_start k) c.new-work.result = subst (λ (x : CertificateView). c.start_flaw-start.new.work ≡ compared (compared_at_start x) c.new-work.result) c.of-index.ensures c.start_flaw-start.ensures.work in
-    let through : c.visit_flaw-visits.new.work ≡ worked_through p k (visits p k) c.start_flaw-start.new.work = subst (λ (x : CertificateView). c.visit_flaw-visits.new.work ≡ worked_through p x (visits p x) c.start_flaw-start.new.work) c.of-index.ensures c.visit_flaw-visits.ensures.work in
+    let through : c.least_flaw.new.work ≡ worked_through p k (visits p k) (compared (compared_at_start k) c.new-work.result) = subst (λ (x : CertificateView). c.least_flaw.new.work ≡ worked_through p x (visits p x) (compared (compared_at_start x) c.new-work.result)) c.of-index.ensures c.in-None.ensures.work in
     ap (λ w. record { program = p; certificate = k; work = w })
-    (check_work c.certified_work.ensures c.comparisons_are_few.ensures p k by.program by.certificate by.certified (visits_faultless p k by.certified) _ _ _ c.new-work.ensures start through)
+    (check_work c.certified_work.ensures c.comparisons_are_few.ensures p k by.program by.certificate by.certified (visits_faultless p k by.certified) _ _ _ c.new-work.ensures refl through)
 
 pub invariant_of-result : goal.invariant_of-result
 invariant_of-result g c = record {
@@ -38,4 +37,4 @@ invariant_of-result g c = record {
 pub returns-in-Some-clause-err : goal.returns-in-Some-clause-err
 returns-in-Some-clause-err g c =
     let p = g.C.Code.program c.args.program.now in
-    least_is_flaw p c.args.certificate.now _ _ (subst (λ (k : CertificateView). IsLeastIn (flaws p k) (Some (flaw_of c.in-Some.refusal))) c.of-index.ensures (c.in-Some.ensures _ _ (c.lesser.ensures _ _ c.start_flaw-start.ensures.refusal c.visit_flaw-visits.ensures.refusal) c.label_flaw-labels.ensures))
+    least_is_flaw p c.args.certificate.now _ _ (subst (λ (k : CertificateView). IsLeastIn (flaws p k) (Some (flaw_of c.in-Some.refusal))) c.of-index.ensures c.in-Some.ensures.flaw)
