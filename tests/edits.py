@@ -122,8 +122,15 @@ PLAIN = {
     "a trap's exit stands for an old one": ["bpf_kept/is_kept-takes-the-exit-of-a-trap-for-an-old-one"],
     "the new program alone stores": ["bpf_kept/extra-lets-a-store-of-the-new-program-alone"],
     "an edge leads elsewhere": ["bpf_kept/suits-takes-any-old-slot", "bpf_kept/leads-needs-no-target"],
-    "the start asks for nothing": ["bpf_kept/matches-takes-any-start", "bpf_kept/all_hold-leaves-the-first-slot-out"],
-    "a certificate is of another length": ["bpf_kept/is_for-takes-a-certificate-of-another-length"],
+    "the start asks for nothing": ["bpf_kept/begun-takes-any-start", "bpf_kept/all_hold-leaves-the-first-slot-out"],
+    "a certificate is of another length": ["bpf_kept_pass/is_for-takes-a-certificate-of-another-length"],
+    "a number is taken for a small one": ["bpf_kept/is_small-takes-the-least-for-the-greatest", "bpf_kept/are_accessed-takes-each-number-for-a-small-one"],
+    "a result of 64 bits is taken for one of 32": ["bpf_kept/has_few_bits-looks-at-the-least-result", "bpf_kept/widened_op-takes-a-shift-to-the-right",
+                                                  "bpf_kept/shifts_alike-takes-a-shift-by-32", "bpf_kept/is_widened-asks-for-no-low-halves"],
+    "a way that is gone is left out": ["bpf_kept/never_answers-asks-for-the-other-way", "bpf_kept/leads-takes-the-other-way-for-a-dead-one",
+                                       "bpf_kept/falls-takes-the-other-way-for-a-dead-one"],
+    "a state is told that reaches nothing": ["bpf_kept_pass/stated-tells-a-state-that-reaches-nothing"],
+    "what is noted of a second slot isn't looked at": ["bpf_kept_pass/hold_here-leaves-second-slots-out"],
 }
 
 # Each command, as bpf_request names it, and each call of the library for hosts, as bpf.h does.

@@ -74,6 +74,7 @@ impl<'a> DataFlow<'a> {
             counters: &note.counters,
             turns: self.bounds.turns,
             left: self.left,
+            state: None,
         }
     }
 
@@ -107,6 +108,7 @@ impl<'a> DataFlow<'a> {
             counters: &[],
             turns: self.bounds.turns,
             left: self.left,
+            state: None,
         };
         let way = FlowEdge {
             known: &known,
@@ -124,6 +126,7 @@ impl<'a> DataFlow<'a> {
         let site = GuardSite {
             slot: note.old,
             length: self.bounds.length,
+            small: false,
         };
         let Some(change) = extra(self.old, site, &known, insn) else {
             return Ok(());

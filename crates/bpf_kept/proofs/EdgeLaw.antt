@@ -1,13 +1,14 @@
 -- An edge: what is known behind a change gives all that is noted where the edge leads.
-use Rattle.std.proofs.Common.{◌≡◌, ℕ, zero, suc, ◌+◌, ◌-◌, ◌*◌, ◌/◌, ◌<◌, inl, inr, refl, sym, ◌∙◌, subst, arith, Bool, true, false, ◌∷◌}
+use Rattle.std.proofs.Common.{◌≡◌, ℕ, zero, suc, ◌+◌, ◌-◌, ◌*◌, ◌/◌, ◌<◌, inl, inr, refl, sym, ◌∙◌, subst, arith, Bool, true, false, ◌∷◌, Option}
 use Rattle.std.specs.Prelude.{not, ◌||◌, get_or, ltb}
 use Rattle.std.specs.List.{AllByRecursion, list_all}
 use Rattle.std.proofs.lemmas.Bool.{cond_both, cases_lt, or_cases, false≢true}
 use Rattle.bpf_insn.specs.Instruction.{Instructions}
 use Rattle.bpf_insn.specs.declared.order.Order.{Order}
+use Rattle.bpf_insn.specs.declared.instruction.Reg.{Reg}
 use Rattle.bpf_insn.specs.declared.instruction.Reg.TheVariants.{R10}
 use Rattle.bpf_insn.specs.declared.instruction.Size.TheVariants.{DW}
-use Rattle.bpf_semantics.specs.Flat.{FlatState, IsFlat, IsAmong, addresses, flat_number}
+use Rattle.bpf_semantics.specs.Flat.{FlatState, IsFlat, IsAmong, addresses, flat_register, flat_number}
 use Rattle.bpf_semantics.proofs.FlatAccess.{flat_number_below}
 use Rattle.bpf_kept.specs.declared.notes.Holder.TheVariants.{Register, Slot}
 use Rattle.bpf_kept.specs.declared.notes.Fact.{Fact}
@@ -15,7 +16,10 @@ use Rattle.bpf_kept.specs.declared.notes.Note.{Note}
 use Rattle.bpf_kept.specs.declared.notes.Change.{Change}
 use Rattle.bpf_kept.specs.Meaning.{Bounds}
 use Rattle.bpf_kept.specs.Terms.{Packet, IsSeen, Differs, Holds, AllHold, IsCommon, frame_slots, slot_number, value_in, is_noted, zero_term}
+use Rattle.bpf_num.specs.Laws.{Member}
+use Rattle.bpf_state.specs.State.{AbstractState}
 use Rattle.bpf_kept.specs.Slots.{slot_facts}
+use Rattle.bpf_kept.specs.States.{held_number}
 use Rattle.bpf_kept.specs.Rules.{Known, holds_behind, by_itself, is_parted, is_told, are_told}
 use Rattle.bpf_kept.specs.Matching.{said, same_slot, facts_at, known_at}
 use Rattle.bpf_kept.proofs.TermLaw.{zero_differs, same_number, shift_constant}
@@ -49,7 +53,8 @@ equal_numbers start x y small d = zero_differs start x y zero_term small (shift_
 pub numbers_equal : (start x y : ℕ) → x < addresses → y ≡ x → Differs start zero_term x y
 numbers_equal start x y small e = subst (λ z. Differs start zero_term x z) (sym e) (same_number start x small)
 
-module _ (order : Order) (start : ℕ) (packet : Packet) (known : Known) (change : Change) (f g : FlatState) (behind : Behind order start packet known change f g) (new : Instructions) (bounds : Bounds) (note : Note) where
+module _ (order : Order) (start : ℕ) (packet : Packet) (known : Known) (change : Change) (f g : FlatState) (behind : Behind order start packet known change f g) (new : Instructions) (bounds : Bounds) (state : Option AbstractState) (note : Note)
+    (numbers : (r : Reg) → Member (held_number state r) (flat_register g r)) where
   -- a byte that lies in no slot that is noted is the same
   common_there : are_told known change note.apart ≡ true → IsCommon start packet note.apart f g
   unfolding are_told
@@ -91,7 +96,7 @@ module _ (order : Order) (start : ℕ) (packet : Packet) (known : Known) (change
   pointer_there : Holds start (value_in order start packet f) (value_in order start packet g) (by_itself (Register R10))
   pointer_there = numbers_equal start (get_or f.registers 10 0) (get_or g.registers 10 0) (behind.flat.numbers 10) (behind.pointers.1 ∙ sym behind.pointers.0)
 
-  pub settled : list_all (holds_behind known.facts change) (said note) ≡ true → are_told known change note.apart ≡ true → AtOnce order start packet (known_at new bounds note) f g
+  pub settled : list_all (holds_behind known.facts change) (said note) ≡ true → are_told known change note.apart ≡ true → AtOnce order start packet (known_at new bounds state note) f g
   unfolding facts_at
   settled e t =
       let common = common_there t in
@@ -102,5 +107,6 @@ module _ (order : Order) (start : ℕ) (packet : Packet) (known : Known) (change
         new_flat = behind.new_flat;
         common = common;
         pointers = behind.pointers;
+        numbers = numbers;
         all = all_both (Holds start (value_in order start packet f) (value_in order start packet g)) (said note) (by_itself (Register R10) ∷ slot_facts same_slot (λ n. not (is_noted note.apart n)) frame_slots) (said_there e) (pointer_there, slots_there common);
       }

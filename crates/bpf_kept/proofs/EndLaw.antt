@@ -75,7 +75,7 @@ few_before false = omega arith
 module _ (padded : Bool) (packet : Packet) (old : Instructions) (len slot x : ℕ) (fn fw : FlatState) (short : packet.length < 2 ^ 32) (small : x < addresses) (flat : IsFlat fn) (flat' : IsFlat fw)
     (inside : (r : Reg) → AllByRecursion (Inside (near padded) packet.length (flat_register fn r)) (accesses_ahead old r farthest_ahead slot)) (inside' : (r : Reg) → AllByRecursion (Inside (wide padded) packet.length (flat_register fw r)) (accesses_ahead old r farthest_ahead slot)) where
   abbrev front : Front
-  front = record { old = old; slot = slot; length = len }
+  front = record { old = old; slot = slot; length = len; small = false }
 
   abbrev start : ℕ
   start = frame_start (near false) 0

@@ -4,7 +4,7 @@ use Rattle.bpf_kept.specs.declared.notes.Term.{Term}
 use Rattle.std.specs.Prelude.{ℤ, pos, ◌+ℤ◌, nat_le, ltb, ◌&&◌, ◌||◌}
 use Rattle.std.specs.List.{AllByRecursion, list_all, list_any}
 use Rattle.std.specs.Option.{option_map_or}
-use Rattle.std.proofs.lemmas.Bool.{and_parts, or_cases, cond-true, cond-false, le-ltb, eqb-true, eq-eqb, leb-true, false≢true}
+use Rattle.std.proofs.lemmas.Bool.{and_parts, or_cases, cond-true, cond-false, le-ltb, eqb-true, eq-eqb, leb-true, ltb-true, false≢true}
 use Rattle.std.proofs.lemmas.Option.{same_Some}
 use Rattle.bpf_insn.specs.Arithmetic.{extended, jumps}
 use Rattle.bpf_insn.specs.Image.{HasEncoding}
@@ -39,7 +39,10 @@ use Rattle.bpf_kept.specs.declared.notes.Change.TheVariants.{Kept, Made}
 use Rattle.bpf_kept.specs.Terms.{Packet, Facts, Values, Differs, DiffersBy, shift, Holds, AllHold, value_in}
 use Rattle.bpf_kept.specs.Rules.{of_number, Known, same_register, is_register, is_same, pinned, holds_behind, are_told}
 use Rattle.bpf_kept.specs.Counters.{Counts, AllCount, counts_behind, all_count_behind, has_turn}
-use Rattle.bpf_kept.specs.Guards.{Front, has_end, is_reached, register_reached, number_reached, guarded, is_tested_by, is_tested, is_added, guards_sum, passes, accesses_ahead, farthest_ahead}
+use Rattle.bpf_semantics.specs.Run.{Steps}
+use Rattle.bpf_state.specs.State.{AbstractState}
+use Rattle.bpf_kept.specs.States.{held_number, HasNumbers}
+use Rattle.bpf_kept.specs.Guards.{Front, small_end, is_small, is_limited, has_end, is_reached, register_reached, number_reached, guarded, is_tested_by, is_tested, is_added, guards_sum, passes, accesses_ahead, farthest_ahead}
 use Rattle.bpf_kept.specs.Matching.{note_at, most_at_start, said, known_at, suits, arrives, made_in, makes, extra, adds, IsExtra}
 use Rattle.bpf_kept.proofs.HoldsLaw.{any_holds, all_of, held, register_is, register_now}
 use Rattle.bpf_kept.proofs.PutValue.{put_value, put_does}
@@ -47,6 +50,7 @@ use Rattle.bpf_kept.proofs.TermLaw.{differs_same, same_differs}
 use Rattle.bpf_kept.proofs.ExtraLaw.{of_number_is, pinned_is}
 use Rattle.bpf_kept.proofs.CountLaw.{Advances, stands_still, kept_counts, extra_counts, test_is}
 use Rattle.bpf_kept.proofs.EdgeLaw.{settled}
+use Rattle.bpf_kept.proofs.StatesLaw.{register_has}
 use Rattle.bpf_kept.proofs.StoreLaw.{register_same, at_same, kept_still, made_alone}
 use Rattle.bpf_kept.proofs.AheadLaw.{Inside, all_inside}
 use Rattle.bpf_kept.proofs.GuardLaw.{guard_passes}
@@ -57,7 +61,7 @@ use Rattle.bpf_kept.proofs.Setting.{Setting, packet_of}
 use Rattle.bpf_kept.proofs.Beside.{OldAt, NewAt, Arriving, new_next, made_before, old_next}
 
 module _ (given : Setting) where
-  open given use {order, is, js, notes, bounds, old_valid, new_valid, matches, own, own_is, context, bytes, long, never, v, k, l, near_ends, wide_ends}
+  open given use {order, is, js, notes, bounds, states, states_are, old_valid, new_valid, matches, own, own_is, context, bytes, long, never, v, k, l, near_ends, wide_ends}
 
   abbrev old : Instructions
   old = program order is
@@ -152,8 +156,11 @@ module _ (given : Setting) where
       (all_inside (wide bounds.padded) old old_valid own bounds v l wide_ends r farthest_ahead j fw o.wide_run o.wide_before o.wide_outer o.wide_state)
 
   -- in front of which old instruction
+  abbrev pub front_with : Bool → ℕ → Front
+  front_with small slot = record { old = old; slot = slot; length = bounds.length; small = small }
+
   abbrev pub front_at : ℕ → Front
-  front_at slot = record { old = old; slot = slot; length = bounds.length }
+  front_at slot = front_with false slot
 
   -- what is known of the register at both placements
   abbrev pub Known_at : (fn fw gn gw : FlatState) (fact : Fact) → Type 0
@@ -182,6 +189,15 @@ module _ (given : Setting) where
       let in_near : flat_register gn dst ≡ number.0 = stands_in at.near_fits dst (Number number.0) number.1 in
       record { x = number.0; in_near = in_near; in_wide = stands_in at.wide_fits dst (Number number.0) number.1; small = subst (λ z. z < addresses) in_near (at.near_at.new_flat.numbers (register_number dst)) }
 
+  -- it is small, by what is known of the new program's numbers
+  tiny_there : (known : Known) (j n : ℕ) (s : State) (fn fw gn gw : FlatState) (dst : Reg) (number : Tested s gn gw dst) → NewAt given known j n s fn fw gn gw → is_small known.state dst ≡ true → number.x < 2 ^ 62
+  tiny_there known j n s fn fw gn gw dst number at e =
+      let has = at.near_at.numbers dst in
+      let below = has.1.unsigned.below in
+      let test = ltb-true (held_number known.state dst).unsigned.hi small_end e in
+      let same = number.in_near in
+      omega arith
+
   -- a number in front of the sum that adds it to a pointer whose address is known
   sum_pin : (start a x y : ℕ) (t : Term) → x < addresses → y ≡ x → Differs start t a 0 → Differs start t ((a + y) % addresses) x
   sum_pin start a x y t small same d =
@@ -193,7 +209,7 @@ module _ (given : Setting) where
       (same_differs start t ((a + x) % addresses) x small (same_trans (same_equal (sym left)) (same_trans sum (same_trans (same_equal right) (same_plus (same_sym (modulo-same (pos (a + x)))) (same_refl (shift start t)))))))
 
   sum_limited : (known : Known) (j n : ℕ) (s : State) (fn fw gn gw : FlatState) (to r dst : Reg) (limit : ℕ) (t : Term) → limit < addresses → OldAt given j fn fw → NewAt given known j n s fn fw gn gw → Tested s gn gw dst → insn_at is fn.slot ≡ Some (Alu Add W64 to (FromReg r)) → same_register r dst ≡ true → is_same known.facts dst ≡ true
-      → pinned known.facts (Register to) ≡ Some t → is_tested_by (front_at (fn.slot + 1)) limit t to ≡ true → IsLimited j gn gw dst limit
+      → pinned known.facts (Register to) ≡ Some t → is_tested_by (front_with (is_small known.state dst) (fn.slot + 1)) limit t to ≡ true → IsLimited j gn gw dst limit
   sum_limited known j n s fn fw gn gw to r dst limit t most o at number here er same et tested =
       let i : Insn = Alu Add W64 to (FromReg r) in
       let hn : FlatState = flat_put to (put_value order i fn) (flat_next i fn) in
@@ -207,40 +223,43 @@ module _ (given : Setting) where
       let p' = sum_pin wide_own (flat_register fw to) x (flat_register fw r) t number.small in_old' (pinned_is order wide_own packet known.facts fw gw at.wide_at.room at.wide_at.flat at.wide_at.pointers.0 at.wide_at.all (Register to) t et) in
       let now : flat_register hn to ≡ put_value order i fn = register_now (flat_next i fn) to (put_value order i fn) at.near_at.flat.eleven in
       let now' : flat_register hw to ≡ put_value order i fw = register_now (flat_next i fw) to (put_value order i fw) at.wide_at.flat.eleven in
-      let le : x ≤ limit = guard_passes bounds.padded packet old bounds.length limit (fn.slot + 1) x hn hw matches.short own_few own_within most number.small o'.near_state.flat o'.wide_state.flat (near_inside (suc j) hn hw o') (wide_inside (suc j) hn hw o') order (record { of = Some (Register dst); base = Some (Register to); by = Some t })
+      let le : x ≤ limit = guard_passes bounds.padded packet old bounds.length limit (fn.slot + 1) x hn hw matches.short own_few own_within most number.small (is_small known.state dst) (tiny_there known j n s fn fw gn gw dst number at) o'.near_state.flat o'.wide_state.flat (near_inside (suc j) hn hw o') (wide_inside (suc j) hn hw o') order (record { of = Some (Register dst); base = Some (Register to); by = Some t })
       (subst (λ z. Differs near_own t z x) (sym now) p) (subst (λ z. Differs wide_own t z x) (sym now') p') tested in
       (subst (λ z. z ≤ limit) (sym number.in_near) le, subst (λ z. z ≤ limit) (sym number.in_wide) le)
 
   -- what a guard tests is within its limit
-  limited : (known : Known) (j n : ℕ) (s : State) (fn fw gn gw : FlatState) (dst : Reg) (limit : ℕ) → limit < addresses → OldAt given j fn fw → NewAt given known j n s fn fw gn gw → Tested s gn gw dst → (list_any (guarded (front_at fn.slot) dst limit) known.facts || guards_sum (front_at fn.slot) known.facts dst limit) ≡ true → IsLimited j gn gw dst limit
+  limited : (known : Known) (j n : ℕ) (s : State) (fn fw gn gw : FlatState) (dst : Reg) (limit : ℕ) → limit < addresses → OldAt given j fn fw → NewAt given known j n s fn fw gn gw → Tested s gn gw dst → is_limited (front_with (is_small known.state dst) fn.slot) known.facts dst limit ≡ true → IsLimited j gn gw dst limit
   unfolding guards_sum
-  limited known j n s fn fw gn gw dst limit most o at number tested = elim (or_cases (list_any (guarded (front_at fn.slot) dst limit) known.facts) (guards_sum (front_at fn.slot) known.facts dst limit) tested) [
-    | inl itself ↦ (let fact = any_holds (guarded (front_at fn.slot) dst limit) (λ fact. Known_at fn fw gn gw fact) known.facts itself (both_known fn fw gn gw known.facts at.near_at.all at.wide_at.all) in
-        let c = and_parts (is_register dst fact.0.of) (is_tested (front_at fn.slot) limit fact.0) fact.1 in
-        let le : number.x ≤ limit = guard_passes bounds.padded packet old bounds.length limit fn.slot number.x fn fw matches.short own_few own_within most number.small o.near_state.flat o.wide_state.flat (near_inside j fn fw o) (wide_inside j fn fw o) order fact.0
+  limited known j n s fn fw gn gw dst limit most o at number tested = elim (or_cases (list_any (guarded (front_with tiny fn.slot) dst limit) known.facts) (guards_sum (front_with tiny fn.slot) known.facts dst limit) tested) [
+    | inl itself ↦ (let fact = any_holds (guarded (front_with tiny fn.slot) dst limit) (λ fact. Known_at fn fw gn gw fact) known.facts itself (both_known fn fw gn gw known.facts at.near_at.all at.wide_at.all) in
+        let c = and_parts (is_register dst fact.0.of) (is_tested (front_with tiny fn.slot) limit fact.0) fact.1 in
+        let le : number.x ≤ limit = guard_passes bounds.padded packet old bounds.length limit fn.slot number.x fn fw matches.short own_few own_within most number.small tiny (tiny_there known j n s fn fw gn gw dst number at) o.near_state.flat o.wide_state.flat (near_inside j fn fw o) (wide_inside j fn fw o) order fact.0
         (subst (λ z. DiffersBy near_own fact.0.by (value_in order near_own packet fn fact.0.base) z) (held (value_in order near_own packet gn) (Register dst) fact.0.of c.0 ∙ number.in_near) fact.2.0)
         (subst (λ z. DiffersBy wide_own fact.0.by (value_in order wide_own packet fw fact.0.base) z) (held (value_in order wide_own packet gw) (Register dst) fact.0.of c.0 ∙ number.in_wide) fact.2.1) c.1 in
         (subst (λ z. z ≤ limit) (sym number.in_near) le, subst (λ z. z ≤ limit) (sym number.in_wide) le))
     | inr sum ↦ by_insn (insn_at is fn.slot) refl sum
   ]
     where
-      by_pin : (to r : Reg) → insn_at is fn.slot ≡ Some (Alu Add W64 to (FromReg r)) → same_register r dst ≡ true → is_same known.facts dst ≡ true → (p : Option Term) → pinned known.facts (Register to) ≡ p → option_map_or (λ t. is_tested_by (front_at (fn.slot + 1)) limit t to) p false ≡ true → IsLimited j gn gw dst limit
+      tiny : Bool
+      tiny = is_small known.state dst
+
+      by_pin : (to r : Reg) → insn_at is fn.slot ≡ Some (Alu Add W64 to (FromReg r)) → same_register r dst ≡ true → is_same known.facts dst ≡ true → (p : Option Term) → pinned known.facts (Register to) ≡ p → option_map_or (λ t. is_tested_by (front_with tiny (fn.slot + 1)) limit t to) p false ≡ true → IsLimited j gn gw dst limit
       by_pin to r here er same None ep h = absurd (false≢true h)
       by_pin to r here er same (Some t) ep h = sum_limited known j n s fn fw gn gw to r dst limit t most o at number here er same ep h
 
-      by_sum : (i : Insn) → insn_at is fn.slot ≡ Some i → is_added (front_at fn.slot) known.facts dst limit i ≡ true → IsLimited j gn gw dst limit
+      by_sum : (i : Insn) → insn_at is fn.slot ≡ Some i → is_added (front_with tiny fn.slot) known.facts dst limit i ≡ true → IsLimited j gn gw dst limit
       by_sum (Alu Add W64 to (FromReg r)) here h =
-          let a = and_parts (same_register r dst) (is_same known.facts dst && option_map_or (λ t. is_tested_by (front_at (fn.slot + 1)) limit t to) (pinned known.facts (Register to)) false) h in
-          let b = and_parts (is_same known.facts dst) (option_map_or (λ t. is_tested_by (front_at (fn.slot + 1)) limit t to) (pinned known.facts (Register to)) false) a.1 in
+          let a = and_parts (same_register r dst) (is_same known.facts dst && option_map_or (λ t. is_tested_by (front_with tiny (fn.slot + 1)) limit t to) (pinned known.facts (Register to)) false) h in
+          let b = and_parts (is_same known.facts dst) (option_map_or (λ t. is_tested_by (front_with tiny (fn.slot + 1)) limit t to) (pinned known.facts (Register to)) false) a.1 in
           by_pin to r here a.0 b.0 (pinned known.facts (Register to)) refl b.1
       by_sum i here h = absurd (false≢true h)
 
-      by_insn : (o : Option Insn) → insn_at is fn.slot ≡ o → option_map_or (is_added (front_at fn.slot) known.facts dst limit) o false ≡ true → IsLimited j gn gw dst limit
+      by_insn : (o : Option Insn) → insn_at is fn.slot ≡ o → option_map_or (is_added (front_with tiny fn.slot) known.facts dst limit) o false ≡ true → IsLimited j gn gw dst limit
       by_insn None eo h = absurd (false≢true h)
       by_insn (Some i) eo h = by_sum i eo h
 
   guard_goes : (known : Known) (j n : ℕ) (s : State) (fn fw gn gw : FlatState) (dst : Reg) (imm off : ℤ) → known.turns ≡ bounds.turns → OldAt given j fn fw → NewAt given known j n s fn fw gn gw → insn_at js s.top.slot ≡ Some (JumpIf Gt W64 dst (Imm imm) off)
-      → (list_any (guarded (front_at fn.slot) dst (extended imm)) known.facts || guards_sum (front_at fn.slot) known.facts dst (extended imm)) ≡ true → Extended known Kept j n (JumpIf Gt W64 dst (Imm imm) off) s fn fw
+      → is_limited (front_with (is_small known.state dst) fn.slot) known.facts dst (extended imm) ≡ true → Extended known Kept j n (JumpIf Gt W64 dst (Imm imm) off) s fn fw
   guard_goes known j n s fn fw gn gw dst imm off turns o at there tested =
       let number = tested_there known j n s fn fw gn gw dst (Imm imm) off at there in
       let le = limited known j n s fn fw gn gw dst (extended imm) (modulo_below imm) o at number tested in
@@ -346,16 +365,16 @@ module _ (given : Setting) where
 
   one_extra : (known : Known) (change : Change) (j n : ℕ) (s : State) (fn fw gn gw : FlatState) (m : Insn) → known.turns ≡ bounds.turns → OldAt given j fn fw → NewAt given known j n s fn fw gn gw → insn_at js s.top.slot ≡ Some m → extra (front_at fn.slot) known m ≡ Some change → Extended known change j n m s fn fw
   unfolding extra
-  one_extra known change j n s fn fw gn gw m turns o at there e = by_pass (passes (front_at fn.slot) known.facts m || has_turn known.counters fn.slot m) refl e
+  one_extra known change j n s fn fw gn gw m turns o at there e = by_pass (passes (front_at fn.slot) known m || has_turn known.counters fn.slot m) refl e
     where
-      by_guard : IsGuard (front_at fn.slot) known.facts m ⊎ (IsEndGuard (front_at fn.slot) known.facts m ⊎ IsLeastGuard (front_at fn.slot) known.facts m) → Extended known Kept j n m s fn fw
+      by_guard : IsGuard (front_at fn.slot) known m ⊎ (IsEndGuard (front_at fn.slot) known.facts m ⊎ IsLeastGuard (front_at fn.slot) known.facts m) → Extended known Kept j n m s fn fw
       by_guard (inl g) = subst (λ m. Extended known Kept j n m s fn fw) (sym g.is) (guard_goes known j n s fn fw gn gw g.dst g.imm g.off turns o at (there ∙ ap Some g.is) g.tested)
       by_guard (inr (inl g)) = subst (λ m. Extended known Kept j n m s fn fw) (sym g.is) (end_goes known j n s fn fw gn gw g.dst g.src g.off turns o at (there ∙ ap Some g.is) g.ends g.reached)
       by_guard (inr (inr g)) = subst (λ m. Extended known Kept j n m s fn fw) (sym g.is) (least_goes known j n s fn fw gn gw g.dst g.imm g.off turns o at (there ∙ ap Some g.is) g.ends g.reached)
 
-      by_pass : (b : Bool) → (passes (front_at fn.slot) known.facts m || has_turn known.counters fn.slot m) ≡ b → cond b (Some Kept) (makes m) ≡ Some change → Extended known change j n m s fn fw
-      by_pass true eb h = subst (λ change. Extended known change j n m s fn fw) (same_Some Kept change h) (elim (or_cases (passes (front_at fn.slot) known.facts m) (has_turn known.counters fn.slot m) eb) [
-        | inl guard ↦ by_guard (guard_is (front_at fn.slot) known.facts m guard)
+      by_pass : (b : Bool) → (passes (front_at fn.slot) known m || has_turn known.counters fn.slot m) ≡ b → cond b (Some Kept) (makes m) ≡ Some change → Extended known change j n m s fn fw
+      by_pass true eb h = subst (λ change. Extended known change j n m s fn fw) (same_Some Kept change h) (elim (or_cases (passes (front_at fn.slot) known m) (has_turn known.counters fn.slot m) eb) [
+        | inl guard ↦ by_guard (guard_is (front_at fn.slot) known m guard)
         | inr turn ↦ (let t = test_is known.turns (made_before given j) (value_in order near_own packet gn) fn.slot known.counters m at.counted turn in
             subst (λ m. Extended known Kept j n m s fn fw) (sym t.is) (turn_goes known j n s fn fw gn gw t.dst t.off turns o at (there ∙ ap Some t.is) (subst (λ k. k ≤ flat_register gn t.dst + made_before given j fn.slot) turns t.counts)))
       ])
@@ -377,11 +396,15 @@ module _ (given : Setting) where
     pub old_is : fn.slot ≡ note.old
     pub few : n + note.extras ≤ most_at_start + most_for_one * j
     pub old_at : OldAt given j fn fw
-    pub new_at : NewAt given (known_at new bounds note) j n state fn fw gn gw
+    pub new_at : NewAt given (known_at new bounds (states state.top.slot) note) j n state fn fw gn gw
 
   all_counted : (known : Known) (change : Change) (step : Option ℕ) (counters : List (Option TurnsLeft)) (made : ℕ → ℕ) (v : Values) → ((want : Option TurnsLeft) → counts_behind known change step want ≡ true → Counts bounds.turns made v want) → all_count_behind known change step counters ≡ true → AllCount bounds.turns made v counters
   unfolding all_count_behind
   all_counted known change step counters made v counts e = all_of (counts_behind known change step) (Counts bounds.turns made v) counters e counts
+
+  -- the new program's numbers are known there
+  numbers_there : (n : ℕ) (s : State) → Steps new n (start context) s → (a : AbstractState) → states s.top.slot ≡ Some a → HasNumbers a s
+  numbers_there n s run a e = states_are context n s a bytes long run e
 
   -- an edge leads there
   pub arrived : (known : Known) (change : Change) (step : Option ℕ) (j n slot most new_slot : ℕ) (s : State) (fn fw gn gw : FlatState) → arrives notes known change step slot most new_slot ≡ true → s.top.slot ≡ new_slot → fn.slot ≡ slot → n + most ≤ most_at_start + most_for_one * j
@@ -412,8 +435,8 @@ module _ (given : Setting) where
               new_at = record {
                 run = a.run;
                 alone = a.alone;
-                near_at = settled order near_own packet known change fn gn a.near_behind new bounds note r.0 t.0;
-                wide_at = settled order wide_own packet known change fw gw a.wide_behind new bounds note r.0 t.0;
+                near_at = settled order near_own packet known change fn gn a.near_behind new bounds (states s.top.slot) note (register_has (states s.top.slot) a.near_fits a.near_behind.new_flat (numbers_there n s a.run)) r.0 t.0;
+                wide_at = settled order wide_own packet known change fw gw a.wide_behind new bounds (states s.top.slot) note (register_has (states s.top.slot) a.wide_fits a.wide_behind.new_flat (numbers_there n s a.run)) r.0 t.0;
                 near_fits = a.near_fits;
                 wide_fits = a.wide_fits;
                 counted = all_counted known change step note.counters (made_before given j) (value_in order near_own packet gn) a.counts t.1;
@@ -424,13 +447,13 @@ module _ (given : Setting) where
           )
 
   -- an extra instruction
-  pub extra_step : (j left : ℕ) (r : Ready j) → r.note.extras ≡ suc left → IsExtra old new notes bounds r.state.top.slot r.note left → (q : Ready j) × (q.note.extras ≤ left)
+  pub extra_step : (j left : ℕ) (r : Ready j) → r.note.extras ≡ suc left → IsExtra old new notes bounds (states r.state.top.slot) r.state.top.slot r.note left → (q : Ready j) × (q.note.extras ≤ left)
   unfolding adds
-  extra_step j left r e x = by_change (extra (front_at r.note.old) (known_at new bounds r.note) x.moved) refl x.good
+  extra_step j left r e x = by_change (extra (front_at r.note.old) (known_at new bounds (states r.state.top.slot) r.note) x.moved) refl x.good
     where
-      by_change : (c : Option Change) → extra (front_at r.note.old) (known_at new bounds r.note) x.moved ≡ c → option_map_or (λ change. arrives notes (known_at new bounds r.note) change None r.note.old left (r.state.top.slot + slot_count x.moved)) c false ≡ true → (q : Ready j) × (q.note.extras ≤ left)
+      by_change : (c : Option Change) → extra (front_at r.note.old) (known_at new bounds (states r.state.top.slot) r.note) x.moved ≡ c → option_map_or (λ change. arrives notes (known_at new bounds (states r.state.top.slot) r.note) change None r.note.old left (r.state.top.slot + slot_count x.moved)) c false ≡ true → (q : Ready j) × (q.note.extras ≤ left)
       by_change None ec h = absurd (false≢true h)
       by_change (Some change) ec h =
-          let y = one_extra (known_at new bounds r.note) change j r.n r.state r.fn r.fw r.gn r.gw x.moved refl r.old_at r.new_at x.moved_is (subst (λ slot. extra (front_at slot) (known_at new bounds r.note) x.moved ≡ Some change) (sym r.old_is) ec) in
+          let y = one_extra (known_at new bounds (states r.state.top.slot) r.note) change j r.n r.state r.fn r.fw r.gn r.gw x.moved refl r.old_at r.new_at x.moved_is (subst (λ slot. extra (front_at slot) (known_at new bounds (states r.state.top.slot) r.note) x.moved ≡ Some change) (sym r.old_is) ec) in
           let few = r.few in
-          arrived (known_at new bounds r.note) change None j (suc r.n) r.note.old left (r.state.top.slot + slot_count x.moved) y.state r.fn r.fw y.hn y.hw h y.at r.old_is (omega arith) r.old_at y.arriving
+          arrived (known_at new bounds (states r.state.top.slot) r.note) change None j (suc r.n) r.note.old left (r.state.top.slot + slot_count x.moved) y.state r.fn r.fw y.hn y.hw h y.at r.old_is (omega arith) r.old_at y.arriving

@@ -8,22 +8,24 @@ use Rattle.bpf_kept.specs.Meaning.{Bounds}
 use Rattle.bpf_kept.specs.declared.notes.Change.TheVariants.{Kept}
 use Rattle.bpf_kept.specs.Matching.{Notes, Cuts, most_at_start, start_slot, left_alone, known_at_start, arrives, starts}
 use Rattle.bpf_kept.specs.Knowns.{start_for}
+use Rattle.bpf_kept.specs.States.{States, states_of}
 use Rattle.bpf_kept.specs.NoteFaults.{IsAt, IsLowest, Starts, IsNoteFault, IsFor, IsFaultBeside}
 use Rattle.bpf_kept.specs.declared.note_fault.NoteFault.{NoteFault}
 use Rattle.bpf_kept.specs.declared.note_fault.NoteFault.TheVariants.{Order, TooMany, Start, At, Length}
 
 -- what fails at a slot fails behind what was looked at first
-pub in_order : {T : Type 0} (old new : Instructions) (notes : Notes) (bounds : Bounds) (r : Result T NoteFault) → new.order ≡ old.order → count notes ≤ slots new.list → Starts new notes bounds → IfErr r (IsAt (IsLowest old new notes bounds)) → IfErr r (IsNoteFault old new notes bounds)
+pub in_order : {T : Type 0} (old new : Instructions) (notes : Notes) (bounds : Bounds) (states : States) (r : Result T NoteFault) → new.order ≡ old.order → count notes ≤ slots new.list → Starts new notes bounds → IfErr r (IsAt (IsLowest old new notes bounds states))
+    → IfErr r (IsNoteFault old new notes bounds states)
 unfolding IsNoteFault
-in_order old new notes bounds (Ok v) order few starts h = tt
-in_order old new notes bounds (Err Order) order few starts h = absurd h
-in_order old new notes bounds (Err TooMany) order few starts h = absurd h
-in_order old new notes bounds (Err Start) order few starts h = absurd h
-in_order old new notes bounds (Err (At slot)) order few starts h = (order, few, starts, h)
-in_order old new notes bounds (Err Length) order few starts h = absurd h
+in_order old new notes bounds states (Ok v) order few starts h = tt
+in_order old new notes bounds states (Err Order) order few starts h = absurd h
+in_order old new notes bounds states (Err TooMany) order few starts h = absurd h
+in_order old new notes bounds states (Err Start) order few starts h = absurd h
+in_order old new notes bounds states (Err (At slot)) order few starts h = (order, few, starts, h)
+in_order old new notes bounds states (Err Length) order few starts h = absurd h
 
 -- and behind the lengths
-pub behind_lengths : {T : Type 0} (c : CertificateView) (old new : Instructions) (notes : Notes) (bounds : Bounds) (r : Result T NoteFault) → IsFor c bounds.length → IfErr r (IsNoteFault old new notes bounds) → IfErr r (IsFaultBeside c old new notes bounds)
+pub behind_lengths : {T : Type 0} (c : CertificateView) (old new : Instructions) (notes : Notes) (bounds : Bounds) (r : Result T NoteFault) → IsFor c bounds.length → IfErr r (IsNoteFault old new notes bounds (states_of new c)) → IfErr r (IsFaultBeside c old new notes bounds)
 unfolding IsNoteFault IsFaultBeside
 behind_lengths c old new notes bounds (Ok v) within h = tt
 behind_lengths c old new notes bounds (Err Order) within h = (within, h)

@@ -1,8 +1,8 @@
 -- Each instruction of the old program is followed by one of the new one's, to the end.
 use Rattle.std.proofs.Common.{◌≡◌, ℕ, zero, suc, ◌+◌, ◌*◌, ◌^◌, ◌<◌, ◌≤◌, ◌⊎◌, inl, inr, refl, sym, ap, ◌∙◌, subst, arith, Bool, true, false, length, Option, Some, None, cond}
-use Rattle.std.specs.Prelude.{ℤ, ◌↔◌, IsTrue, ◌&&◌, ◌||◌, option_and_then, option_map}
+use Rattle.std.specs.Prelude.{ℤ, ◌↔◌, IsTrue, not, ◌&&◌, ◌||◌, option_and_then, option_map}
 use Rattle.std.specs.Option.{option_map_or, option_or}
-use Rattle.std.proofs.lemmas.Bool.{and_parts, or_cases, cases_order, false≢true}
+use Rattle.std.proofs.lemmas.Bool.{and_parts, or_cases, cases_order, false≢true, true≢false}
 use Rattle.std.proofs.lemmas.Option.{none-some, same_Some, option_and_then_some}
 use Rattle.bpf_insn.specs.Arithmetic.{jumps}
 use Rattle.bpf_insn.specs.Image.{HasEncoding}
@@ -13,7 +13,7 @@ use Rattle.bpf_insn.specs.declared.instruction.Reg.TheVariants.{R0}
 use Rattle.bpf_insn.specs.declared.instruction.Operand.{Operand}
 use Rattle.bpf_insn.specs.declared.instruction.Operand.TheVariants.{Reg as FromReg}
 use Rattle.bpf_insn.specs.declared.instruction.Width.{Width}
-use Rattle.bpf_insn.specs.declared.instruction.Width.TheVariants.{W64}
+use Rattle.bpf_insn.specs.declared.instruction.Width.TheVariants.{W32, W64}
 use Rattle.bpf_insn.specs.declared.instruction.Cond.{Cond}
 use Rattle.bpf_insn.specs.declared.instruction.AluOp.TheVariants.{Mov}
 use Rattle.bpf_insn.specs.declared.instruction.Insn.{Insn}
@@ -30,10 +30,14 @@ use Rattle.bpf_kept.specs.declared.notes.Term.{Term}
 use Rattle.bpf_kept.specs.declared.notes.Change.{Change}
 use Rattle.bpf_kept.specs.declared.notes.Change.TheVariants.{Kept}
 use Rattle.bpf_kept.specs.Terms.{Packet, Facts, value_in, zero_term, frame_offset}
-use Rattle.bpf_kept.specs.Rules.{Known, same_register, is_same, put_into, loads_alike, is_framed, turned_test, are_offsets, are, by_order, undirected, is_jump, is_kept, keeps, put_by, pin_of, put, puts, puts_slot, stores_alike, reached, stores, paired}
+use Rattle.bpf_num.specs.Laws.{Member}
+use Rattle.bpf_kept.specs.States.{held_number}
+use Rattle.bpf_kept.specs.Rules.{Known, same_register, is_same, put_into, loads_alike, is_widened, is_framed, is_dead, turned_test, are_offsets, are, by_order, undirected, is_jump, is_kept, keeps, put_by, pin_of, put, puts, puts_slot, stores_alike, reached, stores, paired}
 use Rattle.bpf_kept.specs.Matching.{most_extras, most_at_start, facts_at, known_at, arrives, led, falls, leads_to, leads, goes, stands, IsBody, IsEither, StandsForExit}
 use Rattle.bpf_kept.proofs.HoldsLaw.{register_is}
-use Rattle.bpf_kept.proofs.PutLaw.{AtOnce, plain_is, put_both}
+use Rattle.bpf_kept.proofs.PutLaw.{AtOnce}
+use Rattle.bpf_kept.proofs.BothLaw.{plain_is, put_both}
+use Rattle.bpf_kept.proofs.WayLaw.{widened_moved, jump_alive, test_alive, falls_on}
 use Rattle.bpf_kept.proofs.TestLaw.{same_test, order_test}
 use Rattle.bpf_kept.proofs.CountLaw.{kept_counts}
 use Rattle.bpf_kept.proofs.AheadLaw.{earlier, onward, goes_on, ends_here}
@@ -67,7 +71,7 @@ store_again i moved e same =
     sym (store_plain moved there) ∙ same ∙ store_plain i e
 
 module _ (given : Setting) where
-  open given use {order, is, js, notes, bounds, old_valid, new_valid, matches, own, own_is, context, bytes, long, never, v, k, l, near_ends, wide_ends}
+  open given use {order, is, js, notes, bounds, states, old_valid, new_valid, matches, own, own_is, context, bytes, long, never, v, k, l, near_ends, wide_ends}
 
   abbrev pub old : Instructions
   old = program order is
@@ -93,7 +97,7 @@ module _ (given : Setting) where
 
   -- what is known there
   abbrev known : {j : ℕ} → Ready given j → Known
-  known q = known_at new bounds q.note
+  known q = known_at new bounds (states q.state.top.slot) q.note
 
   -- both put a number into a register or a slot, or store the same
   by_pairs : (j : ℕ) (i moved : Insn) (at : At j i moved) (change : Change) → Paired order (near_own given) packet (known at.ready) change i moved at.ready.fn at.ready.gn → Paired order (wide_own given) packet (known at.ready) change i moved at.ready.fw at.ready.gw
@@ -149,8 +153,9 @@ module _ (given : Setting) where
     new_is : led new_slot moved ≡ Some new_to
     goes : arrives notes known Kept (Some slot) to most_extras new_to ≡ true
 
-  led_there : (known : Known) (i moved : Insn) (slot new_slot to : ℕ) → led slot i ≡ Some to → leads notes known Kept slot new_slot i moved ≡ true → Led known i moved slot new_slot
-  led_there known i moved slot new_slot to e h = by_new (led new_slot moved) refl (ap (λ o. option_map_or (leads_to notes known Kept slot new_slot moved) o true) (sym e) ∙ h)
+  led_there : (known : Known) (i moved : Insn) (slot new_slot to : ℕ) → led slot i ≡ Some to → is_dead known i moved true ≡ false → leads notes known Kept slot new_slot i moved ≡ true → Led known i moved slot new_slot
+  led_there known i moved slot new_slot to e alive h =
+      by_new (led new_slot moved) refl (ap (λ o. option_map_or (leads_to notes known Kept slot new_slot moved) o true) (sym e) ∙ ap (λ b. b || option_map_or (leads_to notes known Kept slot new_slot moved) (led slot i) true) (sym alive) ∙ h)
     where
       by_new : (o : Option ℕ) → led new_slot moved ≡ o → option_map_or (arrives notes known Kept (Some slot) to most_extras) o false ≡ true → Led known i moved slot new_slot
       by_new None eo h = absurd (false≢true h)
@@ -163,7 +168,7 @@ module _ (given : Setting) where
       let other = jump_turns i jumps_is in
       let g = goes_on (near bounds.padded) old old_valid own bounds v k near_ends j q.fn i o.near_run o.near_before at.here other in
       let to = jump_back (near bounds.padded) order i q.fn g.0 jumps_is (near_does given q.fn g.0 i at.here g.1) in
-      let lead = led_there (known q) i moved q.fn.slot q.state.top.slot to.0 to.1 goes in
+      let lead = led_there (known q) i moved q.fn.slot q.state.top.slot to.0 to.1 (jump_alive (known q) i moved jumps_is) goes in
       by_moves j i moved at lead.to lead.new_to other (jump_does order i q.fn lead.to jumps_is lead.to_is) (jump_does order i q.fw lead.to jumps_is (ap (λ z. led z i) o.slots_same ∙ lead.to_is))
       (jump_does order moved q.gn lead.new_to new_jumps (ap (λ z. led z moved) q.new_at.near_fits.slot_is ∙ lead.new_is)) (jump_does order moved q.gw lead.new_to new_jumps (ap (λ z. led z moved) q.new_at.wide_fits.slot_is ∙ lead.new_is)) lead.goes
 
@@ -195,6 +200,10 @@ module _ (given : Setting) where
       parts : (falls notes (known q) Kept q.fn.slot q.state.top.slot i moved ≡ true) × (leads notes (known q) Kept q.fn.slot q.state.top.slot i moved ≡ true)
       parts = and_parts (falls notes (known q) Kept q.fn.slot q.state.top.slot i moved) (leads notes (known q) Kept q.fn.slot q.state.top.slot i moved) goes_is
 
+      -- the way that the new program goes isn't dead
+      alive : (b : Bool) → jumps width other (flat_register q.gn dst) (flat_operand q.gn src) ≡ b → is_dead (known q) i moved b ≡ false
+      alive b e = test_alive (known q) q.gn q.new_at.near_at.numbers cond other width dst src off new_off b e
+
       by_way : (b : Bool) → jumps width cond (flat_register q.fn dst) (flat_operand q.fn src) ≡ b → jumps width cond (flat_register q.fw dst) (flat_operand q.fw src) ≡ b
           → jumps width other (flat_register q.gn dst) (flat_operand q.gn src) ≡ b → jumps width other (flat_register q.gw dst) (flat_operand q.gw src) ≡ b → Ready given (suc j)
       by_way true on ow dn dw =
@@ -202,7 +211,7 @@ module _ (given : Setting) where
           let g = goes_on (near bounds.padded) old old_valid own bounds v k near_ends j q.fn i o.near_run o.near_before at.here turns in
           let jumped = test_jumps_back order cond width dst src off q.fn g.0 on (test_back (near bounds.padded) order i cond width dst src off q.fn g.0 refl (near_does given q.fn g.0 i at.here g.1)) in
           let to = option_map_some (λ slot. flat_at slot q.fn) (target q.fn.slot off) g.0 jumped in
-          let lead = led_there (known q) i moved q.fn.slot q.state.top.slot to.0 to.1 parts.1 in
+          let lead = led_there (known q) i moved q.fn.slot q.state.top.slot to.0 to.1 (alive true dn) parts.1 in
           by_moves j i moved at lead.to lead.new_to turns
           (test_jumps order cond width dst src off q.fn lead.to on lead.to_is) (test_jumps order cond width dst src off q.fw lead.to ow (ap (λ z. target z off) o.slots_same ∙ lead.to_is))
           (test_jumps order other width dst src new_off q.gn lead.new_to dn (ap (λ z. target z new_off) q.new_at.near_fits.slot_is ∙ lead.new_is)) (test_jumps order other width dst src new_off q.gw lead.new_to dw (ap (λ z. target z new_off) q.new_at.wide_fits.slot_is ∙ lead.new_is))
@@ -211,7 +220,7 @@ module _ (given : Setting) where
           by_moves j i moved at (q.fn.slot + 1) (q.state.top.slot + 1) turns
           (test_falls order cond width dst src off q.fn on) (test_falls order cond width dst src off q.fw ow ∙ ap (λ z. Some (flat_at (z + 1) q.fw)) q.old_at.slots_same)
           (test_falls order other width dst src new_off q.gn dn ∙ ap (λ z. Some (flat_at (z + 1) q.gn)) q.new_at.near_fits.slot_is) (test_falls order other width dst src new_off q.gw dw ∙ ap (λ z. Some (flat_at (z + 1) q.gw)) q.new_at.wide_fits.slot_is)
-          parts.0
+          (sym (falls_on (is_dead (known q) i moved false) (arrives notes (known q) Kept (Some q.fn.slot) (q.fn.slot + 1) most_extras (q.state.top.slot + 1)) (alive false dn)) ∙ parts.0)
 
   -- ---- the end
 
@@ -292,6 +301,7 @@ module _ (given : Setting) where
   -- what both put into a register
   by_put : (j : ℕ) (i moved : Insn) (at : At j i moved) (same : Bool) (change : Change) → IsTrue same ↔ (undirected moved ≡ undirected i) → puts (known at.ready) same i moved ≡ Some change
       → goes notes (known at.ready) at.ready.fn.slot at.ready.state.top.slot i moved change ≡ true → Ready given (suc j)
+  unfolding is_dead
   by_put j i moved at same change same_is e goes_is = option_and_then_some _ (put_into i) change e (λ r er e1.
       let pin : Option Term = pin_of (facts_at q.note) i in
       let c = none_first (is_frame_pointer r) (option_map (put (Register r) pin) (put_by (known q) same i moved)) change e1 in
@@ -327,17 +337,21 @@ module _ (given : Setting) where
       -- the new instruction puts something, too
       put_moved : (same : Bool) (i moved : Insn) (r : Reg) (by : Option Term) → IsTrue same ↔ (undirected moved ≡ undirected i) → put_into i ≡ Some r → put_by (known q) same i moved ≡ Some by → moved ≡ Exit → ⊥
       put_moved true i moved r by same_is er h e = put_turns i r er (sym (plain_is i r er) ∙ sym (same_is.0 refl) ∙ ap undirected e)
-      put_moved false i moved r by same_is er h e = by_load (loads_alike (known q) i moved) refl h
+      put_moved false i moved r by same_is er h e = by_load (loads_alike (known q) i moved || is_widened (known q) i moved) refl h
         where
           by_frame : (c : Bool) → is_framed i moved ≡ c → cond c (Some (Some frame_offset)) None ≡ Some by → ⊥
           by_frame true ec h = framed_moved i moved ec e
           by_frame false ec h = none-some _ h
 
-          by_load : (c : Bool) → loads_alike (known q) i moved ≡ c → cond c (Some (Some zero_term)) (cond (is_framed i moved) (Some (Some frame_offset)) None) ≡ Some by → ⊥
-          by_load true ec h = loads_moved i moved ec e
+          by_load : (c : Bool) → (loads_alike (known q) i moved || is_widened (known q) i moved) ≡ c → cond c (Some (Some zero_term)) (cond (is_framed i moved) (Some (Some frame_offset)) None) ≡ Some by → ⊥
+          by_load true ec h = elim (or_cases (loads_alike (known q) i moved) (is_widened (known q) i moved) ec) [
+            | inl loads ↦ loads_moved i moved loads e
+            | inr wide ↦ widened_moved (known q) i moved wide e
+          ]
           by_load false ec h = by_frame (is_framed i moved) refl h
 
       put_falls : (i : Insn) (r : Reg) → put_into i ≡ Some r → (change : Change) → falls notes (known q) change q.fn.slot q.state.top.slot i moved ≡ true → arrives notes (known q) change (Some q.fn.slot) (q.fn.slot + slot_count i) most_extras (q.state.top.slot + slot_count moved) ≡ true
+      put_falls (JumpIf cond width dst src off) r e change h = absurd (none-some _ e)
       put_falls (Ja off) r e change h = absurd (none-some _ e)
       put_falls (JaLong off) r e change h = absurd (none-some _ e)
       put_falls Exit r e change h = absurd (none-some _ e)
@@ -346,6 +360,7 @@ module _ (given : Setting) where
   -- what both store
   by_store : (j : ℕ) (i moved : Insn) (at : At j i moved) (same : Bool) (change : Change) → IsTrue same ↔ (undirected moved ≡ undirected i) → stores (known at.ready) same i moved ≡ Some change
       → goes notes (known at.ready) at.ready.fn.slot at.ready.state.top.slot i moved change ≡ true → Ready given (suc j)
+  unfolding is_dead
   by_store j i moved at same change same_is e goes_is =
       by_pairs j i moved at change (near_pair same same_is e) (wide_pair same same_is e) (store_falls i (is_stored same i moved e) p.0)
     where
@@ -416,7 +431,7 @@ module _ (given : Setting) where
               e' = ap (λ o. option_or o (cond (stores_alike (facts_at q.note) i moved) (reached (known q).left i moved) None)) eo ∙ h
 
   -- from in front of an old instruction to in front of the next one, or to the end
-  by_body : (j : ℕ) (q : Ready given j) → q.note.extras ≡ 0 → IsBody old new notes bounds q.state.top.slot q.note → Ready given (suc j) ⊎ Ended
+  by_body : (j : ℕ) (q : Ready given j) → q.note.extras ≡ 0 → IsBody old new notes bounds (states q.state.top.slot) q.state.top.slot q.note → Ready given (suc j) ⊎ Ended
   unfolding stands paired
   by_body j q body b = by_change (paired (known q) b.same b.insn b.moved) refl b.good
     where
@@ -439,7 +454,7 @@ module _ (given : Setting) where
   body_or_extra : (j : ℕ) (q : Ready given j) → (Ready given (suc j) ⊎ Ended) ⊎ ((n : Ready given j) × (suc n.note.extras ≤ q.note.extras))
   body_or_extra j q = by_extras q.note.extras refl (matches.each q.state.top.slot q.note q.noted)
     where
-      by_extras : (e : ℕ) → q.note.extras ≡ e → IsEither old new notes bounds q.state.top.slot q.note e → (Ready given (suc j) ⊎ Ended) ⊎ ((n : Ready given j) × (suc n.note.extras ≤ q.note.extras))
+      by_extras : (e : ℕ) → q.note.extras ≡ e → IsEither old new notes bounds (states q.state.top.slot) q.state.top.slot q.note e → (Ready given (suc j) ⊎ Ended) ⊎ ((n : Ready given j) × (suc n.note.extras ≤ q.note.extras))
       by_extras zero e x = inl (by_body j q e x)
       by_extras (suc left) e x = let n = extra_step given j left q e x in let few = n.1 in inr (n.0, omega arith)
 

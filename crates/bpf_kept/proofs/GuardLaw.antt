@@ -1,6 +1,6 @@
 -- Guards pass: where the old program's reads follow, what is tested is no greater than the guard's limit.
 use Rattle.std.proofs.Common.{◌≡◌, ℕ, suc, ◌==◌, ◌/◌, ◌*◌, ◌+◌, ◌-◌, ◌%◌, ◌^◌, ◌<◌, ◌≤◌, inl, inr, refl, sym, ap, ◌∙◌, subst, arith, Bool, true, false, List, [], ◌∷◌, Option, Some, None}
-use Rattle.std.specs.Prelude.{ℤ, pos, negsuc, ◌+ℤ◌, ◌-ℤ◌, ◌≤ℤ◌, int_le, ◌&&◌, FitsSigned}
+use Rattle.std.specs.Prelude.{ℤ, pos, negsuc, ◌+ℤ◌, ◌-ℤ◌, ◌≤ℤ◌, int_le, ◌&&◌, ◌||◌, FitsSigned}
 use Rattle.std.specs.Int.{w16, w64, cast_signed}
 use Rattle.std.specs.Option.{option_map_or}
 use Rattle.std.specs.List.{AllByRecursion, list_any}
@@ -96,6 +96,29 @@ at_most x len limit moved a b hx most short first last f t =
     not_above : (u w len limit n size : ℕ) (a b m : ℤ) → pos w ≡ pos u +ℤ ((b -ℤ a) +ℤ pos n) → w < len → size ≡ n + 1 → ((pos len +ℤ m) -ℤ pos limit) ≤ℤ (b +ℤ pos size) → (pos u +ℤ (m -ℤ a)) ≤ℤ pos limit
     not_above u w len limit n size a b m e h s k = omega (arith, ints)
 
+-- a number that is far from all that are below 0 isn't one of them
+small_passes : (x w len limit n : ℕ) (o m : ℤ) → x < 2 ^ 62 → limit < 2 ^ 64 → len < 2 ^ 32 → w < len → n ≤ 7 → FitsSigned w16 o → negsuc (2 ^ 63) ≤ℤ m → Same (pos w) (((pos x -ℤ m) +ℤ o) +ℤ pos n)
+    → ((pos len +ℤ m) -ℤ pos limit) ≤ℤ (o +ℤ (pos n +ℤ pos 1)) → x ≤ limit
+small_passes x w len limit n o m little most short inside few near low s t = let e = s.same in omega (arith, ints)
+
+pub at_most_small : (x len limit : ℕ) (moved : ℤ) (b : Access) → x < 2 ^ 62 → limit < 2 ^ 64 → len < 2 ^ 32 → negsuc (2 ^ 63) ≤ℤ moved → Lies x len moved b
+    → ((pos len +ℤ moved) -ℤ pos limit) ≤ℤ (b.offset +ℤ pos (byte_count b.size)) → x ≤ limit
+at_most_small x len limit moved b little most short low last t =
+    let sb = size_small b.size in
+    let sb0 = sb.0 in
+    let sb1 = sb.1 in
+    let n : ℕ = byte_count b.size - 1 in
+    let hw = last.there n (omega arith) in
+    let size : pos (byte_count b.size) ≡ pos n +ℤ pos 1 = omega (arith, ints) in
+    small_passes x hw.0 len limit n b.offset moved little most short hw.1 (omega arith) last.near low hw.2 (subst (λ z. ((pos len +ℤ moved) -ℤ pos limit) ≤ℤ (b.offset +ℤ z)) size t)
+
+-- a number with its sign isn't below all of 64 bits
+signed_low : (n : ℕ) → n < 2 ^ 64 → negsuc (2 ^ 63) ≤ℤ cast_signed w64 n
+signed_low n small = elim (cases_lt n (2 ^ 63)) [
+  | inl lower ↦ omega (arith, ints)
+  | inr upper ↦ (let c : cast_signed w64 n ≡ negsuc (2 ^ 64 - suc n) = rw (le-ltb n (2 ^ 63) upper) refl in rw c (omega (arith, ints)))
+]
+
 -- ---- one access for both placements
 
 pub any_of : {A : Type 0} (test : A → Bool) (P Q : A → Type 0) (xs : List A) → list_any test xs ≡ true → AllByRecursion P xs → AllByRecursion Q xs → (x : A) × (test x ≡ true) × P x × Q x
@@ -165,10 +188,10 @@ context_same n =
     swap : (z : ℤ) → z +ℤ pos (2 ^ 63) ≡ pos (2 ^ 63) +ℤ z
     swap z = omega (arith, ints)
 
-module _ (padded : Bool) (packet : Packet) (old : Instructions) (len limit slot x : ℕ) (fn fw : FlatState) (short : len < 2 ^ 32) (few : packet.length ≤ len) (within : (a : ℕ) → IsAmong (near padded).context packet.length a → IsAmong (2 ^ 63) len a) (most : limit < addresses) (small : x < addresses) (flat : IsFlat fn) (flat' : IsFlat fw)
+module _ (padded : Bool) (packet : Packet) (old : Instructions) (len limit slot x : ℕ) (fn fw : FlatState) (short : len < 2 ^ 32) (few : packet.length ≤ len) (within : (a : ℕ) → IsAmong (near padded).context packet.length a → IsAmong (2 ^ 63) len a) (most : limit < addresses) (small : x < addresses) (tiny : Bool) (is_tiny : tiny ≡ true → x < 2 ^ 62) (flat : IsFlat fn) (flat' : IsFlat fw)
     (inside : (r : Reg) → AllByRecursion (Inside (near padded) packet.length (flat_register fn r)) (accesses_ahead old r farthest_ahead slot)) (inside' : (r : Reg) → AllByRecursion (Inside (wide padded) packet.length (flat_register fw r)) (accesses_ahead old r farthest_ahead slot)) where
   abbrev pub front : Front
-  front = record { old = old; slot = slot; length = len }
+  front = record { old = old; slot = slot; length = len; small = tiny }
 
   abbrev start : ℕ
   start = frame_start (near false) 0
@@ -197,15 +220,23 @@ module _ (padded : Bool) (packet : Packet) (old : Instructions) (len limit slot 
             (modulo w addresses, one_distance_is_frame padded packet.length 0 0 (modulo w addresses) (omega arith) (omega arith) (modulo_below w) (omega arith) p q, modulo-same w);
       }
 
-  by_accesses : (size : ℕ) (moved : ℤ) (r : Reg) → size < 2 ^ 32 → ((a : Access) → Inside (near padded) packet.length (flat_register fn r) a → Inside (wide padded) packet.length (flat_register fw r) a → Lies x size moved a) → are_accessed front size limit moved r ≡ true → x ≤ limit
+  by_accesses : (size : ℕ) (moved : ℤ) (r : Reg) → size < 2 ^ 32 → negsuc (2 ^ 63) ≤ℤ moved → ((a : Access) → Inside (near padded) packet.length (flat_register fn r) a → Inside (wide padded) packet.length (flat_register fw r) a → Lies x size moved a) → are_accessed front size limit moved r ≡ true → x ≤ limit
   unfolding is_ahead
-  by_accesses size moved r little lies e =
-      let accesses = accesses_ahead old r farthest_ahead slot in
-      let end : ℤ = (pos size +ℤ moved) -ℤ pos limit in
-      let h = and_parts (list_any (is_met (Below moved)) accesses) (list_any (is_met (Above end)) accesses) e in
-      let a = any_of (is_met (Below moved)) (Inside (near padded) packet.length (flat_register fn r)) (Inside (wide padded) packet.length (flat_register fw r)) accesses h.0 (inside r) (inside' r) in
+  by_accesses size moved r little low lies e =
+      let h = and_parts (tiny || list_any (is_met (Below moved)) accesses) (list_any (is_met (Above end)) accesses) e in
       let b = any_of (is_met (Above end)) (Inside (near padded) packet.length (flat_register fn r)) (Inside (wide padded) packet.length (flat_register fw r)) accesses h.1 (inside r) (inside' r) in
-      at_most x size limit moved a.0 b.0 small most little (lies a.0 a.2 a.3) (lies b.0 b.2 b.3) (le_of a.0.offset moved a.1) (le_of end (b.0.offset +ℤ pos (byte_count b.0.size)) b.1)
+      let ends = le_of end (b.0.offset +ℤ pos (byte_count b.0.size)) b.1 in
+      elim (or_cases tiny (list_any (is_met (Below moved)) accesses) h.0) [
+        | inl by_number ↦ at_most_small x size limit moved b.0 (is_tiny by_number) most little low (lies b.0 b.2 b.3) ends
+        | inr by_access ↦ (let a = any_of (is_met (Below moved)) (Inside (near padded) packet.length (flat_register fn r)) (Inside (wide padded) packet.length (flat_register fw r)) accesses by_access (inside r) (inside' r) in
+            at_most x size limit moved a.0 b.0 small most little (lies a.0 a.2 a.3) (lies b.0 b.2 b.3) (le_of a.0.offset moved a.1) ends)
+      ]
+    where
+      accesses : List Access
+      accesses = accesses_ahead old r farthest_ahead slot
+
+      end : ℤ
+      end = (pos size +ℤ moved) -ℤ pos limit
 
   by_context : (t : Term) (r : Reg) → (t.frames == 0) ≡ true → Differs start t (flat_register fn r) x → Differs other t (flat_register fw r) x → are_accessed front len limit (cast_signed w64 ((t.moved + middle) % addresses)) r ≡ true → x ≤ limit
   by_context t r none p q e =
@@ -213,14 +244,14 @@ module _ (padded : Bool) (packet : Packet) (old : Instructions) (len limit slot 
       let s : Same (pos x) (pos (flat_register fn r) +ℤ (pos (2 ^ 63) +ℤ moved)) = same_trans (differs_same start t (flat_register fn r) x p) (same_plus (same_refl (pos (flat_register fn r))) (same_trans (same_equal (plain_shift start t none)) (context_same t.moved))) in
       let s' : Same (pos x) (pos (flat_register fw r) +ℤ (pos (2 ^ 63) +ℤ moved)) = same_trans (differs_same other t (flat_register fw r) x q) (same_plus (same_refl (pos (flat_register fw r))) (same_trans (same_equal (plain_shift other t none)) (context_same t.moved))) in
       let same : flat_register fw r ≡ flat_register fn r = cancelled (flat_register fw r) (flat_register fn r) x x (pos (2 ^ 63) +ℤ moved) (flat'.numbers (register_number r)) (flat.numbers (register_number r)) s' s refl in
-      by_accesses len moved r short (λ a. in_context moved r a same s) e
+      by_accesses len moved r short (signed_low ((t.moved + middle) % addresses) (omega arith)) (λ a. in_context moved r a same s) e
 
   by_frame : (t : Term) (r : Reg) → (t.frames == 1) ≡ true → Differs start t (flat_register fn r) x → Differs other t (flat_register fw r) x → are_accessed front frame_bytes limit (cast_signed w64 (t.moved % addresses)) r ≡ true → x ≤ limit
   by_frame t r one p q e =
       let moved : ℤ = cast_signed w64 (t.moved % addresses) in
       let s : Same (pos x) (pos (flat_register fn r) +ℤ (moved -ℤ pos start)) = same_trans (differs_same start t (flat_register fn r) x p) (same_plus (same_refl (pos (flat_register fn r))) (same_trans (same_equal (frame_shift start t one)) (same_minus (signed_same t.moved) (same_refl (pos start))))) in
       let s' : Same (pos x) (pos (flat_register fw r) +ℤ (moved -ℤ pos other)) = same_trans (differs_same other t (flat_register fw r) x q) (same_plus (same_refl (pos (flat_register fw r))) (same_trans (same_equal (frame_shift other t one)) (same_minus (signed_same t.moved) (same_refl (pos other))))) in
-      by_accesses frame_bytes moved r (omega arith) (λ a. in_frame moved r a s s') e
+      by_accesses frame_bytes moved r (omega arith) (signed_low (t.moved % addresses) (omega arith)) (λ a. in_frame moved r a s s') e
 
   by_pointer : (t : Term) (r : Reg) → Differs start t (flat_register fn r) x → Differs other t (flat_register fw r) x → is_tested_by front limit t r ≡ true → x ≤ limit
   by_pointer t r p q e = elim (or_cases (t.frames == 0 && are_accessed front len limit (cast_signed w64 ((t.moved + middle) % addresses)) r) (t.frames == 1 && are_accessed front frame_bytes limit (cast_signed w64 (t.moved % addresses)) r) e) [

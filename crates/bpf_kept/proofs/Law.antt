@@ -11,6 +11,7 @@ use Rattle.bpf_kept.specs.Zero.{zero_start, zero_after}
 use Rattle.bpf_kept.specs.Meaning.{Bounds, FlatEnds, EndsAt, AreGiven, most_for_one, NeverStuck}
 use Rattle.bpf_kept.specs.declared.notes.TurnsLeft.{TurnsLeft}
 use Rattle.bpf_kept.specs.declared.notes.Change.TheVariants.{Kept}
+use Rattle.bpf_kept.specs.States.{States, AreStates}
 use Rattle.bpf_kept.specs.Terms.{Values, IsCommon, value_in}
 use Rattle.bpf_kept.specs.Counters.{Counts, counts_behind}
 use Rattle.bpf_kept.specs.Matching.{Notes, Cuts, most_at_start, start_slot, starts, start_facts, known_at_start, Matches, StandsForExit}
@@ -92,10 +93,10 @@ module _ (given : Setting) where
 
 -- ---- the law
 
-with_order : (order : Order) (is js : List Insn) (notes : Notes) (bounds : Bounds) → IsProgram is → IsProgram js → Matches (program order is) (program order js) notes bounds → NeverStuck (program order js) bounds.length
+with_order : (order : Order) (is js : List Insn) (notes : Notes) (bounds : Bounds) (states : States) → IsProgram is → IsProgram js → Matches (program order is) (program order js) notes bounds states → NeverStuck (program order js) bounds.length → AreStates (program order js) bounds.length states
     → (own context : List ℕ) (v k l : ℕ) → AreBytes context → length context ≡ bounds.length → AreGiven bounds.padded order own context
     → FlatEnds (near bounds.padded) (program order is) own bounds v k → FlatEnds (wide bounds.padded) (program order is) own bounds v l → EndsAt (program order js) context v (StandsForExit (program order is) notes) (most_for_one * suc (suc k))
-with_order order is js notes bounds old_valid new_valid matches never own context v k l bytes long own_is near_ends wide_ends =
+with_order order is js notes bounds states old_valid new_valid matches never states_are own context v k l bytes long own_is near_ends wide_ends =
     ended (record {
       order = order;
       is = is;
@@ -104,6 +105,7 @@ with_order order is js notes bounds old_valid new_valid matches never own contex
       bounds = bounds;
       old_valid = old_valid;
       new_valid = new_valid;
+      states = states;
       matches = matches;
       own = own;
       context = context;
@@ -111,6 +113,7 @@ with_order order is js notes bounds old_valid new_valid matches never own contex
       bytes = bytes;
       long = long;
       never = λ n s run stuck. never context n s bytes long run stuck;
+      states_are = states_are;
       v = v;
       k = k;
       l = l;
@@ -119,6 +122,6 @@ with_order order is js notes bounds old_valid new_valid matches never own contex
     })
 
 pub matching_keeps_flat_meaning : MatchingKeepsFlatMeaning
-matching_keeps_flat_meaning old new notes bounds old_valid new_valid matches never own context v k l bytes long given near_ends wide_ends =
-    subst (λ order. Matches old (program order new.list) notes bounds → NeverStuck (program order new.list) bounds.length → EndsAt (program order new.list) context v (StandsForExit old notes) (most_for_one * suc (suc k))) (sym matches.order_is)
-    (λ m n. with_order old.order old.list new.list notes bounds old_valid new_valid m n own context v k l bytes long given near_ends wide_ends) matches never
+matching_keeps_flat_meaning old new notes bounds states old_valid new_valid matches never states_are own context v k l bytes long given near_ends wide_ends =
+    subst (λ order. Matches old (program order new.list) notes bounds states → NeverStuck (program order new.list) bounds.length → AreStates (program order new.list) bounds.length states → EndsAt (program order new.list) context v (StandsForExit old notes) (most_for_one * suc (suc k))) (sym matches.order_is)
+    (λ m n a. with_order old.order old.list new.list notes bounds states old_valid new_valid m n a own context v k l bytes long given near_ends wide_ends) matches never states_are

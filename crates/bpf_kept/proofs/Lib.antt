@@ -4,7 +4,10 @@ mod TermLaw
 mod HoldsLaw
 mod FrameLaw
 mod PutValue
+pub mod StatesLaw
 mod PutLaw
+mod WideLaw
+mod BothLaw
 mod ExtraLaw
 mod CountLaw
 mod EdgeLaw
@@ -20,6 +23,7 @@ mod PacketLaw
 mod Setting
 mod Beside
 mod Extras
+mod WayLaw
 mod Follow
 mod StartLaw
 mod Law

@@ -10,6 +10,7 @@ use Rattle.bpf_semantics.specs.Run.{Steps}
 use Rattle.bpf_kept.specs.Far.{middle, bytes_before, near, wide}
 use Rattle.bpf_kept.specs.Meaning.{Bounds, FlatEnds, AreGiven}
 use Rattle.bpf_kept.specs.Terms.{Packet}
+use Rattle.bpf_kept.specs.States.{States, AreStates}
 use Rattle.bpf_kept.specs.Matching.{Notes, Matches}
 use Rattle.bpf_kept.proofs.Simulation.{program}
 
@@ -21,13 +22,15 @@ pub record Setting : Type 0 where
   pub bounds : Bounds
   pub old_valid : IsProgram is
   pub new_valid : IsProgram js
-  pub matches : Matches (program order is) (program order js) notes bounds
+  pub states : States
+  pub matches : Matches (program order is) (program order js) notes bounds states
   pub own : List ℕ
   pub context : List ℕ
   pub own_is : AreGiven bounds.padded order own context
   pub bytes : AreBytes context
   pub long : length context ≡ bounds.length
   pub never : (k : ℕ) (s : State) → Steps (program order js) k (start context) s → IsStuck (program order js) s → ⊥
+  pub states_are : AreStates (program order js) bounds.length states
   pub v : ℕ
   pub k : ℕ
   pub l : ℕ

@@ -34,8 +34,8 @@ use Rattle.bpf_semantics.proofs.SlotLaw.{step_keeps_context}
 use Rattle.bpf_semantics.proofs.StateLemmas.{exit_is, left_is, value_fits, operand_value_fits, option_map_some}
 use Rattle.bpf_kept.specs.Zero.{zero_does}
 use Rattle.bpf_kept.specs.Terms.{Facts}
-use Rattle.bpf_kept.specs.Rules.{put_into, undirected, is_jump}
-use Rattle.bpf_kept.specs.Guards.{Front, guarded, guards_sum, has_end, register_reached, number_reached, passes}
+use Rattle.bpf_kept.specs.Rules.{Known, put_into, undirected, is_jump}
+use Rattle.bpf_kept.specs.Guards.{Front, has_end, register_reached, number_reached, at_number, is_limited, passes}
 use Rattle.bpf_kept.specs.Meaning.{most_for_one}
 use Rattle.bpf_kept.specs.Matching.{most_extras, most_at_start, led}
 use Rattle.bpf_kept.proofs.PutValue.{put_value}
@@ -80,12 +80,12 @@ guard_number order s t dst src off e =
     option_and_then_some _ (register s dst) t e (λ a ea e1. option_and_then_some _ (operand s src) t e1 (λ b eb e2. option_and_then_some _ (test_of_values W64 Gt a b) t e2 (λ taken et e3.
     let n = tests_number a b taken et in (n.0, ea ∙ ap Some n.1))))
 
-pub record IsGuard (front : Front) (facts : Facts) (m : Insn) : Type 0 where
+pub record IsGuard (front : Front) (known : Known) (m : Insn) : Type 0 where
   pub dst : Reg
   pub imm : ℤ
   pub off : ℤ
   pub is : m ≡ JumpIf Gt W64 dst (Imm imm) off
-  pub tested : (list_any (guarded front dst (extended imm)) facts || guards_sum front facts dst (extended imm)) ≡ true
+  pub tested : is_limited (at_number front known.state dst) known.facts dst (extended imm) ≡ true
 
 -- by the packet's end
 pub record IsEndGuard (front : Front) (facts : Facts) (m : Insn) : Type 0 where
@@ -105,16 +105,16 @@ pub record IsLeastGuard (front : Front) (facts : Facts) (m : Insn) : Type 0 wher
   pub ends : has_end facts dst ≡ true
   pub reached : list_any (number_reached front (extended imm)) facts ≡ true
 
-pub guard_is : (front : Front) (facts : Facts) (m : Insn) → passes front facts m ≡ true → IsGuard front facts m ⊎ (IsEndGuard front facts m ⊎ IsLeastGuard front facts m)
+pub guard_is : (front : Front) (known : Known) (m : Insn) → passes front known m ≡ true → IsGuard front known m ⊎ (IsEndGuard front known.facts m ⊎ IsLeastGuard front known.facts m)
 unfolding passes
-guard_is front facts (JumpIf Gt W64 dst (Imm imm) off) e = inl (record { dst = dst; imm = imm; off = off; is = refl; tested = e })
-guard_is front facts (JumpIf Gt W64 dst (FromReg src) off) e =
-    let c = and_parts (has_end facts src) (list_any (register_reached front dst) facts) e in
+guard_is front known (JumpIf Gt W64 dst (Imm imm) off) e = inl (record { dst = dst; imm = imm; off = off; is = refl; tested = e })
+guard_is front known (JumpIf Gt W64 dst (FromReg src) off) e =
+    let c = and_parts (has_end known.facts src) (list_any (register_reached front dst) known.facts) e in
     inr (inl (record { dst = dst; src = src; off = off; is = refl; ends = c.0; reached = c.1 }))
-guard_is front facts (JumpIf Lt W64 dst (Imm imm) off) e =
-    let c = and_parts (has_end facts dst) (list_any (number_reached front (extended imm)) facts) e in
+guard_is front known (JumpIf Lt W64 dst (Imm imm) off) e =
+    let c = and_parts (has_end known.facts dst) (list_any (number_reached front (extended imm)) known.facts) e in
     inr (inr (record { dst = dst; imm = imm; off = off; is = refl; ends = c.0; reached = c.1 }))
-guard_is front facts m e = absurd (false≢true e)
+guard_is front known m e = absurd (false≢true e)
 
 pub end_does : (order : Order) (dst src : Reg) (off : ℤ) (g : FlatState) → flat_register g dst ≤ flat_register g src → flat_does order (JumpIf Gt W64 dst (FromReg src) off) g ≡ Some (flat_next (JumpIf Gt W64 dst (FromReg src) off) g)
 unfolding flat_does

@@ -1,4 +1,5 @@
 -- The start: what holds there, and in blocks how the new program comes to the packet's length.
+use Rattle.std.proofs.lemmas.Option.{none-some}
 use Rattle.std.proofs.Common.{◌≡◌, ℕ, zero, suc, ◌+◌, ◌-◌, ◌*◌, ◌%◌, ◌^◌, ◌<◌, ◌≤◌, inl, inr, refl, sym, ap, ap₂, ◌∙◌, subst, arith, Bool, true, false, List, [], ◌∷◌, ◌++◌, length, Option, Some, None, cond}
 use Rattle.std.specs.Prelude.{pos, ◌+ℤ◌, ◌&&◌, ◌==◌, take, ltb, leb, slice_index}
 use Rattle.std.proofs.lemmas.Bool.{cond_both, cond-true, ltb-true, lt-leb, le-leb, lt-ltb, le-ltb, cases_lt, false≢true}
@@ -38,6 +39,7 @@ use Rattle.bpf_kept.proofs.HoldsLaw.{IsHigh, all_both, plain_shift}
 use Rattle.bpf_kept.proofs.FrameLaw.{IsRoomy, bytes_alike}
 use Rattle.bpf_kept.proofs.TermLaw.{shift_constant}
 use Rattle.bpf_kept.proofs.EdgeLaw.{slot_facts_hold, slot_below, numbers_equal}
+use Rattle.bpf_kept.proofs.StatesLaw.{register_has}
 use Rattle.bpf_kept.proofs.Isolated.{AreAlone, starts_alone}
 use Rattle.bpf_kept.proofs.Simulation.{program, test_jumps, test_falls}
 use Rattle.bpf_kept.proofs.PacketLaw.{taken_at, taken_exactly, own_fits, given_is, byte_inside, length_told, length_cut}
@@ -210,7 +212,7 @@ module _ (given : Setting) where
 
   -- nothing is known yet
   abbrev bare : Known
-  bare = record { facts = []; apart = []; counters = []; turns = bounds.turns; left = 0 }
+  bare = record { facts = []; apart = []; counters = []; turns = bounds.turns; left = 0; state = None }
 
   pub near_common : IsCommon (frame_start (near false) 0) (packet_of given) [] near_start (cut (near false) 0 0)
   near_common a small seen out = start_same bounds.padded order own context (near false) (near bounds.padded) refl refl own_is a seen
@@ -223,8 +225,8 @@ module _ (given : Setting) where
       record {
         run = c.run;
         alone = c.alone;
-        near_at = record { high = near_high; room = near_room; flat = near_state.flat; new_flat = c.near_fits.flat; common = near_common; pointers = (refl, refl); all = tt };
-        wide_at = record { high = wide_high; room = wide_room; flat = wide_state.flat; new_flat = c.wide_fits.flat; common = wide_common; pointers = (refl, refl); all = tt };
+        near_at = record { high = near_high; room = near_room; flat = near_state.flat; new_flat = c.near_fits.flat; common = near_common; pointers = (refl, refl); numbers = register_has None c.near_fits c.near_fits.flat (λ a e. absurd (none-some a e)); all = tt };
+        wide_at = record { high = wide_high; room = wide_room; flat = wide_state.flat; new_flat = c.wide_fits.flat; common = wide_common; pointers = (refl, refl); numbers = register_has None c.wide_fits c.wide_fits.flat (λ a e. absurd (none-some a e)); all = tt };
         near_fits = c.near_fits;
         wide_fits = c.wide_fits;
         counted = tt;

@@ -1,5 +1,5 @@
 -- Guards: extra tests that never lead to their trap where the old program's run goes on to its end. Nothing here speaks of runs.
-use Rattle.std.specs.Prelude.{ℕ, zero, suc, ◌+◌, ◌%◌, ◌==◌, ℤ, pos, ◌+ℤ◌, ◌-ℤ◌, int_le, Bool, false, not, ◌&&◌, ◌||◌, List, [], ◌∷◌, ◌++◌, if◌then◌else◌}
+use Rattle.std.specs.Prelude.{ℕ, zero, suc, ◌+◌, ◌%◌, ◌^◌, ◌==◌, nat_lt, ℤ, pos, ◌+ℤ◌, ◌-ℤ◌, int_le, Bool, false, not, ◌&&◌, ◌||◌, List, [], ◌∷◌, ◌++◌, Option, if◌then◌else◌}
 use Rattle.std.specs.Int.{cast_signed, w64}
 use Rattle.std.specs.List.{list_any}
 use Rattle.std.specs.Option.{option_map_or}
@@ -16,9 +16,11 @@ use Rattle.bpf_insn.specs.declared.instruction.Insn.{Insn}
 use Rattle.bpf_insn.specs.declared.instruction.Insn.TheVariants.{Alu, JumpIf}
 use Rattle.bpf_semantics.specs.Blocks.{head_bytes}
 use Rattle.bpf_semantics.specs.Flat.{addresses}
+use Rattle.bpf_state.specs.State.{AbstractState}
 use Rattle.bpf_kept.specs.Far.{middle}
 use Rattle.bpf_kept.specs.Terms.{Facts}
-use Rattle.bpf_kept.specs.Rules.{same_register, is_holder, is_register, is_same, pinned, of_number}
+use Rattle.bpf_kept.specs.States.{held_number}
+use Rattle.bpf_kept.specs.Rules.{Known, same_register, is_holder, is_register, is_same, pinned, of_number}
 use Rattle.bpf_kept.specs.declared.notes.Holder.{Holder}
 use Rattle.bpf_kept.specs.declared.notes.Holder.TheVariants.{Register, Slot, Length}
 use Rattle.bpf_kept.specs.declared.notes.Term.{Term}
@@ -48,11 +50,12 @@ farthest_ahead = 33
 
 -- ---- the guard's rule
 
--- In front of which old instruction it stands, and how many bytes a context has.
+-- In front of which old instruction it stands, how many bytes a context has, and whether what it tests is surely small.
 pub record Front : Type 0 where
   pub old : Instructions
   pub slot : ℕ
   pub length : ℕ
+  pub small : Bool
 
 abbrev pub is_met : Need → Access → Bool
 is_met (Below offset) a = int_le a.offset offset
@@ -61,10 +64,18 @@ is_met (Above offset) a = int_le offset (a.offset +ℤ pos (byte_count a.size))
 unfoldable pub is_ahead : Instructions → Reg → ℕ → Need → Bool
 is_ahead old r slot need = list_any (is_met need) (accesses_ahead old r farthest_ahead slot)
 
--- An access by the pointer begins at or below what the guard tests, so that this isn't below 0; and one ends so far on that the guard's limit isn't
--- passed. Both lie in a region of so many bytes.
+-- a small number is far from all that are below 0 as offsets
+abbrev pub small_end : ℕ
+small_end = 2 ^ 62
+
+abbrev pub is_small : Option AbstractState → Reg → Bool
+is_small state r = nat_lt (held_number state r).unsigned.hi small_end
+
+-- What the guard tests isn't below 0: it is small, or an access by the pointer begins at or below it. And one ends so far on that the guard's limit
+-- isn't passed. Both lie in a region of so many bytes.
 abbrev pub are_accessed : Front → ℕ → ℕ → ℤ → Reg → Bool
-are_accessed front length limit moved r = is_ahead front.old r front.slot (Below moved) && is_ahead front.old r front.slot (Above ((pos length +ℤ moved) -ℤ pos limit))
+are_accessed front length limit moved r =
+    (front.small || is_ahead front.old r front.slot (Below moved)) && is_ahead front.old r front.slot (Above ((pos length +ℤ moved) -ℤ pos limit))
 
 -- what is tested is the offset of a pointer into the context, or into the frame, moved
 abbrev pub is_tested_by : Front → ℕ → Term → Reg → Bool
@@ -86,7 +97,7 @@ guarded front dst limit fact = is_register dst fact.of && is_tested front limit 
 -- pointer that an index has moved before, the number alone says nothing.
 abbrev pub is_added : Front → Facts → Reg → ℕ → Insn → Bool
 is_added front facts dst limit (Alu Add W64 to (FromReg r)) =
-    same_register r dst && (is_same facts dst && option_map_or (λ t. is_tested_by (record { old = front.old; slot = front.slot + 1; length = front.length }) limit t to) (pinned facts (Register to)) false)
+    same_register r dst && (is_same facts dst && option_map_or (λ t. is_tested_by (record front { slot = front.slot + 1 }) limit t to) (pinned facts (Register to)) false)
 is_added front facts dst limit i = false
 
 unfoldable pub guards_sum : Front → Facts → Reg → ℕ → Bool
@@ -122,8 +133,15 @@ register_reached front dst fact = is_register dst fact.of && is_reached front fa
 abbrev pub number_reached : Front → ℕ → Fact → Bool
 number_reached front n fact = option_map_or (is_reached front) (of_number n fact) false
 
-unfoldable pub passes : Front → Facts → Insn → Bool
-passes front facts (JumpIf Gt W64 dst (Imm imm) off) = list_any (guarded front dst (extended imm)) facts || guards_sum front facts dst (extended imm)
-passes front facts (JumpIf Gt W64 dst (FromReg src) off) = has_end facts src && list_any (register_reached front dst) facts
-passes front facts (JumpIf Lt W64 dst (Imm imm) off) = has_end facts dst && list_any (number_reached front (extended imm)) facts
-passes front facts i = false
+-- where the register is small that is tested
+abbrev pub at_number : Front → Option AbstractState → Reg → Front
+at_number front state dst = record front { small = is_small state dst }
+
+abbrev pub is_limited : Front → Facts → Reg → ℕ → Bool
+is_limited front facts dst limit = list_any (guarded front dst limit) facts || guards_sum front facts dst limit
+
+unfoldable pub passes : Front → Known → Insn → Bool
+passes front known (JumpIf Gt W64 dst (Imm imm) off) = is_limited (at_number front known.state dst) known.facts dst (extended imm)
+passes front known (JumpIf Gt W64 dst (FromReg src) off) = has_end known.facts src && list_any (register_reached front dst) known.facts
+passes front known (JumpIf Lt W64 dst (Imm imm) off) = has_end known.facts dst && list_any (number_reached front (extended imm)) known.facts
+passes front known i = false

@@ -13,6 +13,8 @@ pub mod Exact
 pub mod Terms
 -- the slots of the frame
 pub mod Slots
+-- what is known of the new program's numbers by itself
+pub mod States
 -- what instructions make of that
 pub mod Rules
 -- counters of turns

@@ -16,6 +16,7 @@ use Rattle.bpf_insn.specs.declared.instruction.Cond.TheVariants.{Le}
 use Rattle.bpf_insn.specs.declared.instruction.Insn.TheVariants.{Alu, Load, Store, StoreImm, JumpIf, Exit}
 use Rattle.bpf_semantics.specs.Blocks.{head_bytes}
 use Rattle.bpf_semantics.specs.Flat.{addresses}
+use Rattle.bpf_state.specs.State.{AbstractState}
 use Rattle.bpf_kept.specs.Far.{middle, bytes_before}
 use Rattle.bpf_kept.specs.declared.notes.Holder.{Holder}
 use Rattle.bpf_kept.specs.declared.notes.Holder.TheVariants.{Register, Slot, Length}
@@ -26,7 +27,8 @@ use Rattle.bpf_kept.specs.declared.notes.Change.TheVariants.{Kept, Made}
 use Rattle.bpf_kept.specs.Meaning.{Bounds}
 use Rattle.bpf_kept.specs.Terms.{Facts, is_noted, frame_slots, constant, zero_term, context_offset, negated}
 use Rattle.bpf_kept.specs.Slots.{slot_facts, slot_at}
-use Rattle.bpf_kept.specs.Rules.{Known, put_into, undirected, paired, holds_behind, by_itself, are_told}
+use Rattle.bpf_kept.specs.States.{States}
+use Rattle.bpf_kept.specs.Rules.{Known, put_into, undirected, is_dead, paired, holds_behind, by_itself, are_told}
 use Rattle.bpf_kept.specs.Counters.{all_count_behind, has_turn}
 use Rattle.bpf_kept.specs.Guards.{Front, passes}
 
@@ -75,8 +77,9 @@ hands_frame i = false
 unfoldable pub left_alone : Instructions → ℕ → ℕ
 left_alone new untouched = if list_all (λ i. not (hands_frame i)) new.list then frame_bytes else untouched
 
-abbrev pub known_at : Instructions → Bounds → Note → Known
-known_at new bounds note = record { facts = facts_at note; apart = note.apart; counters = note.counters; turns = bounds.turns; left = left_alone new bounds.untouched }
+abbrev pub known_at : Instructions → Bounds → Option AbstractState → Note → Known
+known_at new bounds state note =
+    record { facts = facts_at note; apart = note.apart; counters = note.counters; turns = bounds.turns; left = left_alone new bounds.untouched; state = state }
 
 -- ---- edges
 
@@ -97,16 +100,16 @@ arrives notes known change step slot most new_slot = option_map_or (suits known 
 abbrev pub led : ℕ → Insn → Option ℕ
 led slot i = distance i >>= target slot
 
--- the next one stands behind it, if it may follow
+-- the next one stands behind it, if it may follow and the way isn't dead
 abbrev pub falls : Notes → Known → Change → ℕ → ℕ → Insn → Insn → Bool
-falls notes known change slot new_slot i moved = if goes_on i then arrives notes known change (Some slot) (slot + slot_count i) most_extras (new_slot + slot_count moved) else true
+falls notes known change slot new_slot i moved = if goes_on i && not (is_dead known i moved false) then arrives notes known change (Some slot) (slot + slot_count i) most_extras (new_slot + slot_count moved) else true
 
--- where the old one leads, the new one leads
+-- where the old one leads, the new one leads, if the way isn't dead
 abbrev pub leads_to : Notes → Known → Change → ℕ → ℕ → Insn → ℕ → Bool
 leads_to notes known change slot new_slot moved to = option_map_or (arrives notes known change (Some slot) to most_extras) (led new_slot moved) false
 
 abbrev pub leads : Notes → Known → Change → ℕ → ℕ → Insn → Insn → Bool
-leads notes known change slot new_slot i moved = option_map_or (leads_to notes known change slot new_slot moved) (led slot i) true
+leads notes known change slot new_slot i moved = is_dead known i moved true || option_map_or (leads_to notes known change slot new_slot moved) (led slot i) true
 
 abbrev pub goes : Notes → Known → ℕ → ℕ → Insn → Insn → Change → Bool
 goes notes known slot new_slot i moved change = falls notes known change slot new_slot i moved && leads notes known change slot new_slot i moved
@@ -127,7 +130,7 @@ makes moved = option_map (λ h. Made h moved) (made_in moved)
 
 -- a guard or the test of a counter that passes, or what is made
 unfoldable pub extra : Front → Known → Insn → Option Change
-extra front known moved = if passes front known.facts moved || has_turn known.counters front.slot moved then Some Kept else makes moved
+extra front known moved = if passes front known moved || has_turn known.counters front.slot moved then Some Kept else makes moved
 
 -- the next one has fewer extra ones in front
 unfoldable pub adds : Notes → Front → Known → ℕ → ℕ → Insn → Bool
@@ -135,28 +138,28 @@ adds notes front known left new_slot moved = option_map_or (λ change. arrives n
 
 -- ---- what is noted of a new slot
 
-pub record IsBody (old new : Instructions) (notes : Notes) (bounds : Bounds) (slot : ℕ) (note : Note) : Type 0 where
+pub record IsBody (old new : Instructions) (notes : Notes) (bounds : Bounds) (state : Option AbstractState) (slot : ℕ) (note : Note) : Type 0 where
   pub insn : Insn
   pub insn_is : insn_at old.list note.old ≡ Some insn
   pub moved : Insn
   pub moved_is : insn_at new.list slot ≡ Some moved
   pub same : Bool
   pub same_is : IsTrue same ↔ (undirected moved ≡ undirected insn)
-  pub good : stands notes (known_at new bounds note) same note.old slot insn moved ≡ true
+  pub good : stands notes (known_at new bounds state note) same note.old slot insn moved ≡ true
 
-pub record IsExtra (old new : Instructions) (notes : Notes) (bounds : Bounds) (slot : ℕ) (note : Note) (left : ℕ) : Type 0 where
+pub record IsExtra (old new : Instructions) (notes : Notes) (bounds : Bounds) (state : Option AbstractState) (slot : ℕ) (note : Note) (left : ℕ) : Type 0 where
   pub moved : Insn
   pub moved_is : insn_at new.list slot ≡ Some moved
-  pub good : adds notes (record { old = old; slot = note.old; length = bounds.length }) (known_at new bounds note) left slot moved ≡ true
+  pub good : adds notes (record { old = old; slot = note.old; length = bounds.length; small = false }) (known_at new bounds state note) left slot moved ≡ true
 
 -- by how many extra instructions stand from here on
-abbrev pub IsEither : Instructions → Instructions → Notes → Bounds → ℕ → Note → ℕ → Type 0
-IsEither old new notes bounds slot note zero = IsBody old new notes bounds slot note
-IsEither old new notes bounds slot note (suc left) = IsExtra old new notes bounds slot note left
+abbrev pub IsEither : Instructions → Instructions → Notes → Bounds → Option AbstractState → ℕ → Note → ℕ → Type 0
+IsEither old new notes bounds state slot note zero = IsBody old new notes bounds state slot note
+IsEither old new notes bounds state slot note (suc left) = IsExtra old new notes bounds state slot note left
 
--- what is noted of a slot holds there
-abbrev pub HoldsAt : Instructions → Instructions → Notes → Bounds → ℕ → Type 0
-HoldsAt old new notes bounds slot = (note : Note) → note_at notes slot ≡ Some note → IsEither old new notes bounds slot note note.extras
+-- what is noted of a slot holds there, where the new program's state is this
+abbrev pub HoldsAt : Instructions → Instructions → Notes → Bounds → Option AbstractState → ℕ → Type 0
+HoldsAt old new notes bounds state slot = (note : Note) → note_at notes slot ≡ Some note → IsEither old new notes bounds state slot note note.extras
 
 -- ---- the start
 
@@ -193,21 +196,21 @@ start_facts padded =
     ∷ slot_facts is_zero_slot (λ n. true) frame_slots ++ slot_facts same_slot (λ n. true) frame_slots
 
 unfoldable pub known_at_start : Instructions → Bounds → Known
-known_at_start new bounds = record { facts = start_facts bounds.padded; apart = []; counters = []; turns = bounds.turns; left = left_alone new bounds.untouched }
+known_at_start new bounds = record { facts = start_facts bounds.padded; apart = []; counters = []; turns = bounds.turns; left = left_alone new bounds.untouched; state = None }
 
 unfoldable pub starts : Notes → Instructions → Bounds → Bool
 starts notes new bounds = arrives notes (known_at_start new bounds) Kept None 0 (most_at_start - start_slot bounds.padded) (start_slot bounds.padded)
 
 -- ---- the notes match
 
-pub record Matches (old new : Instructions) (notes : Notes) (bounds : Bounds) : Type 0 where
+pub record Matches (old new : Instructions) (notes : Notes) (bounds : Bounds) (states : States) : Type 0 where
   pub short : bounds.length < 2 ^ 32
   pub few_turns : bounds.turns < addresses
   pub order_is : new.order ≡ old.order
   pub few : count notes ≤ slots new.list
   pub cuts : bounds.padded ≡ true → Cuts new bounds.length
   pub start : starts notes new bounds ≡ true
-  pub each : (slot : ℕ) → HoldsAt old new notes bounds slot
+  pub each : (slot : ℕ) → HoldsAt old new notes bounds (states slot) slot
 
 -- ---- which exits of the new program are named
 

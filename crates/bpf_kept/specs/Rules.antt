@@ -22,6 +22,9 @@ use Rattle.bpf_insn.specs.declared.instruction.EndBits.TheVariants.{B16 as E16, 
 use Rattle.bpf_insn.specs.declared.instruction.Insn.{Insn}
 use Rattle.bpf_insn.specs.declared.instruction.Insn.TheVariants.{Alu, Neg, MovSx, End, LoadImm64, Load, LoadSx, Store, StoreImm, Ja, JaLong, JumpIf, CallLocal, Exit}
 use Rattle.bpf_semantics.specs.Flat.{addresses}
+use Rattle.bpf_num.specs.Operation.{num_alu}
+use Rattle.bpf_num.specs.Refine.{refine}
+use Rattle.bpf_state.specs.State.{AbstractState}
 use Rattle.bpf_kept.specs.Far.{middle}
 use Rattle.bpf_kept.specs.declared.notes.Holder.{Holder}
 use Rattle.bpf_kept.specs.declared.notes.Holder.TheVariants.{Register, Slot, Length}
@@ -32,15 +35,18 @@ use Rattle.bpf_kept.specs.declared.notes.Change.{Change}
 use Rattle.bpf_kept.specs.declared.notes.Change.TheVariants.{Kept, Put, Stored, Made}
 use Rattle.bpf_kept.specs.Terms.{Facts, is_noted, frame_slots, constant, zero_term, frame_offset, frame_end, plus, minus, negated, times}
 use Rattle.bpf_kept.specs.Slots.{each_slot, slot_at, misses, reaches, is_clear}
+use Rattle.bpf_kept.specs.States.{held_number, operand_number}
 
 -- What is known in front of an instruction: facts; which slots of the frame may differ; what counts turns, where the old program may come to an
--- instruction so often; and how many of the frame's lowest bytes no access by another register than r10 goes to.
+-- instruction so often; how many of the frame's lowest bytes no access by another register than r10 goes to; and the new program's state, if its
+-- certificate has one.
 pub record Known : Type 0 where
   pub facts : Facts
   pub apart : List Bool
   pub counters : List (Option TurnsLeft)
   pub turns : ℕ
   pub left : ℕ
+  pub state : Option AbstractState
 
 -- ---- which facts give which
 
@@ -197,6 +203,40 @@ abbrev pub has_low_result : Facts → Insn → Bool
 has_low_result facts (Alu op W64 dst src) = keeps_low op && list_all (is_low facts) (registers_read (Alu op W64 dst src))
 has_low_result facts i = false
 
+-- ---- operations of 32 bits, for which the new program has those of 64 bits
+
+-- one operation in both, whose low half depends on low halves alone
+abbrev pub widened_op : AluOp → AluOp → Bool
+widened_op Add Add = true
+widened_op Sub Sub = true
+widened_op Mul Mul = true
+widened_op And And = true
+widened_op Or Or = true
+widened_op Xor Xor = true
+widened_op Lsh Lsh = true
+widened_op Mov Mov = true
+widened_op op other = false
+
+abbrev pub same_operand : Operand → Operand → Bool
+same_operand (Imm a) (Imm b) = int_eq a b
+same_operand (FromReg a) (FromReg b) = same_register a b
+same_operand a b = false
+
+-- by 32 and more both shift differently
+abbrev pub shifts_alike : Known → AluOp → Operand → Bool
+shifts_alike known Lsh src = nat_lt (operand_number known.state src).unsigned.hi 32
+shifts_alike known op src = true
+
+-- By what is known of the new program's numbers its result has 32 bits at most.
+abbrev pub has_few_bits : Known → AluOp → Reg → Operand → Bool
+has_few_bits known op dst src = option_map_or (λ n. nat_lt n.unsigned.hi (2 ^ 32)) (num_alu W64 op (held_number known.state dst) (operand_number known.state src)) false
+
+-- What is operated on has the same low halves, so the result is the same.
+unfoldable pub is_widened : Known → Insn → Insn → Bool
+is_widened known (Alu op W32 dst src) (Alu other W64 into from) =
+    widened_op op other && (same_register dst into && (same_operand src from && (list_all (is_low known.facts) (registers_read (Alu other W64 into from)) && (shifts_alike known other from && has_few_bits known other into from))))
+is_widened known i moved = false
+
 -- ---- numbers by themselves
 
 -- What the old program has in a register or slot is one number: with a term it is 0. An index that isn't known has no such term.
@@ -290,6 +330,16 @@ abbrev pub by_order : Facts → Insn → Insn → Bool
 by_order facts (JumpIf cond W64 dst (FromReg src) off) (JumpIf other W64 left (FromReg right) new_off) = turned_test cond other && (same_register dst left && (same_register src right && are are_offsets facts dst src))
 by_order facts i moved = false
 
+-- by what is known of the new program's numbers its test never answers so
+abbrev pub never_answers : Known → Insn → Bool → Bool
+never_answers known (JumpIf cond width dst src off) taken = is_none (refine cond width taken (held_number known.state dst) (operand_number known.state src))
+never_answers known i taken = false
+
+-- a way of two tests that answer alike, where the test holds (`taken`) or fails, that neither program ever goes
+unfoldable pub is_dead : Known → Insn → Insn → Bool → Bool
+is_dead known (JumpIf cond width dst src off) moved taken = never_answers known moved taken
+is_dead known i moved taken = false
+
 -- ---- an instruction, and the one that stands for it
 
 -- but for where they lead
@@ -321,7 +371,7 @@ low_result facts i = if has_low_result facts i then Some None else None
 
 abbrev pub put_by : Known → Bool → Insn → Insn → Option (Option Term)
 put_by known true i moved = option_or (option_map Some (result_term known i)) (low_result known.facts i)
-put_by known false i moved = if loads_alike known i moved then Some (Some zero_term) else if is_framed i moved then Some (Some frame_offset) else None
+put_by known false i moved = if loads_alike known i moved || is_widened known i moved then Some (Some zero_term) else if is_framed i moved then Some (Some frame_offset) else None
 
 -- and so is what it puts or stores
 abbrev pub pin_of : Facts → Insn → Option Term

@@ -10,6 +10,7 @@ use crate::known::KnownHere;
 use crate::notes::{Change, Fact, Holder, Term};
 use crate::results::{low_result, put_into, reads_same, result_term};
 use crate::terms::{are_offsets, frame_offset, same_term, zero};
+use crate::widened::is_widened;
 use bpf_insn::{AluOp, Cond, FRAME_BYTES, Insn, Operand, Reg, Width};
 
 /// Whether one moves the end of the own frame to a register, and the other puts its offset there.
@@ -195,7 +196,7 @@ fn put_by(known: &KnownHere<'_>, same: bool, insn: &Insn, moved: &Insn) -> Optio
             Some(t) => Some(Some(t)),
             None => low_result(known.facts, insn),
         }
-    } else if loads_alike(known, insn, moved) {
+    } else if loads_alike(known, insn, moved) || is_widened(known, insn, moved) {
         Some(Some(zero()))
     } else if is_framed(insn, moved) {
         Some(Some(frame_offset()))

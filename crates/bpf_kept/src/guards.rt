@@ -10,7 +10,8 @@ ghost use Rattle.std.specs.List.{list_any};
 ghost use Rattle.bpf_semantics.specs.Flat.{addresses};
 ghost use Rattle.bpf_kept.specs.Far.{middle};
 ghost use Rattle.bpf_kept.specs.Fronts.{front};
-ghost use Rattle.bpf_kept.specs.Guards.{if_by, accesses_by, is_passed, is_met, is_ahead, are_accessed, is_tested_by, is_tested, guarded, is_added, guards_sum, is_end_term, is_end, has_end, is_reached_by, is_reached, register_reached, number_reached, passes};
+ghost use Rattle.bpf_kept.specs.Guards.{if_by, accesses_by, is_passed, is_met, is_ahead, are_accessed, is_tested_by, is_tested, guarded, is_added, guards_sum, is_end_term, is_end, has_end, is_reached_by, is_reached, register_reached, number_reached, at_number, is_limited, passes};
+ghost use Rattle.bpf_kept.specs.Knowns.{known_of};
 ghost use Rattle.bpf_kept.specs.Rules.{pinned};
 ghost use Rattle.bpf_kept.specs.declared.notes.Holder.TheVariants.{Register};
 ghost use Rattle.bpf_insn.specs.declared.instruction.Width.TheVariants.{W64};
@@ -19,8 +20,10 @@ ghost use Rattle.bpf_insn.specs.Limits.{max_slots};
 
 use crate::code::insn_at;
 use crate::facts::{is_holder, is_register, is_same, pinned, same_register};
+use crate::known::KnownHere;
 use crate::made::of_number;
 use crate::notes::{Fact, Holder, Need, Term};
+use crate::states::is_small;
 use crate::terms::MIDDLE;
 use bpf_insn::{Access, AluOp, Code, Cond, FRAME_BYTES, Insn, Operand, Reg, Size, Width, extended};
 use bpf_semantics::HEAD_BYTES;
@@ -28,11 +31,12 @@ use bpf_semantics::HEAD_BYTES;
 /// How many instructions are looked at.
 const FARTHEST_AHEAD: u32 = 33;
 
-/// In front of which old instruction a guard stands, and how many bytes a context has.
+/// In front of which old instruction a guard stands, how many bytes a context has, and whether what is tested is surely small.
 #[derive(Clone, Copy)]
 pub struct GuardSite {
     pub slot: u32,
     pub length: u32,
+    pub small: bool,
 }
 
 // ---- accesses that surely follow
@@ -130,7 +134,7 @@ struct Tested {
 
 /// Whether accesses follow that keep the number within the limit.
 fn are_accessed<C: Code>(old: &C, site: GuardSite, tested: Tested, r: Reg) -> bool
-    ensures { result ≡ are_accessed (front (C.program old.now) site.slot site.length) tested.size tested.limit tested.moved r }
+    ensures { result ≡ are_accessed (front (C.program old.now) site.slot site.length site.small) tested.size tested.limit tested.moved r }
 {
     let below = Need::Below {
         offset: tested.moved,
@@ -138,7 +142,7 @@ fn are_accessed<C: Code>(old: &C, site: GuardSite, tested: Tested, r: Reg) -> bo
     let above = Need::Above {
         offset: needed_end(tested.size, tested.moved, tested.limit),
     };
-    is_ahead(old, site.slot, r, below) && is_ahead(old, site.slot, r, above)
+    (site.small || is_ahead(old, site.slot, r, below)) && is_ahead(old, site.slot, r, above)
 }
 
 /// An offset into the context, with its sign.
@@ -157,7 +161,7 @@ fn of_frame(moved: u64) -> i64
 
 /// Whether a number passes that is so far from a pointer of the old program.
 fn is_tested_by<C: Code>(old: &C, site: GuardSite, limit: u64, t: Term, r: Reg) -> bool
-    ensures { result ≡ is_tested_by (front (C.program old.now) site.slot site.length) limit t r }
+    ensures { result ≡ is_tested_by (front (C.program old.now) site.slot site.length site.small) limit t r }
 {
     let context = Tested {
         size: site.length,
@@ -175,7 +179,7 @@ fn is_tested_by<C: Code>(old: &C, site: GuardSite, limit: u64, t: Term, r: Reg) 
 
 /// Whether a number passes of which a fact is known.
 fn is_tested<C: Code>(old: &C, site: GuardSite, limit: u64, fact: Fact) -> bool
-    ensures { result ≡ is_tested (front (C.program old.now) site.slot site.length) limit fact }
+    ensures { result ≡ is_tested (front (C.program old.now) site.slot site.length site.small) limit fact }
 {
     match (fact.by, fact.base) {
         (Some(t), Some(Holder::Register(r))) => is_tested_by(old, site, limit, t, r),
@@ -185,7 +189,7 @@ fn is_tested<C: Code>(old: &C, site: GuardSite, limit: u64, fact: Fact) -> bool
 
 /// Whether a register passes by a fact of it.
 fn guarded<C: Code>(old: &C, site: GuardSite, dst: Reg, limit: u64, fact: Fact) -> bool
-    ensures { result ≡ guarded (front (C.program old.now) site.slot site.length) dst limit fact }
+    ensures { result ≡ guarded (front (C.program old.now) site.slot site.length site.small) dst limit fact }
 {
     is_register(dst, fact.of) && is_tested(old, site, limit, fact)
 }
@@ -199,7 +203,7 @@ struct TestedRegister {
 
 /// Whether a register is known to be no greater than what passes.
 fn is_below<C: Code>(old: &C, site: GuardSite, facts: &[Fact], tested: TestedRegister) -> bool
-    ensures { result ≡ list_any (guarded (front (C.program old.now) site.slot site.length) tested.dst tested.limit) facts.now }
+    ensures { result ≡ list_any (guarded (front (C.program old.now) site.slot site.length site.small) tested.dst tested.limit) facts.now }
 {
     facts
         .iter()
@@ -209,11 +213,12 @@ fn is_below<C: Code>(old: &C, site: GuardSite, facts: &[Fact], tested: TestedReg
 /// Whether the sum of a pointer, whose address is known, and a number passes.
 fn is_sum_tested<C: Code>(old: &C, site: GuardSite, facts: &[Fact], limit: u64, to: Reg) -> bool
     requires { site.slot < max_slots }
-    ensures { result ≡ option_map_or (λ t. is_tested_by (front (C.program old.now) (site.slot + 1) site.length) limit t to) (pinned facts.now (Register to)) false }
+    ensures { result ≡ option_map_or (λ t. is_tested_by (front (C.program old.now) (site.slot + 1) site.length site.small) limit t to) (pinned facts.now (Register to)) false }
 {
     let behind = GuardSite {
         slot: site.slot + 1,
         length: site.length,
+        small: site.small,
     };
     match pinned(facts, Holder::Register(to)) {
         Some(t) => is_tested_by(old, behind, limit, t, to),
@@ -230,7 +235,7 @@ fn is_added<C: Code>(
     insn: &Insn,
 ) -> bool
     requires { site.slot < max_slots }
-    ensures { result ≡ is_added (front (C.program old.now) site.slot site.length) facts.now tested.dst tested.limit insn.now }
+    ensures { result ≡ is_added (front (C.program old.now) site.slot site.length site.small) facts.now tested.dst tested.limit insn.now }
 {
     let Insn::Alu {
         op: AluOp::Add,
@@ -249,7 +254,7 @@ fn is_added<C: Code>(
 /// Whether the old instruction that the guard stands in front of does.
 #[tactic(auto, unfolding(crate::specs::Guards::guards_sum))]
 fn guards_sum<C: Code>(old: &C, site: GuardSite, facts: &[Fact], tested: TestedRegister) -> bool
-    ensures { result ≡ guards_sum (front (C.program old.now) site.slot site.length) facts.now tested.dst tested.limit }
+    ensures { result ≡ guards_sum (front (C.program old.now) site.slot site.length site.small) facts.now tested.dst tested.limit }
 {
     match insn_at(old, site.slot) {
         Some(insn) => is_added(old, site, facts, tested, &insn),
@@ -288,7 +293,7 @@ fn has_end(facts: &[Fact], r: Reg) -> bool
 
 /// Whether accesses follow that keep the offset of a pointer, moved so, from being behind that end.
 fn is_reached_by<C: Code>(old: &C, site: GuardSite, moved: i64, r: Reg) -> bool
-    ensures { result ≡ is_reached_by (front (C.program old.now) site.slot site.length) moved r }
+    ensures { result ≡ is_reached_by (front (C.program old.now) site.slot site.length site.small) moved r }
 {
     let begins = Need::Below { offset: moved };
     let ends = Need::Above {
@@ -299,7 +304,7 @@ fn is_reached_by<C: Code>(old: &C, site: GuardSite, moved: i64, r: Reg) -> bool
 
 /// Whether a number isn't behind it of which a fact is known.
 fn is_reached<C: Code>(old: &C, site: GuardSite, fact: Fact) -> bool
-    ensures { result ≡ is_reached (front (C.program old.now) site.slot site.length) fact }
+    ensures { result ≡ is_reached (front (C.program old.now) site.slot site.length site.small) fact }
 {
     match (fact.by, fact.base) {
         (Some(t), Some(Holder::Register(r))) => {
@@ -311,14 +316,14 @@ fn is_reached<C: Code>(old: &C, site: GuardSite, fact: Fact) -> bool
 
 /// Whether a register isn't, by a fact of it.
 fn register_reached<C: Code>(old: &C, site: GuardSite, dst: Reg, fact: Fact) -> bool
-    ensures { result ≡ register_reached (front (C.program old.now) site.slot site.length) dst fact }
+    ensures { result ≡ register_reached (front (C.program old.now) site.slot site.length site.small) dst fact }
 {
     is_register(dst, fact.of) && is_reached(old, site, fact)
 }
 
 /// Whether a constant isn't, by what 0 is.
 fn number_reached<C: Code>(old: &C, site: GuardSite, n: u64, fact: Fact) -> bool
-    ensures { result ≡ number_reached (front (C.program old.now) site.slot site.length) n fact }
+    ensures { result ≡ number_reached (front (C.program old.now) site.slot site.length site.small) n fact }
 {
     match of_number(n, fact) {
         Some(fact) => is_reached(old, site, fact),
@@ -328,7 +333,7 @@ fn number_reached<C: Code>(old: &C, site: GuardSite, n: u64, fact: Fact) -> bool
 
 /// Whether a register isn't, by one of some facts.
 fn is_register_reached<C: Code>(old: &C, site: GuardSite, facts: &[Fact], dst: Reg) -> bool
-    ensures { result ≡ list_any (register_reached (front (C.program old.now) site.slot site.length) dst) facts.now }
+    ensures { result ≡ list_any (register_reached (front (C.program old.now) site.slot site.length site.small) dst) facts.now }
 {
     facts
         .iter()
@@ -337,21 +342,21 @@ fn is_register_reached<C: Code>(old: &C, site: GuardSite, facts: &[Fact], dst: R
 
 /// Whether a constant isn't, by one of some facts.
 fn is_number_reached<C: Code>(old: &C, site: GuardSite, facts: &[Fact], n: u64) -> bool
-    ensures { result ≡ list_any (number_reached (front (C.program old.now) site.slot site.length) n) facts.now }
+    ensures { result ≡ list_any (number_reached (front (C.program old.now) site.slot site.length site.small) n) facts.now }
 {
     facts.iter().any(|fact| number_reached(old, site, n, *fact))
 }
 
 /// Whether a register passes that is tested against that end.
 fn passes_end<C: Code>(old: &C, site: GuardSite, facts: &[Fact], dst: Reg, end: Reg) -> bool
-    ensures { result ≡ (has_end facts.now end && list_any (register_reached (front (C.program old.now) site.slot site.length) dst) facts.now) }
+    ensures { result ≡ (has_end facts.now end && list_any (register_reached (front (C.program old.now) site.slot site.length site.small) dst) facts.now) }
 {
     has_end(facts, end) && is_register_reached(old, site, facts, dst)
 }
 
 /// Whether that end passes, which is tested against a constant.
 fn passes_least<C: Code>(old: &C, site: GuardSite, facts: &[Fact], end: Reg, least: u64) -> bool
-    ensures { result ≡ (has_end facts.now end && list_any (number_reached (front (C.program old.now) site.slot site.length) least) facts.now) }
+    ensures { result ≡ (has_end facts.now end && list_any (number_reached (front (C.program old.now) site.slot site.length site.small) least) facts.now) }
 {
     has_end(facts, end) && is_number_reached(old, site, facts, least)
 }
@@ -367,30 +372,53 @@ struct WideTest {
 }
 
 /// Whether a register passes that is tested against a constant.
-fn passes_limit<C: Code>(old: &C, site: GuardSite, facts: &[Fact], dst: Reg, limit: u64) -> bool
-    ensures { result ≡ (list_any (guarded (front (C.program old.now) site.slot site.length) dst limit) facts.now || guards_sum (front (C.program old.now) site.slot site.length) facts.now dst limit) }
+fn is_limited<C: Code>(old: &C, site: GuardSite, facts: &[Fact], tested: TestedRegister) -> bool
+    ensures { result ≡ is_limited (front (C.program old.now) site.slot site.length site.small) facts.now tested.dst tested.limit }
 {
-    let tested = TestedRegister { dst, limit };
     is_below(old, site, facts, tested) || guards_sum(old, site, facts, tested)
+}
+
+/// Whether it does, where it may be known to be small.
+fn passes_limit<C: Code>(
+    old: &C,
+    site: GuardSite,
+    known: &KnownHere<'_>,
+    tested: TestedRegister,
+) -> bool
+    ensures { result ≡ is_limited (at_number (front (C.program old.now) site.slot site.length site.small) (known_of known.now).state tested.dst) known.now.facts.now tested.dst tested.limit }
+{
+    let site = GuardSite {
+        small: is_small(known.state, tested.dst),
+        ..site
+    };
+    is_limited(old, site, known.facts, tested)
 }
 
 /// Whether a test is a guard that passes.
 #[tactic(auto, unfolding(crate::specs::Guards::passes))]
-fn passes_test<C: Code>(old: &C, site: GuardSite, facts: &[Fact], test: WideTest) -> bool
-    ensures { (off : ℤ) → result ≡ passes (front (C.program old.now) site.slot site.length) facts.now (JumpIf test.cond W64 test.dst test.src off) }
+fn passes_test<C: Code>(old: &C, site: GuardSite, known: &KnownHere<'_>, test: WideTest) -> bool
+    ensures { (off : ℤ) → result ≡ passes (front (C.program old.now) site.slot site.length site.small) (known_of known.now) (JumpIf test.cond W64 test.dst test.src off) }
 {
     match (test.cond, test.src) {
-        (Cond::Gt, Operand::Imm(imm)) => passes_limit(old, site, facts, test.dst, extended(imm)),
-        (Cond::Gt, Operand::Reg(end)) => passes_end(old, site, facts, test.dst, end),
-        (Cond::Lt, Operand::Imm(imm)) => passes_least(old, site, facts, test.dst, extended(imm)),
+        (Cond::Gt, Operand::Imm(imm)) => {
+            let tested = TestedRegister {
+                dst: test.dst,
+                limit: extended(imm),
+            };
+            passes_limit(old, site, known, tested)
+        }
+        (Cond::Gt, Operand::Reg(end)) => passes_end(old, site, known.facts, test.dst, end),
+        (Cond::Lt, Operand::Imm(imm)) => {
+            passes_least(old, site, known.facts, test.dst, extended(imm))
+        }
         _ => false,
     }
 }
 
 /// Whether an instruction is a guard that passes.
 #[tactic(auto, unfolding(crate::specs::Guards::passes))]
-pub fn passes<C: Code>(old: &C, site: GuardSite, facts: &[Fact], insn: &Insn) -> bool
-    ensures { result ≡ passes (front (C.program old.now) site.slot site.length) facts.now insn.now }
+pub fn passes<C: Code>(old: &C, site: GuardSite, known: &KnownHere<'_>, insn: &Insn) -> bool
+    ensures { result ≡ passes (front (C.program old.now) site.slot site.length site.small) (known_of known.now) insn.now }
 {
     let Insn::JumpIf {
         cond,
@@ -402,5 +430,5 @@ pub fn passes<C: Code>(old: &C, site: GuardSite, facts: &[Fact], insn: &Insn) ->
     else {
         return false;
     };
-    passes_test(old, site, facts, WideTest { cond, dst, src })
+    passes_test(old, site, known, WideTest { cond, dst, src })
 }

@@ -16,6 +16,7 @@ use crate::slots::is_noted;
 use crate::terms::{MIDDLE, constant, context_offset, negated, zero};
 use bpf_insn::{Code, FRAME_BYTES, Insn, Operand, Reg};
 use bpf_semantics::HEAD_BYTES;
+use bpf_state::State;
 
 /// How many facts hold at most in front of an instruction: those of the note, one for each slot of the frame that the old program has 0 in, one for
 /// each that is the same in both, and those of the start.
@@ -65,7 +66,8 @@ impl FactList {
 }
 
 /// What is known in front of an instruction: facts; which slots of the frame may differ; what counts turns, where the old program may come to an
-/// instruction so often; and how many of the frame's lowest bytes no access by another register than r10 goes to.
+/// instruction so often; how many of the frame's lowest bytes no access by another register than r10 goes to; and the new program's state, if its
+/// certificate has one.
 #[derive(Clone, Copy)]
 pub struct KnownHere<'a> {
     pub facts: &'a [Fact],
@@ -73,6 +75,7 @@ pub struct KnownHere<'a> {
     pub counters: &'a [Option<TurnsLeft>],
     pub turns: u64,
     pub left: u32,
+    pub state: Option<&'a State>,
 }
 
 // ---- facts of slots

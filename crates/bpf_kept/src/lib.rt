@@ -22,7 +22,9 @@ mod pass;
 mod results;
 mod slots;
 mod stands;
+mod states;
 mod terms;
+mod widened;
 
 pub use alike::{are_same, paired};
 pub use behind::{holds_behind, is_told};
@@ -39,7 +41,7 @@ pub use laws::{
 };
 pub use note_fault::NoteFault;
 pub use notes::{COUNTERS, Change, FACTS, Fact, Holder, Need, Note, SLOTS, Term, TurnsLeft};
-pub use pass::{follows, follows_certified, start_slot};
+pub use pass::{begun, follows, start_slot};
 pub use slots::{Displaced, slot_at};
-pub use stands::extra;
+pub use stands::{NewSlot, extra, holds_at};
 pub use terms::{constant, frame_end, minus, plus, zero};

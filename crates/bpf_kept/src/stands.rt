@@ -1,6 +1,6 @@
 //! What is noted of a slot of the new program: an instruction that stands for an old one, or an extra one.
 
-ghost use Rattle.std.specs.Prelude.{◌≡◌, ◌<◌, ◌≤◌, ◌↔◌, ◌-◌, IsTrue, Some, None, option_map, option_and_then, if◌then◌else◌};
+ghost use Rattle.std.specs.Prelude.{◌≡◌, ◌<◌, ◌≤◌, ◌↔◌, ◌-◌, IsTrue, Some, None, false, option_map, option_and_then, option_copied, if◌then◌else◌};
 ghost use Rattle.bpf_insn.specs.Effects.{is_frame_pointer};
 ghost use Rattle.bpf_kept.specs.Rules.{put_into};
 ghost use Rattle.bpf_kept.specs.declared.notes.Holder.TheVariants.{Register, Slot};
@@ -21,7 +21,9 @@ use crate::known::{KnownHere, facts_at};
 use crate::notes::{Change, Holder, Note};
 use crate::results::put_into;
 use crate::slots::{Displaced, slot_at};
+use crate::states::is_dead;
 use bpf_insn::{Code, Insn, Size, target};
+use bpf_state::State;
 
 /// The greatest number of extra instructions in front of one.
 const MOST_EXTRAS: u32 = 128;
@@ -44,13 +46,13 @@ fn led(slot: u32, insn: &Insn) -> Option<u32>
     target(slot, distance)
 }
 
-/// Whether the next new instruction stands for the next old one, if that may follow.
+/// Whether the next new instruction stands for the next old one, if that may follow and the way isn't dead.
 fn falls(notes: &[Option<Note>], known: &KnownHere<'_>, change: Change, pair: StandIn) -> bool
     requires old { pair.slot < max_slots }
     requires new { pair.new_slot < max_slots }
     ensures { result ≡ falls notes.now (known_of known.now) change pair.slot pair.new_slot pair.insn pair.moved }
 {
-    if !pair.insn.goes_on() {
+    if !pair.insn.goes_on() || is_dead(known, &pair.insn, &pair.moved, false) {
         return true;
     }
     let arrival = Arrival {
@@ -62,12 +64,15 @@ fn falls(notes: &[Option<Note>], known: &KnownHere<'_>, change: Change, pair: St
     arrives(notes, known, change, arrival)
 }
 
-/// Whether the new one leads where the old one leads.
+/// Whether the new one leads where the old one leads, if the way isn't dead.
 fn leads(notes: &[Option<Note>], known: &KnownHere<'_>, change: Change, pair: StandIn) -> bool
     requires old { pair.slot < max_slots }
     requires new { pair.new_slot < max_slots }
     ensures { result ≡ leads notes.now (known_of known.now) change pair.slot pair.new_slot pair.insn pair.moved }
 {
+    if is_dead(known, &pair.insn, &pair.moved, true) {
+        return true;
+    }
     let Some(slot) = led(pair.slot, &pair.insn) else {
         return true;
     };
@@ -146,9 +151,9 @@ pub fn extra<O: Code>(
     known: &KnownHere<'_>,
     moved: &Insn,
 ) -> Option<Change>
-    ensures { result ≡ extra (front (O.program old.now) site.slot site.length) (known_of known.now) moved.now }
+    ensures { result ≡ extra (front (O.program old.now) site.slot site.length site.small) (known_of known.now) moved.now }
 {
-    if passes(old, site, known.facts, moved) || has_turn(known.counters, site.slot, moved) {
+    if passes(old, site, known, moved) || has_turn(known.counters, site.slot, moved) {
         Some(Change::Kept)
     } else {
         makes(moved)
@@ -173,7 +178,7 @@ fn adds<O: Code>(
     moved: &Insn,
 ) -> bool
     requires { at.new_slot < max_slots }
-    ensures { result ≡ adds notes.now (front (O.program old.now) at.site.slot at.site.length) (known_of known.now) at.left at.new_slot moved.now }
+    ensures { result ≡ adds notes.now (front (O.program old.now) at.site.slot at.site.length at.site.small) (known_of known.now) at.left at.new_slot moved.now }
 {
     match extra(old, at.site, known, moved) {
         Some(change) => {
@@ -191,20 +196,27 @@ fn adds<O: Code>(
 
 // ---- what is noted
 
-/// A slot of the new program, of which runs something is said, and how many of the lowest bytes of its frames no access by another register than r10
-/// goes to.
+/// A slot of the new program, of which runs something is said, how many of the lowest bytes of its frames no access by another register than r10 goes
+/// to, and the program's state there, if its certificate has one.
 #[derive(Clone, Copy)]
-pub struct NewSlot {
+pub struct NewSlot<'a> {
     pub slot: u32,
     pub bounds: RunBounds,
     pub left: u32,
+    pub state: Option<&'a State>,
 }
 
 /// Whether a pair stands for one another, where something is noted.
-fn stands_at(notes: &[Option<Note>], at: NewSlot, note: &Note, same: bool, pair: StandIn) -> bool
+fn stands_at(
+    notes: &[Option<Note>],
+    at: NewSlot<'_>,
+    note: &Note,
+    same: bool,
+    pair: StandIn,
+) -> bool
     requires old { pair.slot < max_slots }
     requires new { pair.new_slot < max_slots }
-    ensures { result ≡ stands notes.now (known_for at.bounds.turns at.left note.now) same pair.slot pair.new_slot pair.insn pair.moved }
+    ensures { result ≡ stands notes.now (known_for at.entry.bounds.turns at.entry.left (option_copied at.entry.state) note.now) same pair.slot pair.new_slot pair.insn pair.moved }
 {
     let facts = facts_at(note);
     let known = KnownHere {
@@ -213,6 +225,7 @@ fn stands_at(notes: &[Option<Note>], at: NewSlot, note: &Note, same: bool, pair:
         counters: &note.counters,
         turns: at.bounds.turns,
         left: at.left,
+        state: at.state,
     };
     stands(notes, &known, same, pair)
 }
@@ -222,11 +235,11 @@ fn is_body<O: Code, N: Code>(
     old: &O,
     new: &N,
     notes: &[Option<Note>],
-    at: NewSlot,
+    at: NewSlot<'_>,
     note: &Note,
 ) -> bool
     requires { at.left ≡ left_alone (N.program new.now) at.bounds.untouched }
-    ensures { IsTrue result ↔ IsBody (O.program old.now) (N.program new.now) notes.now (bounds_of at.bounds) at.slot note.now }
+    ensures { IsTrue result ↔ IsBody (O.program old.now) (N.program new.now) notes.now (bounds_of at.entry.bounds) (option_copied at.entry.state) at.entry.slot note.now }
 {
     match (insn_at(old, note.old), insn_at(new, at.slot)) {
         (Some(insn), Some(moved)) => {
@@ -243,10 +256,16 @@ fn is_body<O: Code, N: Code>(
 }
 
 /// Whether an instruction of the new program is an extra one, where something is noted.
-fn adds_at<O: Code>(old: &O, notes: &[Option<Note>], at: NewSlot, note: &Note, moved: &Insn) -> bool
+fn adds_at<O: Code>(
+    old: &O,
+    notes: &[Option<Note>],
+    at: NewSlot<'_>,
+    note: &Note,
+    moved: &Insn,
+) -> bool
     requires some { 0 < note.now.extras }
     requires below { at.slot < max_slots }
-    ensures { result ≡ adds notes.now (front (O.program old.now) note.now.old at.bounds.length) (known_for at.bounds.turns at.left note.now) (note.now.extras - 1) at.slot moved.now }
+    ensures { result ≡ adds notes.now (front (O.program old.now) note.now.old at.entry.bounds.length false) (known_for at.entry.bounds.turns at.entry.left (option_copied at.entry.state) note.now) (note.now.extras - 1) at.entry.slot moved.now }
 {
     let facts = facts_at(note);
     let known = KnownHere {
@@ -255,10 +274,12 @@ fn adds_at<O: Code>(old: &O, notes: &[Option<Note>], at: NewSlot, note: &Note, m
         counters: &note.counters,
         turns: at.bounds.turns,
         left: at.left,
+        state: at.state,
     };
     let site = GuardSite {
         slot: note.old,
         length: at.bounds.length,
+        small: false,
     };
     let extra_at = ExtraAt {
         site,
@@ -273,12 +294,12 @@ fn is_extra<O: Code, N: Code>(
     old: &O,
     new: &N,
     notes: &[Option<Note>],
-    at: NewSlot,
+    at: NewSlot<'_>,
     note: &Note,
 ) -> bool
     requires some { 0 < note.now.extras }
     requires left { at.left ≡ left_alone (N.program new.now) at.bounds.untouched }
-    ensures { IsTrue result ↔ IsExtra (O.program old.now) (N.program new.now) notes.now (bounds_of at.bounds) at.slot note.now (note.now.extras - 1) }
+    ensures { IsTrue result ↔ IsExtra (O.program old.now) (N.program new.now) notes.now (bounds_of at.entry.bounds) (option_copied at.entry.state) at.entry.slot note.now (note.now.extras - 1) }
 {
     match insn_at(new, at.slot) {
         Some(moved) => adds_at(old, notes, at, note, &moved),
@@ -287,9 +308,9 @@ fn is_extra<O: Code, N: Code>(
 }
 
 /// Whether what is noted of a new slot holds there.
-pub fn holds_at<O: Code, N: Code>(old: &O, new: &N, notes: &[Option<Note>], at: NewSlot) -> bool
+pub fn holds_at<O: Code, N: Code>(old: &O, new: &N, notes: &[Option<Note>], at: NewSlot<'_>) -> bool
     requires { at.left ≡ left_alone (N.program new.now) at.bounds.untouched }
-    ensures { IsTrue result ↔ HoldsAt (O.program old.now) (N.program new.now) notes.now (bounds_of at.bounds) at.slot }
+    ensures { IsTrue result ↔ HoldsAt (O.program old.now) (N.program new.now) notes.now (bounds_of at.entry.bounds) (option_copied at.entry.state) at.entry.slot }
 {
     match note_at(notes, at.slot) {
         Some(note) if note.extras == 0 => is_body(old, new, notes, at, note),

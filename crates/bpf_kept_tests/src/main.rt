@@ -15,8 +15,8 @@ use bpf_cert::{Certificate, read};
 use bpf_insn::{Order, Program, Reg};
 use bpf_kept::{
     COUNTERS, FACTS, Fact, Holder, Note, NoteFault, RunBounds, SLOTS, Term, TurnsLeft, follows,
-    follows_certified,
 };
+use bpf_kept_pass::follows_certified;
 use bpf_text::assemble;
 use std::alloc::Global;
 use std::io::{self, BufRead, BufReader, BufWriter, Write};
