@@ -5,10 +5,10 @@ use crate::sites::{NewSite, sites_of};
 use crate::turns::{Head, heads_of};
 use bpf_changes::Hardened;
 use bpf_infer_base::{SlotSet, get_or, held, put};
-use bpf_insn::{Insn, MAX_SLOTS, Program, target};
+use bpf_insn::{Insn, MAX_SLOTS, Program, Reg, target};
 use bpf_kept::{
-    Change, Fact, GuardSite, KnownHere, Note, RunBounds, are_same, extra, facts_at, left_alone,
-    paired, start_facts, start_slot,
+    Change, Fact, GuardSite, Holder, KnownHere, Note, RunBounds, are_same, by_itself, extra,
+    facts_at, left_alone, paired, start_facts, start_slot,
 };
 use std::alloc::{AllocError, Global};
 
@@ -74,6 +74,9 @@ impl<'a> DataFlow<'a> {
             counters: &note.counters,
             turns: self.bounds.turns,
             left: self.left,
+            back: &note.back,
+            spare: note.spare,
+            barred: note.barred,
         }
     }
 
@@ -107,6 +110,9 @@ impl<'a> DataFlow<'a> {
             counters: &[],
             turns: self.bounds.turns,
             left: self.left,
+            back: &[by_itself(Holder::Register(Reg::R0))],
+            spare: None,
+            barred: None,
         };
         let way = FlowEdge {
             known: &known,

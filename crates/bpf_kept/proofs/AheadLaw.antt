@@ -1,5 +1,5 @@
 -- Reads that surely follow: a run that ends comes to them, and there stays inside.
-use Rattle.std.proofs.Common.{◌≡◌, ℕ, zero, suc, ◌+◌, ◌%◌, ◌<◌, ◌≤◌, ◌⊎◌, ◌==◌, inl, inr, refl, sym, ap, ◌∙◌, subst, arith, true, false, List, [], ◌∷◌, ◌++◌, length, Option, Some, None}
+use Rattle.std.proofs.Common.{◌≡◌, ℕ, zero, suc, ◌+◌, ◌-◌, ◌%◌, ◌<◌, ◌≤◌, ◌⊎◌, ◌==◌, inl, inr, refl, sym, ap, ◌∙◌, subst, arith, true, false, List, [], ◌∷◌, ◌++◌, length, Option, Some, None}
 use Rattle.std.specs.Prelude.{pos, ◌+ℤ◌, not, FitsSigned, get_or, option_and_then, if◌then◌else◌}
 use Rattle.std.specs.Int.{w16}
 use Rattle.std.specs.List.{AllByRecursion}
@@ -9,6 +9,7 @@ use Rattle.std.proofs.lemmas.Option.{none-some, same_Some, option_and_then_some}
 use Rattle.bpf_insn.specs.Arithmetic.{modulo}
 use Rattle.bpf_insn.specs.Effects.{Access, access_of, register_written, fetch_register}
 use Rattle.bpf_insn.specs.Image.{IsProgram, HasEncoding}
+use Rattle.bpf_insn.specs.Limits.{max_frames}
 use Rattle.bpf_insn.specs.Instruction.{Instructions, register_number, byte_count, slot_count, insn_at, is_straight}
 use Rattle.bpf_insn.specs.declared.order.Order.{Order}
 use Rattle.bpf_insn.specs.declared.instruction.Reg.{Reg}
@@ -95,10 +96,18 @@ pub onward : (place : Placement) (p : Instructions) (first f g : FlatState) (j :
 unfolding zero_after
 onward place p first f g j e h = ap (option_and_then (zero_step place p)) (sym e) ∙ h
 
+-- however many frames wait
+abbrev pub last_frame : ℕ
+last_frame = max_frames - 1
+
+in_some : (place : Placement) (len live a : ℕ) → live < max_frames → IsInMemory place len live a → IsInMemory place len last_frame a
+in_some place len live a few (inl among) = inl among
+in_some place len live a few (inr frames) = let le = frames.1 in inr (frames.0, omega arith, frames.2)
+
 -- an access by a register that has y stays inside
 pub record Inside (place : Placement) (len y : ℕ) (a : Access) : Type 0 where
   pub near : FitsSigned w16 a.offset
-  pub there : (b : ℕ) → b < byte_count a.size → IsInMemory place len 0 ((modulo (pos y +ℤ a.offset) addresses + b) % addresses)
+  pub there : (b : ℕ) → b < byte_count a.size → IsInMemory place len last_frame ((modulo (pos y +ℤ a.offset) addresses + b) % addresses)
 
 module _ (place : Placement) (old : Instructions) (program : IsProgram old.list) (own : List ℕ) (bounds : Bounds) (v k : ℕ) (ends : FlatEnds place old own bounds v k) where
   abbrev pub begin : FlatState
@@ -113,6 +122,17 @@ module _ (place : Placement) (old : Instructions) (program : IsProgram old.list)
           let last : f ≡ ends.last = same_Some f ends.last (sym run ∙ subst (λ n. zero_after place old n begin ≡ Some ends.last) (sym same) ends.run) in
           absurd (other (same_Some i Exit (sym stands ∙ ap (λ s. insn_at old.list s.slot) last ∙ ends.finish.stands)))
       by_order (inr (inl less)) = let g = earlier place old begin k (suc j) ends.last ends.run less in (g.0, onward place old begin f g.0 j run g.1, g.1, less)
+      by_order (inr (inr more)) = absurd (omega arith)
+
+  -- it ends in the outermost frame alone
+  pub goes_back : (j : ℕ) (f : FlatState) → zero_after place old j begin ≡ Some f → j ≤ k → (f.returns ≡ [] → ⊥) → suc j ≤ k
+  goes_back j f run le inner = by_order (cases_order j k)
+    where
+      by_order : (j ≡ k) ⊎ ((j < k) ⊎ (k < j)) → suc j ≤ k
+      by_order (inl same) =
+          let last : f ≡ ends.last = same_Some f ends.last (sym run ∙ subst (λ n. zero_after place old n begin ≡ Some ends.last) (sym same) ends.run) in
+          absurd (inner (ap (λ s. s.returns) last ∙ ends.finish.outermost))
+      by_order (inr (inl less)) = less
       by_order (inr (inr more)) = absurd (omega arith)
 
   -- where EXIT stands in the outermost frame, the run is at its end
@@ -137,12 +157,12 @@ module _ (place : Placement) (old : Instructions) (program : IsProgram old.list)
   record Passed (r : Reg) (i : Insn) (f g : FlatState) : Type 0 where
     same : flat_register g r ≡ flat_register f r
     slot : g.slot ≡ f.slot + slot_count i
-    outermost : g.returns ≡ []
+    shallow : length g.returns < max_frames
     state : IsZeroState g
 
-  passes : (r : Reg) (i : Insn) (f g : FlatState) → insn_at old.list f.slot ≡ Some i → is_passed r i ≡ true → IsZeroState f → f.returns ≡ [] → zero_step place old f ≡ Some g → Passed r i f g
+  passes : (r : Reg) (i : Insn) (f g : FlatState) → insn_at old.list f.slot ≡ Some i → is_passed r i ≡ true → IsZeroState f → length f.returns < max_frames → zero_step place old f ≡ Some g → Passed r i f g
   unfolding zero_step
-  passes r i f g stands passed state outermost e =
+  passes r i f g stands passed state shallow e =
       let h = and_parts (is_straight i) (not (option_map_or (λ w. register_number w == register_number r) (register_written i) false)) passed in
       let enc : HasEncoding i = encoding_at old.list program.encoding f.slot i stands in
       let z : zero_does place old.order i f ≡ Some g = ap (option_and_then (λ i. zero_does place old.order i f)) (sym stands) ∙ e in
@@ -151,7 +171,7 @@ module _ (place : Placement) (old : Instructions) (program : IsProgram old.list)
       record {
         same = flat_writes_one_register old.order i f g r d (λ w ew. unwritten w ew h.1);
         slot = straight_slot old.order i f g h.0 d;
-        outermost = k.returns_same ∙ outermost;
+        shallow = subst (λ rs. length rs < max_frames) (sym k.returns_same) shallow;
         state = (zero_step_is_step place old f g program state e).1;
       }
     where
@@ -164,10 +184,10 @@ module _ (place : Placement) (old : Instructions) (program : IsProgram old.list)
   all_append P [] ys h k = k
   all_append P (x ∷ xs) ys h k = (h.0, all_append P xs ys h.1 k)
 
-  pub all_inside : (r : Reg) (n j : ℕ) (f : FlatState) → zero_after place old j begin ≡ Some f → j ≤ k → f.returns ≡ [] → IsZeroState f → AllByRecursion (Inside place (length own) (flat_register f r)) (accesses_ahead old r n f.slot)
+  pub all_inside : (r : Reg) (n j : ℕ) (f : FlatState) → zero_after place old j begin ≡ Some f → j ≤ k → length f.returns < max_frames → IsZeroState f → AllByRecursion (Inside place (length own) (flat_register f r)) (accesses_ahead old r n f.slot)
   unfolding accesses_ahead
-  all_inside r zero j f run le outermost state = tt
-  all_inside r (suc n) j f run le outermost state = by_insn (λ m g. all_inside r n m g) (insn_at old.list f.slot) refl
+  all_inside r zero j f run le shallow state = tt
+  all_inside r (suc n) j f run le shallow state = by_insn (λ m g. all_inside r n m g) (insn_at old.list f.slot) refl
     where
       here : (i : Insn) → insn_at old.list f.slot ≡ Some i → (o : Option Access) → access_of i ≡ o → AllByRecursion (Inside place (length own) (flat_register f r)) (option_map_or (if_by r) o [])
       here i stands None eo = tt
@@ -181,22 +201,22 @@ module _ (place : Placement) (old : Instructions) (program : IsProgram old.list)
           ] in (
             record {
               near = access_near i a (encoding_at old.list program.encoding f.slot i stands) eo;
-              there = λ b lt. subst (λ y. IsInMemory place (length own) 0 ((modulo (pos y +ℤ a.offset) addresses + b) % addresses)) base
-                  (subst (λ rs. IsInMemory place (length own) (length rs) ((address f a.base a.offset + b) % addresses)) outermost (inside b lt));
+              there = λ b lt. subst (λ y. IsInMemory place (length own) last_frame ((modulo (pos y +ℤ a.offset) addresses + b) % addresses)) base
+                  (in_some place (length own) (length f.returns) ((address f a.base a.offset + b) % addresses) shallow (inside b lt));
             },
             tt,
           ))
           (λ e. tt)
 
-      later : ((m : ℕ) (g : FlatState) → zero_after place old m begin ≡ Some g → m ≤ k → g.returns ≡ [] → IsZeroState g → AllByRecursion (Inside place (length own) (flat_register g r)) (accesses_ahead old r n g.slot)) → (i : Insn) → insn_at old.list f.slot ≡ Some i → is_passed r i ≡ true → AllByRecursion (Inside place (length own) (flat_register f r)) (accesses_ahead old r n (f.slot + slot_count i))
+      later : ((m : ℕ) (g : FlatState) → zero_after place old m begin ≡ Some g → m ≤ k → length g.returns < max_frames → IsZeroState g → AllByRecursion (Inside place (length own) (flat_register g r)) (accesses_ahead old r n g.slot)) → (i : Insn) → insn_at old.list f.slot ≡ Some i → is_passed r i ≡ true → AllByRecursion (Inside place (length own) (flat_register f r)) (accesses_ahead old r n (f.slot + slot_count i))
       later again i stands passed =
           let h = and_parts (is_straight i) (not (option_map_or (λ w. register_number w == register_number r) (register_written i) false)) passed in
           let g = goes_on j f i run le stands (exit_turns i h.0) in
-          let p = passes r i f g.0 stands passed state outermost g.1 in
+          let p = passes r i f g.0 stands passed state shallow g.1 in
           subst (λ slot. AllByRecursion (Inside place (length own) (flat_register f r)) (accesses_ahead old r n slot)) p.slot
-          (subst (λ y. AllByRecursion (Inside place (length own) y) (accesses_ahead old r n g.0.slot)) p.same (again (suc j) g.0 g.2 g.3 p.outermost p.state))
+          (subst (λ y. AllByRecursion (Inside place (length own) y) (accesses_ahead old r n g.0.slot)) p.same (again (suc j) g.0 g.2 g.3 p.shallow p.state))
 
-      by_insn : ((m : ℕ) (g : FlatState) → zero_after place old m begin ≡ Some g → m ≤ k → g.returns ≡ [] → IsZeroState g → AllByRecursion (Inside place (length own) (flat_register g r)) (accesses_ahead old r n g.slot)) → (o : Option Insn) → insn_at old.list f.slot ≡ o → AllByRecursion (Inside place (length own) (flat_register f r)) (option_map_or (λ i. accesses_by r i ++ (if is_passed r i then accesses_ahead old r n (f.slot + slot_count i) else [])) o [])
+      by_insn : ((m : ℕ) (g : FlatState) → zero_after place old m begin ≡ Some g → m ≤ k → length g.returns < max_frames → IsZeroState g → AllByRecursion (Inside place (length own) (flat_register g r)) (accesses_ahead old r n g.slot)) → (o : Option Insn) → insn_at old.list f.slot ≡ o → AllByRecursion (Inside place (length own) (flat_register f r)) (option_map_or (λ i. accesses_by r i ++ (if is_passed r i then accesses_ahead old r n (f.slot + slot_count i) else [])) o [])
       by_insn again None eo = tt
       by_insn again (Some i) eo =
           all_append (Inside place (length own) (flat_register f r)) (accesses_by r i) (if is_passed r i then accesses_ahead old r n (f.slot + slot_count i) else []) (here i eo (access_of i) refl)

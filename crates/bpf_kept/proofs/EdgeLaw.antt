@@ -31,7 +31,7 @@ pub record Behind (order : Order) (start : ℕ) (packet : Packet) (known : Known
   pub new_flat : IsFlat g
   pub pointers : ArePointers start f.registers g.registers
   pub holds : (want : Fact) → holds_behind known.facts change want ≡ true → Holds start (value_in order start packet f) (value_in order start packet g) want
-  pub common : (a : ℕ) → a < addresses → IsSeen packet a → ((n : ℕ) → n < frame_slots → is_parted known.apart change n ≡ true → IsAmong (start + 8 * n) 8 a → ⊥) → g.memory a ≡ f.memory a
+  pub common : (a : ℕ) → a < addresses → IsSeen start packet a → ((n : ℕ) → n < frame_slots → is_parted known.apart change n ≡ true → IsAmong (start + 8 * n) 8 a → ⊥) → g.memory a ≡ f.memory a
 
 pub slot_facts_hold : (P : Fact → Type 0) (fact : ℕ → Fact) (noted : ℕ → Bool) (k : ℕ) → ((n : ℕ) → n < k → noted n ≡ true → P (fact n)) → AllByRecursion P (slot_facts fact noted k)
 slot_facts_hold P fact noted zero h = tt
@@ -82,7 +82,7 @@ module _ (order : Order) (start : ℕ) (packet : Packet) (known : Known) (change
   slots_there : IsCommon start packet note.apart f g → AllHold start (value_in order start packet f) (value_in order start packet g) (slot_facts same_slot (λ n. not (is_noted note.apart n)) frame_slots)
   slots_there common = slot_facts_hold (Holds start (value_in order start packet f) (value_in order start packet g)) same_slot (λ n. not (is_noted note.apart n)) 64
       (λ n lt e. numbers_equal start (slot_number order start f n) (slot_number order start g n) (slot_below order start n f behind.flat)
-      (slot_same order start n f g behind.room (λ a few small among. common a small (let to = behind.room.to in let high = among.1 in inl (omega arith)) (λ apart. let same : apart.0 ≡ n = slots_apart start n apart.0 a apart.3 among in unnoted (is_noted note.apart n) e (subst (λ m. is_noted note.apart m ≡ true) same apart.2)))))
+      (slot_same order start n f g behind.room (λ a few small among. common a small (let low = among.0 in let high = among.1 in inr (inl (omega arith, omega arith))) (λ apart. let same : apart.0 ≡ n = slots_apart start n apart.0 a apart.3 among in unnoted (is_noted note.apart n) e (subst (λ m. is_noted note.apart m ≡ true) same apart.2)))))
     where
       unnoted : (b : Bool) → not b ≡ true → b ≡ true → ⊥
       unnoted true e h = false≢true e

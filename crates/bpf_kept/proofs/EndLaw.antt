@@ -28,7 +28,7 @@ use Rattle.bpf_kept.proofs.FarLaw.{one_address_is_context}
 use Rattle.bpf_kept.proofs.TermLaw.{differs_same}
 use Rattle.bpf_kept.proofs.HoldsLaw.{any_holds, held, plain_shift}
 use Rattle.bpf_kept.proofs.TestLaw.{cancelled}
-use Rattle.bpf_kept.proofs.AheadLaw.{Inside}
+use Rattle.bpf_kept.proofs.AheadLaw.{Inside, last_frame}
 use Rattle.bpf_kept.proofs.GuardLaw.{Lies, at_most, le_of, last_same, any_of, old_same, context_same}
 
 -- in what is given, which begins a few bytes behind the middle
@@ -72,16 +72,16 @@ few_before : (padded : Bool) → bytes_before padded ≤ head_bytes
 few_before true = omega arith
 few_before false = omega arith
 
-module _ (padded : Bool) (packet : Packet) (old : Instructions) (len slot x : ℕ) (fn fw : FlatState) (short : packet.length < 2 ^ 32) (small : x < addresses) (flat : IsFlat fn) (flat' : IsFlat fw)
+module _ (deep : ℕ) (padded : Bool) (packet : Packet) (old : Instructions) (len slot x : ℕ) (fn fw : FlatState) (short : packet.length < 2 ^ 32) (small : x < addresses) (flat : IsFlat fn) (flat' : IsFlat fw)
     (inside : (r : Reg) → AllByRecursion (Inside (near padded) packet.length (flat_register fn r)) (accesses_ahead old r farthest_ahead slot)) (inside' : (r : Reg) → AllByRecursion (Inside (wide padded) packet.length (flat_register fw r)) (accesses_ahead old r farthest_ahead slot)) where
   abbrev front : Front
   front = record { old = old; slot = slot; length = len }
 
   abbrev start : ℕ
-  start = frame_start (near false) 0
+  start = frame_start (near false) deep
 
   abbrev other : ℕ
-  other = frame_start (wide false) 0
+  other = frame_start (wide false) deep
 
   abbrev before : ℕ
   before = bytes_before padded
@@ -92,7 +92,7 @@ module _ (padded : Bool) (packet : Packet) (old : Instructions) (len slot x : �
       record {
         near = h.near;
         there = λ b lt. packet_distance x y packet.length b before moved a.offset s
-            (one_address_is_context padded packet.length 0 ((modulo (pos y +ℤ a.offset) addresses + b) % addresses) (omega arith) (h.there b lt) (subst (λ y. IsInMemory (wide padded) packet.length 0 ((modulo (pos y +ℤ a.offset) addresses + b) % addresses)) same (k.there b lt)));
+            (one_address_is_context padded packet.length last_frame ((modulo (pos y +ℤ a.offset) addresses + b) % addresses) (omega arith) (h.there b lt) (subst (λ y. IsInMemory (wide padded) packet.length last_frame ((modulo (pos y +ℤ a.offset) addresses + b) % addresses)) same (k.there b lt)));
       }
 
   not_behind : (h len : ℕ) (moved a e : ℤ) → h ≤ 8 → a ≤ℤ moved → moved ≤ℤ e → (a ≤ℤ (moved +ℤ pos h)) × (((pos len +ℤ (moved +ℤ pos h)) -ℤ pos (len + 8)) ≤ℤ e)

@@ -21,7 +21,7 @@ use Rattle.bpf_kept.specs.declared.notes.Fact.{Fact}
 use Rattle.bpf_kept.specs.declared.notes.Note.{Note}
 use Rattle.bpf_kept.specs.Meaning.{Bounds}
 use Rattle.bpf_kept.specs.Terms.{Facts}
-use Rattle.bpf_kept.specs.Rules.{own_in, pinned, numbered, reads_same, result_term, same_address, is_common, keeps, paired, made, holds_behind, are_told}
+use Rattle.bpf_kept.specs.Rules.{own_in, pinned, numbered, reads_same, result_term, same_address, is_common, keeps, paired, made, holds_behind, are_told, by_itself}
 use Rattle.bpf_kept.specs.Counters.{all_count_behind, has_turn}
 use Rattle.bpf_kept.specs.Guards.{accesses_ahead, is_ahead, guards_sum, passes}
 use Rattle.bpf_kept.specs.Matching.{Notes, facts_at, left_alone, known_at_start, arrives, starts, stands, extra, adds, IsBody, IsExtra, IsEither, HoldsAt, Matches}
@@ -32,7 +32,7 @@ fact of base frames moved = record { of = option_map Register of; base = option_
 
 -- a note of registers alone
 abbrev pub noted : ℕ → ℕ → Facts → Note
-noted old extras facts = record { old = old; extras = extras; apart = []; zeros = []; facts = facts; counters = [] }
+noted old extras facts = record { old = old; extras = extras; apart = []; zeros = []; facts = facts; counters = []; back = by_itself (Register R0) ∷ []; spare = None; barred = None }
 
 -- of which runs it is said
 abbrev pub bounds : Bounds

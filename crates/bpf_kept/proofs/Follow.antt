@@ -1,4 +1,4 @@
--- Each instruction of the old program is followed by one of the new one's, to the end.
+-- Each instruction of the old program that neither calls nor ends a function is followed by one of the new one's.
 use Rattle.std.proofs.Common.{◌≡◌, ℕ, zero, suc, ◌+◌, ◌*◌, ◌^◌, ◌<◌, ◌≤◌, ◌⊎◌, inl, inr, refl, sym, ap, ◌∙◌, subst, arith, Bool, true, false, length, Option, Some, None, cond}
 use Rattle.std.specs.Prelude.{ℤ, ◌↔◌, IsTrue, ◌&&◌, ◌||◌, option_and_then, option_map}
 use Rattle.std.specs.Option.{option_map_or, option_or}
@@ -39,8 +39,9 @@ use Rattle.bpf_kept.proofs.CountLaw.{kept_counts}
 use Rattle.bpf_kept.proofs.AheadLaw.{earlier, onward, goes_on, ends_here}
 use Rattle.bpf_kept.proofs.StoreLaw.{Paired, register_same, at_same, kept_there, both_put, slots_put, stores_there}
 use Rattle.bpf_kept.proofs.Simulation.{more, in_time, none_first, program, not_exit, zero_plain, answers, test_jumps, test_jumps_back, test_falls, jump_does, jump_back, test_back, jump_turns, test_turns, put_turns, does_there, steps_on, ends_on, answers_same, same_tests, same_exit}
-use Rattle.bpf_kept.proofs.Setting.{Setting, packet_of}
-use Rattle.bpf_kept.proofs.Beside.{OldAt, new_next, near_does, old_next, near_own, wide_own, near_leaves, wide_leaves, made_before}
+use Rattle.bpf_kept.proofs.Setting.{Setting}
+use Rattle.bpf_kept.proofs.Beside.{OldAt, new_next, near_does, old_next, near_own, wide_own, near_packet, wide_packet, near_leaves, wide_leaves, made_before}
+use Rattle.bpf_kept.proofs.Waiting.{Stays, step_waits}
 use Rattle.bpf_kept.proofs.Extras.{Ready, arrived, extra_step, turn_advances}
 
 -- a store is the same where it is the same but for where it leads
@@ -66,7 +67,7 @@ store_again i moved e same =
     let there : is_store moved ≡ true = sym (undirected_store moved) ∙ ap is_store same ∙ undirected_store i ∙ e in
     sym (store_plain moved there) ∙ same ∙ store_plain i e
 
-module _ (given : Setting) where
+module _ (given : Setting) (deep : ℕ) where
   open given use {order, is, js, notes, bounds, old_valid, new_valid, matches, own, own_is, context, bytes, long, never, v, k, l, near_ends, wide_ends}
 
   abbrev pub old : Instructions
@@ -75,51 +76,54 @@ module _ (given : Setting) where
   abbrev pub new : Instructions
   new = program order js
 
-  abbrev packet : Packet
-  packet = packet_of given
-
   short : length context < 2 ^ 32
   short = subst (λ n. n < 2 ^ 32) (sym long) matches.short
 
   -- in front of the old instruction itself, and what stands for it
-  record At (j : ℕ) (i moved : Insn) : Type 0 where
-    ready : Ready given j
-    body : ready.note.extras ≡ 0
-    here : insn_at is ready.fn.slot ≡ Some i
-    there : insn_at js ready.state.top.slot ≡ Some moved
+  pub record At (j : ℕ) (i moved : Insn) : Type 0 where
+    pub ready : Ready given deep j
+    pub body : ready.note.extras ≡ 0
+    pub here : insn_at is ready.fn.slot ≡ Some i
+    pub there : insn_at js ready.state.top.slot ≡ Some moved
 
-  few_at : (j : ℕ) (i moved : Insn) (at : At j i moved) → at.ready.n ≤ most_at_start + most_for_one * j
+  pub few_at : (j : ℕ) (i moved : Insn) (at : At j i moved) → at.ready.n ≤ most_at_start + most_for_one * j
   few_at j i moved at = let few = at.ready.few in let body = at.body in omega arith
 
   -- what is known there
-  abbrev known : {j : ℕ} → Ready given j → Known
+  abbrev pub known : {j : ℕ} → Ready given deep j → Known
   known q = known_at new bounds q.note
 
   -- both put a number into a register or a slot, or store the same
-  by_pairs : (j : ℕ) (i moved : Insn) (at : At j i moved) (change : Change) → Paired order (near_own given) packet (known at.ready) change i moved at.ready.fn at.ready.gn → Paired order (wide_own given) packet (known at.ready) change i moved at.ready.fw at.ready.gw
-      → arrives notes (known at.ready) change (Some at.ready.fn.slot) (at.ready.fn.slot + slot_count i) most_extras (at.ready.state.top.slot + slot_count moved) ≡ true → Ready given (suc j)
+  by_pairs : (j : ℕ) (i moved : Insn) (at : At j i moved) (change : Change) → Paired order (near_own given deep) (near_packet given deep) (known at.ready) change i moved at.ready.fn at.ready.gn → Paired order (wide_own given deep) (wide_packet given deep) (known at.ready) change i moved at.ready.fw at.ready.gw
+      → arrives notes (known at.ready) change (Some at.ready.fn.slot) (at.ready.fn.slot + slot_count i) most_extras (at.ready.state.top.slot + slot_count moved) ≡ true → Ready given deep (suc j)
   by_pairs j i moved at change a b goes =
       let q = at.ready in
       let o = q.old_at in
-      let o' = old_next given j q.fn q.fw a.old b.old i o at.here (zero_plain (near bounds.padded) order i q.fn a.old a.old_does) (zero_plain (wide bounds.padded) order i q.fw b.old b.old_does) (not_exit order i q.fn a.old a.old_does) a.old_returns b.old_returns
+      let o' = old_next given deep j q.fn q.fw a.old b.old i o at.here (zero_plain (near bounds.padded) order i q.fn a.old a.old_does) (zero_plain (wide bounds.padded) order i q.fw b.old b.old_does) (not_exit order i q.fn a.old a.old_does) a.old_returns b.old_returns
       (b.old_slot ∙ ap (λ z. z + slot_count i) o.slots_same ∙ sym a.old_slot) in
-      let x = new_next given (known q) j q.n q.state q.fn q.fw q.gn q.gw a.new b.new moved q.new_at at.there a.new_does b.new_does a.new_returns in
+      let x = new_next given deep (known q) j q.n q.state q.fn q.fw q.gn q.gw a.new b.new moved q.new_at at.there a.new_does b.new_does a.new_returns b.new_returns in
       let to : x.0.top.slot ≡ q.state.top.slot + slot_count moved = sym x.2.near_fits.slot_is ∙ a.new_slot ∙ ap (λ z. z + slot_count moved) q.new_at.near_fits.slot_is in
-      (arrived given (known q) change (Some q.fn.slot) (suc j) (suc q.n) (q.fn.slot + slot_count i) most_extras (q.state.top.slot + slot_count moved) x.0 a.old b.old a.new b.new goes to a.old_slot (more j q.n (few_at j i moved at)) o'
+      (arrived given deep (known q) change (Some q.fn.slot) (suc j) (suc q.n) (q.fn.slot + slot_count i) most_extras (q.state.top.slot + slot_count moved) x.0 a.old b.old a.new b.new goes to a.old_slot (more j q.n (few_at j i moved at)) q.promise q.promises
+      (step_waits given deep j q.promise q.fn q.fw q.gn q.gw a.old b.old a.new b.new o (record { returns = a.old_returns; unseen = a.unseen }) (record { returns = b.old_returns; unseen = b.unseen }) (record { returns = a.new_returns; unseen = a.new_unseen }) (record { returns = b.new_returns; unseen = b.new_unseen }) q.waits) o'
       (record {
         run = x.2.run;
-        alone = x.2.alone;
+        near_level = x.2.near_level;
+        wide_level = x.2.wide_level;
         near_behind = a.behind;
         wide_behind = b.behind;
         near_fits = x.2.near_fits;
         wide_fits = x.2.wide_fits;
-        counts = λ want e. kept_counts (known q) (made_before given j) (made_before given (suc j)) (Some q.fn.slot) change (value_in order (near_own given) packet q.gn) (value_in order (near_own given) packet a.new) want a.unmade (turn_advances given j q.fn q.fw o) a.spared q.new_at.counted e;
+        counts = λ want e. kept_counts (known q) (made_before given deep j) (made_before given deep (suc j)) (Some q.fn.slot) change (value_in order (near_own given deep) (near_packet given deep) q.gn) (value_in order (near_own given deep) (near_packet given deep) a.new) want a.unmade (turn_advances given deep j q.fn q.fw o) a.spared q.new_at.counted e;
+        unlike = λ z e b same. q.new_at.unlike z b (sym (a.spared (Register R0) e) ∙ same);
         isolated = x.2.isolated;
       })).0
 
+  moves : (f : FlatState) (slot own : ℕ) (packet : Packet) → Stays own packet f (flat_at slot f)
+  moves f slot own packet = record { returns = refl; unseen = λ a small out. refl }
+
   -- both go elsewhere, and nothing else
   by_moves : (j : ℕ) (i moved : Insn) (at : At j i moved) (x y : ℕ) → (i ≡ Exit → ⊥) → flat_does order i at.ready.fn ≡ Some (flat_at x at.ready.fn) → flat_does order i at.ready.fw ≡ Some (flat_at x at.ready.fw)
-      → flat_does order moved at.ready.gn ≡ Some (flat_at y at.ready.gn) → flat_does order moved at.ready.gw ≡ Some (flat_at y at.ready.gw) → arrives notes (known at.ready) Kept (Some at.ready.fn.slot) x most_extras y ≡ true → Ready given (suc j)
+      → flat_does order moved at.ready.gn ≡ Some (flat_at y at.ready.gn) → flat_does order moved at.ready.gw ≡ Some (flat_at y at.ready.gw) → arrives notes (known at.ready) Kept (Some at.ready.fn.slot) x most_extras y ≡ true → Ready given deep (suc j)
   by_moves j i moved at x y other en ew dn dw goes =
       let q = at.ready in
       let new_at = q.new_at in
@@ -127,17 +131,20 @@ module _ (given : Setting) where
       let hw : FlatState = flat_at x q.fw in
       let kn : FlatState = flat_at y q.gn in
       let kw : FlatState = flat_at y q.gw in
-      let o' = old_next given j q.fn q.fw hn hw i q.old_at at.here (zero_plain (near bounds.padded) order i q.fn hn en) (zero_plain (wide bounds.padded) order i q.fw hw ew) other refl refl refl in
-      let z = new_next given (known q) j q.n q.state q.fn q.fw q.gn q.gw kn kw moved new_at at.there dn dw refl in
-      (arrived given (known q) Kept (Some q.fn.slot) (suc j) (suc q.n) x most_extras y z.0 hn hw kn kw goes (sym z.2.near_fits.slot_is) refl (more j q.n (few_at j i moved at)) o'
+      let o' = old_next given deep j q.fn q.fw hn hw i q.old_at at.here (zero_plain (near bounds.padded) order i q.fn hn en) (zero_plain (wide bounds.padded) order i q.fw hw ew) other refl refl refl in
+      let z = new_next given deep (known q) j q.n q.state q.fn q.fw q.gn q.gw kn kw moved new_at at.there dn dw refl refl in
+      (arrived given deep (known q) Kept (Some q.fn.slot) (suc j) (suc q.n) x most_extras y z.0 hn hw kn kw goes (sym z.2.near_fits.slot_is) refl (more j q.n (few_at j i moved at)) q.promise q.promises
+      (step_waits given deep j q.promise q.fn q.fw q.gn q.gw hn hw kn kw q.old_at (moves q.fn x (near_own given deep) (near_packet given deep)) (moves q.fw x (wide_own given deep) (wide_packet given deep)) (moves q.gn y (near_own given deep) (near_packet given deep)) (moves q.gw y (wide_own given deep) (wide_packet given deep)) q.waits) o'
       (record {
         run = z.2.run;
-        alone = z.2.alone;
-        near_behind = kept_there order (near_own given) packet (known q) q.fn q.gn x y new_at.near_at;
-        wide_behind = kept_there order (wide_own given) packet (known q) q.fw q.gw x y new_at.wide_at;
+        near_level = z.2.near_level;
+        wide_level = z.2.wide_level;
+        near_behind = kept_there order (near_own given deep) (near_packet given deep) (known q) q.fn q.gn x y new_at.near_at;
+        wide_behind = kept_there order (wide_own given deep) (wide_packet given deep) (known q) q.fw q.gw x y new_at.wide_at;
         near_fits = z.2.near_fits;
         wide_fits = z.2.wide_fits;
-        counts = λ want e. kept_counts (known q) (made_before given j) (made_before given (suc j)) (Some q.fn.slot) Kept (value_in order (near_own given) packet q.gn) (value_in order (near_own given) packet kn) want (λ want h. false≢true h) (turn_advances given j q.fn q.fw q.old_at) (λ h e. at_same order (near_own given) packet y q.gn (Some h)) new_at.counted e;
+        counts = λ want e. kept_counts (known q) (made_before given deep j) (made_before given deep (suc j)) (Some q.fn.slot) Kept (value_in order (near_own given deep) (near_packet given deep) q.gn) (value_in order (near_own given deep) (near_packet given deep) kn) want (λ want h. false≢true h) (turn_advances given deep j q.fn q.fw q.old_at) (λ h e. at_same order (near_own given deep) (near_packet given deep) y q.gn (Some h)) new_at.counted e;
+        unlike = λ z e b same. new_at.unlike z b same;
         isolated = z.2.isolated;
       })).0
 
@@ -156,7 +163,7 @@ module _ (given : Setting) where
       by_new None eo h = absurd (false≢true h)
       by_new (Some new_to) eo h = record { to = to; to_is = e; new_to = new_to; new_is = eo; goes = h }
 
-  by_jumps : (j : ℕ) (i moved : Insn) (at : At j i moved) → is_jump i ≡ true → is_jump moved ≡ true → leads notes (known at.ready) Kept at.ready.fn.slot at.ready.state.top.slot i moved ≡ true → Ready given (suc j)
+  by_jumps : (j : ℕ) (i moved : Insn) (at : At j i moved) → is_jump i ≡ true → is_jump moved ≡ true → leads notes (known at.ready) Kept at.ready.fn.slot at.ready.state.top.slot i moved ≡ true → Ready given deep (suc j)
   by_jumps j i moved at jumps_is new_jumps goes =
       let q = at.ready in
       let o = q.old_at in
@@ -169,18 +176,18 @@ module _ (given : Setting) where
 
   -- tests that answer alike
   by_tests : (j : ℕ) (cond other : Cond) (width : Width) (dst : Reg) (src : Operand) (off new_off : ℤ) (at : At j (JumpIf cond width dst src off) (JumpIf other width dst src new_off))
-      → ((start : ℕ) (f g : FlatState) → AtOnce order start packet (known at.ready) f g → jumps width other (flat_register g dst) (flat_operand g src) ≡ jumps width cond (flat_register f dst) (flat_operand f src))
-      → goes notes (known at.ready) at.ready.fn.slot at.ready.state.top.slot (JumpIf cond width dst src off) (JumpIf other width dst src new_off) Kept ≡ true → Ready given (suc j)
+      → ((start : ℕ) (packet : Packet) (f g : FlatState) → AtOnce order start packet (known at.ready) f g → jumps width other (flat_register g dst) (flat_operand g src) ≡ jumps width cond (flat_register f dst) (flat_operand f src))
+      → goes notes (known at.ready) at.ready.fn.slot at.ready.state.top.slot (JumpIf cond width dst src off) (JumpIf other width dst src new_off) Kept ≡ true → Ready given deep (suc j)
   by_tests j cond other width dst src off new_off at agree goes_is =
       let y = steps_on order js new_valid context bytes short never q.n q.state moved q.new_at.run at.there (test_turns moved other width dst src new_off refl) in
       let a = answers order q.state y.0 other width dst src new_off (does_there order js new_valid context bytes short never q.state y.0 moved at.there y.1) in
       let dn = answers_same order js new_valid context bytes short never (near false) q.n q.state q.gn other width dst src a q.new_at.run q.new_at.near_fits in
       let dw = answers_same order js new_valid context bytes short never (wide false) q.n q.state q.gw other width dst src a q.new_at.run q.new_at.wide_fits in
-      let on : jumps width cond (flat_register q.fn dst) (flat_operand q.fn src) ≡ a.taken = sym (agree (near_own given) q.fn q.gn q.new_at.near_at) ∙ dn in
-      let ow : jumps width cond (flat_register q.fw dst) (flat_operand q.fw src) ≡ a.taken = sym (agree (wide_own given) q.fw q.gw q.new_at.wide_at) ∙ dw in
+      let on : jumps width cond (flat_register q.fn dst) (flat_operand q.fn src) ≡ a.taken = sym (agree (near_own given deep) (near_packet given deep) q.fn q.gn q.new_at.near_at) ∙ dn in
+      let ow : jumps width cond (flat_register q.fw dst) (flat_operand q.fw src) ≡ a.taken = sym (agree (wide_own given deep) (wide_packet given deep) q.fw q.gw q.new_at.wide_at) ∙ dw in
       by_way a.taken on ow dn dw
     where
-      q : Ready given j
+      q : Ready given deep j
       q = at.ready
 
       i : Insn
@@ -196,7 +203,7 @@ module _ (given : Setting) where
       parts = and_parts (falls notes (known q) Kept q.fn.slot q.state.top.slot i moved) (leads notes (known q) Kept q.fn.slot q.state.top.slot i moved) goes_is
 
       by_way : (b : Bool) → jumps width cond (flat_register q.fn dst) (flat_operand q.fn src) ≡ b → jumps width cond (flat_register q.fw dst) (flat_operand q.fw src) ≡ b
-          → jumps width other (flat_register q.gn dst) (flat_operand q.gn src) ≡ b → jumps width other (flat_register q.gw dst) (flat_operand q.gw src) ≡ b → Ready given (suc j)
+          → jumps width other (flat_register q.gn dst) (flat_operand q.gn src) ≡ b → jumps width other (flat_register q.gw dst) (flat_operand q.gw src) ≡ b → Ready given deep (suc j)
       by_way true on ow dn dw =
           let o = q.old_at in
           let g = goes_on (near bounds.padded) old old_valid own bounds v k near_ends j q.fn i o.near_run o.near_before at.here turns in
@@ -213,55 +220,15 @@ module _ (given : Setting) where
           (test_falls order other width dst src new_off q.gn dn ∙ ap (λ z. Some (flat_at (z + 1) q.gn)) q.new_at.near_fits.slot_is) (test_falls order other width dst src new_off q.gw dw ∙ ap (λ z. Some (flat_at (z + 1) q.gw)) q.new_at.wide_fits.slot_is)
           parts.0
 
-  -- ---- the end
-
-  abbrev pub Ended : Type 0
-  Ended = EndsAt new context v (StandsForExit old notes) (most_for_one * suc (suc k))
-
-  by_exits : (j : ℕ) (at : At j Exit Exit) → is_same (facts_at at.ready.note) R0 ≡ true → Ended
-  by_exits j at same =
-      let q = at.ready in
-      let o = q.old_at in
-      let done = ends_here (near bounds.padded) old old_valid own bounds v k near_ends j q.fn o.near_run o.near_before at.here o.near_outer in
-      let end = ends_on order js new_valid context bytes short never q.n q.state q.new_at.run at.there q.new_at.alone in
-      let equal : flat_register q.gn R0 ≡ flat_register q.fn R0 = register_same order (near_own given) packet (known q) q.fn q.gn R0 q.new_at.near_at same in
-      let value : end.0 ≡ v = sym (number_stands q.new_at.near_fits R0 end.0 end.2) ∙ equal ∙ done.1 in
-      record {
-        steps = q.n;
-        state = q.state;
-        run = q.new_at.run;
-        finish = subst (λ v. Finish new q.state v) value end.1;
-        at_exit = record { note = q.note; noted = q.noted; body = at.body; exit = ap (insn_at is) (sym q.old_is) ∙ at.here };
-        few = in_time j k q.n (few_at j Exit Exit at) done.0;
-      }
-
-  has_insn : (j : ℕ) (fn fw : FlatState) → OldAt given j fn fw → (i : Insn) × (insn_at is fn.slot ≡ Some i)
-  unfolding zero_step
-  has_insn j fn fw o = by_insn (insn_at is fn.slot) refl
-    where
-      by_insn : (c : Option Insn) → insn_at is fn.slot ≡ c → (i : Insn) × (insn_at is fn.slot ≡ Some i)
-      by_insn (Some i) e = (i, e)
-      by_insn None e = by_order (cases_order j k)
-        where
-          by_order : (j ≡ k) ⊎ ((j < k) ⊎ (k < j)) → (i : Insn) × (insn_at is fn.slot ≡ Some i)
-          by_order (inl same) =
-              let last : fn ≡ near_ends.last = same_Some fn near_ends.last (sym o.near_run ∙ subst (λ n. zero_after (near bounds.padded) old n (zero_start (near bounds.padded) own) ≡ Some near_ends.last) (sym same) near_ends.run) in
-              (Exit, ap (λ f. insn_at is f.slot) last ∙ near_ends.finish.stands)
-          by_order (inr (inl less)) =
-              let g = earlier (near bounds.padded) old (zero_start (near bounds.padded) own) k (suc j) near_ends.last near_ends.run less in
-              let step : zero_step (near bounds.padded) old fn ≡ Some g.0 = onward (near bounds.padded) old (zero_start (near bounds.padded) own) fn g.0 j o.near_run g.1 in
-              absurd (none-some g.0 (ap (option_and_then (λ i. zero_does (near bounds.padded) order i fn)) (sym e) ∙ step))
-          by_order (inr (inr more)) = let before = o.near_before in absurd (omega arith)
-
   -- what neither changes
   by_kept : (j : ℕ) (i moved : Insn) (at : At j i moved) (same : Bool) → IsTrue same ↔ (undirected moved ≡ undirected i) → keeps (facts_at at.ready.note) same i moved ≡ true
-      → goes notes (known at.ready) at.ready.fn.slot at.ready.state.top.slot i moved Kept ≡ true → Ready given (suc j) ⊎ Ended
+      → goes notes (known at.ready) at.ready.fn.slot at.ready.state.top.slot i moved Kept ≡ true → Ready given deep (suc j)
   unfolding keeps
   by_kept j i moved at same same_is kept goes_is = elim (or_cases (is_jump i && is_jump moved) ((same && is_kept facts i) || by_order facts i moved) kept) [
-    | inl jumped ↦ (let h = and_parts (is_jump i) (is_jump moved) jumped in inl (by_jumps j i moved at h.0 h.1 parts.1))
+    | inl jumped ↦ (let h = and_parts (is_jump i) (is_jump moved) jumped in by_jumps j i moved at h.0 h.1 parts.1)
     | inr rest ↦ elim (or_cases (same && is_kept facts i) (by_order facts i moved) rest) [
       | inl again ↦ (let h = and_parts same (is_kept facts i) again in by_same i moved at (same_is.0 h.0) h.1 goes_is)
-      | inr ordered ↦ inl (by_ordered i moved at ordered goes_is)
+      | inr ordered ↦ by_ordered i moved at ordered goes_is
     ]
   ]
     where
@@ -271,27 +238,26 @@ module _ (given : Setting) where
       parts : (falls notes (known at.ready) Kept at.ready.fn.slot at.ready.state.top.slot i moved ≡ true) × (leads notes (known at.ready) Kept at.ready.fn.slot at.ready.state.top.slot i moved ≡ true)
       parts = and_parts (falls notes (known at.ready) Kept at.ready.fn.slot at.ready.state.top.slot i moved) (leads notes (known at.ready) Kept at.ready.fn.slot at.ready.state.top.slot i moved) goes_is
 
-      by_same : (i moved : Insn) (at : At j i moved) → undirected moved ≡ undirected i → is_kept (facts_at at.ready.note) i ≡ true → goes notes (known at.ready) at.ready.fn.slot at.ready.state.top.slot i moved Kept ≡ true → Ready given (suc j) ⊎ Ended
+      by_same : (i moved : Insn) (at : At j i moved) → undirected moved ≡ undirected i → is_kept (facts_at at.ready.note) i ≡ true → goes notes (known at.ready) at.ready.fn.slot at.ready.state.top.slot i moved Kept ≡ true → Ready given deep (suc j)
       by_same (JumpIf cond width dst src off) moved at e h goes_is =
           let t = same_tests moved cond width dst src e in
-          inl (subst (λ m. (at : At j (JumpIf cond width dst src off) m) → is_kept (facts_at at.ready.note) (JumpIf cond width dst src off) ≡ true → goes notes (known at.ready) at.ready.fn.slot at.ready.state.top.slot (JumpIf cond width dst src off) m Kept ≡ true → Ready given (suc j)) (sym t.1)
-          (λ at h goes_is. by_tests j cond cond width dst src off t.0 at (λ start f g one. same_test order start packet (known at.ready) f g one cond width dst src off h) goes_is) at h goes_is)
-      by_same Exit moved at e h goes_is = inr (subst (λ m. (at : At j Exit m) → is_same (facts_at at.ready.note) R0 ≡ true → Ended) (sym (same_exit moved e)) (λ at h. by_exits j at h) at h)
+          subst (λ m. (at : At j (JumpIf cond width dst src off) m) → is_kept (facts_at at.ready.note) (JumpIf cond width dst src off) ≡ true → goes notes (known at.ready) at.ready.fn.slot at.ready.state.top.slot (JumpIf cond width dst src off) m Kept ≡ true → Ready given deep (suc j)) (sym t.1)
+          (λ at h goes_is. by_tests j cond cond width dst src off t.0 at (λ start packet f g one. same_test order start packet (known at.ready) f g one cond width dst src off h) goes_is) at h goes_is
       by_same i moved at e h goes_is = absurd (false≢true h)
 
-      by_ordered : (i moved : Insn) (at : At j i moved) → by_order (facts_at at.ready.note) i moved ≡ true → goes notes (known at.ready) at.ready.fn.slot at.ready.state.top.slot i moved Kept ≡ true → Ready given (suc j)
+      by_ordered : (i moved : Insn) (at : At j i moved) → by_order (facts_at at.ready.note) i moved ≡ true → goes notes (known at.ready) at.ready.fn.slot at.ready.state.top.slot i moved Kept ≡ true → Ready given deep (suc j)
       by_ordered (JumpIf cond W64 dst (FromReg src) off) (JumpIf other W64 left (FromReg right) new_off) at h goes_is =
           let a = and_parts (turned_test cond other) (same_register dst left && (same_register src right && are are_offsets (facts_at at.ready.note) dst src)) h in
           let b = and_parts (same_register dst left) (same_register src right && are are_offsets (facts_at at.ready.note) dst src) a.1 in
           let c = and_parts (same_register src right) (are are_offsets (facts_at at.ready.note) dst src) b.1 in
-          subst (λ r. (at : At j (JumpIf cond W64 dst (FromReg src) off) (JumpIf other W64 r (FromReg right) new_off)) → are are_offsets (facts_at at.ready.note) dst src ≡ true → goes notes (known at.ready) at.ready.fn.slot at.ready.state.top.slot (JumpIf cond W64 dst (FromReg src) off) (JumpIf other W64 r (FromReg right) new_off) Kept ≡ true → Ready given (suc j)) (sym (register_is dst left b.0))
-          (subst (λ r. (at : At j (JumpIf cond W64 dst (FromReg src) off) (JumpIf other W64 dst (FromReg r) new_off)) → are are_offsets (facts_at at.ready.note) dst src ≡ true → goes notes (known at.ready) at.ready.fn.slot at.ready.state.top.slot (JumpIf cond W64 dst (FromReg src) off) (JumpIf other W64 dst (FromReg r) new_off) Kept ≡ true → Ready given (suc j)) (sym (register_is src right c.0))
-          (λ at h goes_is. by_tests j cond other W64 dst (FromReg src) off new_off at (λ start f g one. order_test order start packet (known at.ready) f g one cond other dst src a.0 h) goes_is)) at c.1 goes_is
+          subst (λ r. (at : At j (JumpIf cond W64 dst (FromReg src) off) (JumpIf other W64 r (FromReg right) new_off)) → are are_offsets (facts_at at.ready.note) dst src ≡ true → goes notes (known at.ready) at.ready.fn.slot at.ready.state.top.slot (JumpIf cond W64 dst (FromReg src) off) (JumpIf other W64 r (FromReg right) new_off) Kept ≡ true → Ready given deep (suc j)) (sym (register_is dst left b.0))
+          (subst (λ r. (at : At j (JumpIf cond W64 dst (FromReg src) off) (JumpIf other W64 dst (FromReg r) new_off)) → are are_offsets (facts_at at.ready.note) dst src ≡ true → goes notes (known at.ready) at.ready.fn.slot at.ready.state.top.slot (JumpIf cond W64 dst (FromReg src) off) (JumpIf other W64 dst (FromReg r) new_off) Kept ≡ true → Ready given deep (suc j)) (sym (register_is src right c.0))
+          (λ at h goes_is. by_tests j cond other W64 dst (FromReg src) off new_off at (λ start packet f g one. order_test order start packet (known at.ready) f g one cond other dst src a.0 h) goes_is)) at c.1 goes_is
       by_ordered i moved at h goes_is = absurd (false≢true h)
 
   -- what both put into a register
   by_put : (j : ℕ) (i moved : Insn) (at : At j i moved) (same : Bool) (change : Change) → IsTrue same ↔ (undirected moved ≡ undirected i) → puts (known at.ready) same i moved ≡ Some change
-      → goes notes (known at.ready) at.ready.fn.slot at.ready.state.top.slot i moved change ≡ true → Ready given (suc j)
+      → goes notes (known at.ready) at.ready.fn.slot at.ready.state.top.slot i moved change ≡ true → Ready given deep (suc j)
   by_put j i moved at same change same_is e goes_is = option_and_then_some _ (put_into i) change e (λ r er e1.
       let pin : Option Term = pin_of (facts_at q.note) i in
       let c = none_first (is_frame_pointer r) (option_map (put (Register r) pin) (put_by (known q) same i moved)) change e1 in
@@ -302,11 +268,11 @@ module _ (given : Setting) where
       let enc' : HasEncoding moved = encoding_at js new_valid.encoding q.state.top.slot moved at.there in
       let other = put_moved same i moved r x.0 same_is er x.1 in
       let here' : insn_at is q.fw.slot ≡ Some i = ap (insn_at is) q.old_at.slots_same ∙ at.here in
-      let pn = put_both order (near_own given) packet (known q) same i moved r x.0 q.fn q.gn same_is er enc enc' q.new_at.near_at (near_leaves given (known q) j q.n q.state q.fn q.fw q.gn q.gw i moved q.old_at q.new_at at.here at.there other) x.1 in
-      let pw = put_both order (wide_own given) packet (known q) same i moved r x.0 q.fw q.gw same_is er enc enc' q.new_at.wide_at (wide_leaves given (known q) j q.n q.state q.fn q.fw q.gn q.gw i moved q.old_at q.new_at here' at.there other) x.1 in
-      by_pairs j i moved at (put (Register r) pin x.0) (both_put order (near_own given) packet (known q) i moved r x.0 q.fn q.gn q.new_at.near_at enc enc' er c.0 pn) (both_put order (wide_own given) packet (known q) i moved r x.0 q.fw q.gw q.new_at.wide_at enc enc' er c.0 pw) (put_falls i r er (put (Register r) pin x.0) p.0))
+      let pn = put_both order (near_own given deep) (near_packet given deep) (known q) same i moved r x.0 q.fn q.gn same_is er enc enc' q.new_at.near_at (near_leaves given deep (known q) j q.n q.state q.fn q.fw q.gn q.gw i moved refl q.old_at q.new_at at.here at.there other) x.1 in
+      let pw = put_both order (wide_own given deep) (wide_packet given deep) (known q) same i moved r x.0 q.fw q.gw same_is er enc enc' q.new_at.wide_at (wide_leaves given deep (known q) j q.n q.state q.fn q.fw q.gn q.gw i moved refl q.old_at q.new_at here' at.there other) x.1 in
+      by_pairs j i moved at (put (Register r) pin x.0) (both_put order (near_own given deep) (near_packet given deep) (known q) i moved r x.0 q.fn q.gn q.new_at.near_at enc enc' er c.0 pn) (both_put order (wide_own given deep) (wide_packet given deep) (known q) i moved r x.0 q.fw q.gw q.new_at.wide_at enc enc' er c.0 pw) (put_falls i r er (put (Register r) pin x.0) p.0))
     where
-      q : Ready given j
+      q : Ready given deep j
       q = at.ready
 
       loads_moved : (i moved : Insn) → loads_alike (known q) i moved ≡ true → moved ≡ Exit → ⊥
@@ -345,11 +311,11 @@ module _ (given : Setting) where
 
   -- what both store
   by_store : (j : ℕ) (i moved : Insn) (at : At j i moved) (same : Bool) (change : Change) → IsTrue same ↔ (undirected moved ≡ undirected i) → stores (known at.ready) same i moved ≡ Some change
-      → goes notes (known at.ready) at.ready.fn.slot at.ready.state.top.slot i moved change ≡ true → Ready given (suc j)
+      → goes notes (known at.ready) at.ready.fn.slot at.ready.state.top.slot i moved change ≡ true → Ready given deep (suc j)
   by_store j i moved at same change same_is e goes_is =
       by_pairs j i moved at change (near_pair same same_is e) (wide_pair same same_is e) (store_falls i (is_stored same i moved e) p.0)
     where
-      q : Ready given j
+      q : Ready given deep j
       q = at.ready
 
       p : (falls notes (known q) change q.fn.slot q.state.top.slot i moved ≡ true) × (leads notes (known q) change q.fn.slot q.state.top.slot i moved ≡ true)
@@ -383,83 +349,54 @@ module _ (given : Setting) where
           no_store (StoreImm size dst off imm) h = false≢true h
           no_store i h = false≢true h
 
-      near_alike : cond (stores_alike (facts_at q.note) i moved) (reached (known q).left i moved) None ≡ Some change → Paired order (near_own given) packet (known q) change i moved q.fn q.gn
+      near_alike : cond (stores_alike (facts_at q.note) i moved) (reached (known q).left i moved) None ≡ Some change → Paired order (near_own given deep) (near_packet given deep) (known q) change i moved q.fn q.gn
       near_alike h =
           let c = alike (reached (known q).left i moved) h in
-          stores_there order (near_own given) packet (known q) change i moved q.fn q.gn q.new_at.near_at enc enc' (near_leaves given (known q) j q.n q.state q.fn q.fw q.gn q.gw i moved q.old_at q.new_at at.here at.there (moved_store c.0)) c.0 c.1
+          stores_there order (near_own given deep) (near_packet given deep) (known q) change i moved q.fn q.gn q.new_at.near_at enc enc' (near_leaves given deep (known q) j q.n q.state q.fn q.fw q.gn q.gw i moved refl q.old_at q.new_at at.here at.there (moved_store c.0)) c.0 c.1
 
-      wide_alike : cond (stores_alike (facts_at q.note) i moved) (reached (known q).left i moved) None ≡ Some change → Paired order (wide_own given) packet (known q) change i moved q.fw q.gw
+      wide_alike : cond (stores_alike (facts_at q.note) i moved) (reached (known q).left i moved) None ≡ Some change → Paired order (wide_own given deep) (wide_packet given deep) (known q) change i moved q.fw q.gw
       wide_alike h =
           let c = alike (reached (known q).left i moved) h in
-          stores_there order (wide_own given) packet (known q) change i moved q.fw q.gw q.new_at.wide_at enc enc' (wide_leaves given (known q) j q.n q.state q.fn q.fw q.gn q.gw i moved q.old_at q.new_at (ap (insn_at is) q.old_at.slots_same ∙ at.here) at.there (moved_store c.0)) c.0 c.1
+          stores_there order (wide_own given deep) (wide_packet given deep) (known q) change i moved q.fw q.gw q.new_at.wide_at enc enc' (wide_leaves given deep (known q) j q.n q.state q.fn q.fw q.gn q.gw i moved refl q.old_at q.new_at (ap (insn_at is) q.old_at.slots_same ∙ at.here) at.there (moved_store c.0)) c.0 c.1
 
-      near_pair : (same : Bool) → IsTrue same ↔ (undirected moved ≡ undirected i) → stores (known q) same i moved ≡ Some change → Paired order (near_own given) packet (known q) change i moved q.fn q.gn
+      near_pair : (same : Bool) → IsTrue same ↔ (undirected moved ≡ undirected i) → stores (known q) same i moved ≡ Some change → Paired order (near_own given deep) (near_packet given deep) (known q) change i moved q.fn q.gn
       near_pair false same_is h = near_alike h
       near_pair true same_is h = by_slot (puts_slot (facts_at q.note) i) refl h
         where
-          by_slot : (o : Option Change) → puts_slot (facts_at q.note) i ≡ o → option_or o (cond (stores_alike (facts_at q.note) i moved) (reached (known q).left i moved) None) ≡ Some change → Paired order (near_own given) packet (known q) change i moved q.fn q.gn
+          by_slot : (o : Option Change) → puts_slot (facts_at q.note) i ≡ o → option_or o (cond (stores_alike (facts_at q.note) i moved) (reached (known q).left i moved) None) ≡ Some change → Paired order (near_own given deep) (near_packet given deep) (known q) change i moved q.fn q.gn
           by_slot None eo h = near_alike h
-          by_slot (Some c) eo h = subst (λ m. Paired order (near_own given) packet (known q) change i m q.fn q.gn) (sym (store_again i moved (is_stored true i moved e') (same_is.0 refl))) (slots_put order (near_own given) packet (known q) change i q.fn q.gn q.new_at.near_at enc (eo ∙ h))
+          by_slot (Some c) eo h = subst (λ m. Paired order (near_own given deep) (near_packet given deep) (known q) change i m q.fn q.gn) (sym (store_again i moved (is_stored true i moved e') (same_is.0 refl))) (slots_put order (near_own given deep) (near_packet given deep) (known q) change i q.fn q.gn q.new_at.near_at enc (eo ∙ h))
             where
               e' : stores (known q) true i moved ≡ Some change
               e' = ap (λ o. option_or o (cond (stores_alike (facts_at q.note) i moved) (reached (known q).left i moved) None)) eo ∙ h
 
-      wide_pair : (same : Bool) → IsTrue same ↔ (undirected moved ≡ undirected i) → stores (known q) same i moved ≡ Some change → Paired order (wide_own given) packet (known q) change i moved q.fw q.gw
+      wide_pair : (same : Bool) → IsTrue same ↔ (undirected moved ≡ undirected i) → stores (known q) same i moved ≡ Some change → Paired order (wide_own given deep) (wide_packet given deep) (known q) change i moved q.fw q.gw
       wide_pair false same_is h = wide_alike h
       wide_pair true same_is h = by_slot (puts_slot (facts_at q.note) i) refl h
         where
-          by_slot : (o : Option Change) → puts_slot (facts_at q.note) i ≡ o → option_or o (cond (stores_alike (facts_at q.note) i moved) (reached (known q).left i moved) None) ≡ Some change → Paired order (wide_own given) packet (known q) change i moved q.fw q.gw
+          by_slot : (o : Option Change) → puts_slot (facts_at q.note) i ≡ o → option_or o (cond (stores_alike (facts_at q.note) i moved) (reached (known q).left i moved) None) ≡ Some change → Paired order (wide_own given deep) (wide_packet given deep) (known q) change i moved q.fw q.gw
           by_slot None eo h = wide_alike h
-          by_slot (Some c) eo h = subst (λ m. Paired order (wide_own given) packet (known q) change i m q.fw q.gw) (sym (store_again i moved (is_stored true i moved e') (same_is.0 refl))) (slots_put order (wide_own given) packet (known q) change i q.fw q.gw q.new_at.wide_at enc (eo ∙ h))
+          by_slot (Some c) eo h = subst (λ m. Paired order (wide_own given deep) (wide_packet given deep) (known q) change i m q.fw q.gw) (sym (store_again i moved (is_stored true i moved e') (same_is.0 refl))) (slots_put order (wide_own given deep) (wide_packet given deep) (known q) change i q.fw q.gw q.new_at.wide_at enc (eo ∙ h))
             where
               e' : stores (known q) true i moved ≡ Some change
               e' = ap (λ o. option_or o (cond (stores_alike (facts_at q.note) i moved) (reached (known q).left i moved) None)) eo ∙ h
 
-  -- from in front of an old instruction to in front of the next one, or to the end
-  by_body : (j : ℕ) (q : Ready given j) → q.note.extras ≡ 0 → IsBody old new notes bounds q.state.top.slot q.note → Ready given (suc j) ⊎ Ended
-  unfolding stands paired
-  by_body j q body b = by_change (paired (known q) b.same b.insn b.moved) refl b.good
+  -- an instruction that neither calls nor ends a function
+  pub by_pair : (j : ℕ) (i moved : Insn) (at : At j i moved) (same : Bool) → IsTrue same ↔ (undirected moved ≡ undirected i) → option_map_or (goes notes (known at.ready) at.ready.fn.slot at.ready.state.top.slot i moved) (paired (known at.ready) same i moved) false ≡ true → Ready given deep (suc j)
+  unfolding paired
+  by_pair j i moved at same same_is good = by_change (paired (known q) same i moved) refl good
     where
-      at : At j b.insn b.moved
-      at = record { ready = q; body = body; here = ap (insn_at is) q.old_is ∙ b.insn_is; there = b.moved_is }
+      q : Ready given deep j
+      q = at.ready
 
-      by_first : (change : Change) (o : Option Change) → stores (known q) b.same b.insn b.moved ≡ o → option_or o (puts (known q) b.same b.insn b.moved) ≡ Some change → goes notes (known q) q.fn.slot q.state.top.slot b.insn b.moved change ≡ true → Ready given (suc j)
-      by_first change None eo e g = by_put j b.insn b.moved at b.same change b.same_is e g
-      by_first change (Some c) eo e g = by_store j b.insn b.moved at b.same change b.same_is (eo ∙ e) g
+      by_first : (change : Change) (o : Option Change) → stores (known q) same i moved ≡ o → option_or o (puts (known q) same i moved) ≡ Some change → goes notes (known q) q.fn.slot q.state.top.slot i moved change ≡ true → Ready given deep (suc j)
+      by_first change None eo e g = by_put j i moved at same change same_is e g
+      by_first change (Some c) eo e g = by_store j i moved at same change same_is (eo ∙ e) g
 
-      by_test : (change : Change) (c : Bool) → keeps (facts_at q.note) b.same b.insn b.moved ≡ c → cond c (Some Kept) (option_or (stores (known q) b.same b.insn b.moved) (puts (known q) b.same b.insn b.moved)) ≡ Some change → goes notes (known q) q.fn.slot q.state.top.slot b.insn b.moved change ≡ true → Ready given (suc j) ⊎ Ended
-      by_test change true ec e g = by_kept j b.insn b.moved at b.same b.same_is ec (subst (λ change. goes notes (known q) q.fn.slot q.state.top.slot b.insn b.moved change ≡ true) (sym (same_Some Kept change e)) g)
-      by_test change false ec e g = inl (by_first change (stores (known q) b.same b.insn b.moved) refl e g)
+      by_test : (change : Change) (c : Bool) → keeps (facts_at q.note) same i moved ≡ c → cond c (Some Kept) (option_or (stores (known q) same i moved) (puts (known q) same i moved)) ≡ Some change → goes notes (known q) q.fn.slot q.state.top.slot i moved change ≡ true → Ready given deep (suc j)
+      by_test change true ec e g = by_kept j i moved at same same_is ec (subst (λ change. goes notes (known q) q.fn.slot q.state.top.slot i moved change ≡ true) (sym (same_Some Kept change e)) g)
+      by_test change false ec e g = by_first change (stores (known q) same i moved) refl e g
 
-      by_change : (o : Option Change) → paired (known q) b.same b.insn b.moved ≡ o → option_map_or (goes notes (known q) q.note.old q.state.top.slot b.insn b.moved) o false ≡ true → Ready given (suc j) ⊎ Ended
+      by_change : (o : Option Change) → paired (known q) same i moved ≡ o → option_map_or (goes notes (known q) q.fn.slot q.state.top.slot i moved) o false ≡ true → Ready given deep (suc j)
       by_change None eo h = absurd (false≢true h)
-      by_change (Some change) eo h = by_test change (keeps (facts_at q.note) b.same b.insn b.moved) refl eo (subst (λ slot. goes notes (known q) slot q.state.top.slot b.insn b.moved change ≡ true) (sym q.old_is) h)
-
-  -- the old instruction's, or one extra instruction less
-  body_or_extra : (j : ℕ) (q : Ready given j) → (Ready given (suc j) ⊎ Ended) ⊎ ((n : Ready given j) × (suc n.note.extras ≤ q.note.extras))
-  body_or_extra j q = by_extras q.note.extras refl (matches.each q.state.top.slot q.note q.noted)
-    where
-      by_extras : (e : ℕ) → q.note.extras ≡ e → IsEither old new notes bounds q.state.top.slot q.note e → (Ready given (suc j) ⊎ Ended) ⊎ ((n : Ready given j) × (suc n.note.extras ≤ q.note.extras))
-      by_extras zero e x = inl (by_body j q e x)
-      by_extras (suc left) e x = let n = extra_step given j left q e x in let few = n.1 in inr (n.0, omega arith)
-
-  -- first the extra instructions
-  follow : (fuel j : ℕ) (q : Ready given j) → q.note.extras ≤ fuel → Ready given (suc j) ⊎ Ended
-  follow zero j q le = elim (body_or_extra j q) [
-    | inl done ↦ done
-    | inr n ↦ (let less = n.1 in absurd (omega arith))
-  ]
-  follow (suc fuel) j q le = elim (body_or_extra j q) [
-    | inl done ↦ done
-    | inr n ↦ follow fuel j n.0 (let less = n.1 in omega arith)
-  ]
-
-  pub ends : (left j : ℕ) → j + left ≡ k → Ready given j → Ended
-  ends zero j e r = elim (follow r.note.extras j r (omega arith)) [
-    | inl next ↦ (let before = next.old_at.near_before in absurd (omega arith))
-    | inr done ↦ done
-  ]
-  ends (suc left) j e r = elim (follow r.note.extras j r (omega arith)) [
-    | inl next ↦ ends left (suc j) (omega arith) next
-    | inr done ↦ done
-  ]
+      by_change (Some change) eo h = by_test change (keeps (facts_at q.note) same i moved) refl eo h

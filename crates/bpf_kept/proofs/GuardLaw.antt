@@ -8,7 +8,7 @@ use Rattle.std.proofs.lemmas.Bool.{and_parts, or_cases, cases_lt, le-ltb, eqb-tr
 use Rattle.std.proofs.lemmas.Int.{ints}
 use Rattle.bpf_insn.specs.Arithmetic.{modulo}
 use Rattle.bpf_insn.specs.Effects.{Access}
-use Rattle.bpf_insn.specs.Limits.{frame_bytes}
+use Rattle.bpf_insn.specs.Limits.{frame_bytes, max_frames}
 use Rattle.bpf_insn.specs.Instruction.{Instructions, register_number, byte_count}
 use Rattle.bpf_insn.specs.declared.order.Order.{Order}
 use Rattle.bpf_insn.specs.declared.instruction.Reg.{Reg}
@@ -30,7 +30,7 @@ use Rattle.bpf_kept.proofs.FarLaw.{one_address_is_context, one_distance_is_frame
 use Rattle.bpf_kept.proofs.TermLaw.{differs_same}
 use Rattle.bpf_kept.proofs.HoldsLaw.{plain_shift}
 use Rattle.bpf_kept.proofs.TestLaw.{cancelled}
-use Rattle.bpf_kept.proofs.AheadLaw.{Inside}
+use Rattle.bpf_kept.proofs.AheadLaw.{Inside, last_frame}
 
 -- ---- numbers
 
@@ -165,16 +165,16 @@ context_same n =
     swap : (z : ℤ) → z +ℤ pos (2 ^ 63) ≡ pos (2 ^ 63) +ℤ z
     swap z = omega (arith, ints)
 
-module _ (padded : Bool) (packet : Packet) (old : Instructions) (len limit slot x : ℕ) (fn fw : FlatState) (short : len < 2 ^ 32) (few : packet.length ≤ len) (within : (a : ℕ) → IsAmong (near padded).context packet.length a → IsAmong (2 ^ 63) len a) (most : limit < addresses) (small : x < addresses) (flat : IsFlat fn) (flat' : IsFlat fw)
+module _ (deep : ℕ) (shallow : deep < max_frames) (padded : Bool) (packet : Packet) (old : Instructions) (len limit slot x : ℕ) (fn fw : FlatState) (short : len < 2 ^ 32) (few : packet.length ≤ len) (within : (a : ℕ) → IsAmong (near padded).context packet.length a → IsAmong (2 ^ 63) len a) (most : limit < addresses) (small : x < addresses) (flat : IsFlat fn) (flat' : IsFlat fw)
     (inside : (r : Reg) → AllByRecursion (Inside (near padded) packet.length (flat_register fn r)) (accesses_ahead old r farthest_ahead slot)) (inside' : (r : Reg) → AllByRecursion (Inside (wide padded) packet.length (flat_register fw r)) (accesses_ahead old r farthest_ahead slot)) where
   abbrev pub front : Front
   front = record { old = old; slot = slot; length = len }
 
   abbrev start : ℕ
-  start = frame_start (near false) 0
+  start = frame_start (near false) deep
 
   abbrev other : ℕ
-  other = frame_start (wide false) 0
+  other = frame_start (wide false) deep
 
   -- by a pointer into the context: it is one address at both placements, and so is where it goes
   in_context : (moved : ℤ) (r : Reg) (a : Access) → flat_register fw r ≡ flat_register fn r → Same (pos x) (pos (flat_register fn r) +ℤ (pos (2 ^ 63) +ℤ moved)) → Inside (near padded) packet.length (flat_register fn r) a → Inside (wide padded) packet.length (flat_register fw r) a → Lies x len moved a
@@ -183,7 +183,7 @@ module _ (padded : Bool) (packet : Packet) (old : Instructions) (len limit slot 
       record {
         near = h.near;
         there = λ b lt. context_distance x y len b moved a.offset s
-            (within ((modulo (pos y +ℤ a.offset) addresses + b) % addresses) (one_address_is_context padded packet.length 0 ((modulo (pos y +ℤ a.offset) addresses + b) % addresses) (omega arith) (h.there b lt) (subst (λ y. IsInMemory (wide padded) packet.length 0 ((modulo (pos y +ℤ a.offset) addresses + b) % addresses)) same (k.there b lt))));
+            (within ((modulo (pos y +ℤ a.offset) addresses + b) % addresses) (one_address_is_context padded packet.length last_frame ((modulo (pos y +ℤ a.offset) addresses + b) % addresses) (omega arith) (h.there b lt) (subst (λ y. IsInMemory (wide padded) packet.length last_frame ((modulo (pos y +ℤ a.offset) addresses + b) % addresses)) same (k.there b lt))));
       }
 
   -- by a pointer into the frame: it is at one distance from where that begins
@@ -192,9 +192,9 @@ module _ (padded : Bool) (packet : Packet) (old : Instructions) (len limit slot 
       record {
         near = h.near;
         there = λ b lt. let w : ℤ = ((pos x -ℤ moved) +ℤ a.offset) +ℤ pos b in
-            let p = subst (IsInMemory (near padded) packet.length 0) (frame_address x (flat_register fn r) start b moved a.offset s) (h.there b lt) in
-            let q = subst (IsInMemory (wide padded) packet.length 0) (frame_address x (flat_register fw r) other b moved a.offset s') (k.there b lt) in
-            (modulo w addresses, one_distance_is_frame padded packet.length 0 0 (modulo w addresses) (omega arith) (omega arith) (modulo_below w) (omega arith) p q, modulo-same w);
+            let p = subst (IsInMemory (near padded) packet.length last_frame) (frame_address x (flat_register fn r) start b moved a.offset s) (h.there b lt) in
+            let q = subst (IsInMemory (wide padded) packet.length last_frame) (frame_address x (flat_register fw r) other b moved a.offset s') (k.there b lt) in
+            (modulo w addresses, one_distance_is_frame padded packet.length last_frame deep (modulo w addresses) (omega arith) shallow (modulo_below w) (omega arith) p q, modulo-same w);
       }
 
   by_accesses : (size : ℕ) (moved : ℤ) (r : Reg) → size < 2 ^ 32 → ((a : Access) → Inside (near padded) packet.length (flat_register fn r) a → Inside (wide padded) packet.length (flat_register fw r) a → Lies x size moved a) → are_accessed front size limit moved r ≡ true → x ≤ limit

@@ -18,10 +18,15 @@ mod Simulation
 mod StoreLaw
 mod PacketLaw
 mod Setting
+mod LevelLaw
 mod Beside
+mod StartLaw
+mod CallLaw
+mod Waiting
 mod Extras
 mod Follow
-mod StartLaw
+mod Calling
+mod Ends
 mod Law
 mod CertifiedLaw
 mod ExactLaw
@@ -43,3 +48,4 @@ mod RuleLemmas
 mod Further
 mod WalkLemmas
 mod SlotLemmas
+mod CallLemmas

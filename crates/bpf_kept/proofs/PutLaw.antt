@@ -166,7 +166,7 @@ loaded_there : (order : Order) (start : ℕ) (packet : Packet) (known : Known) (
 loaded_there order start packet known i a f g enc at leaves ea same e =
     let there : address g a.base a.offset ≡ address f a.base a.offset = ap (λ x. modulo (pos x +ℤ a.offset) addresses) same in
     subst (λ z. bytes_from g.memory (address g a.base a.offset) (byte_count a.size) ≡ bytes_from f.memory z (byte_count a.size)) (sym there)
-    (access_common order known start packet (byte_count a.size) a.base a.base a.offset a.offset f g (access_is order start packet known i i a a f g enc enc at leaves ea ea refl there) (λ j lt. leaves.seen a j ea lt) at.common e)
+    (access_common order known start packet (byte_count a.size) a.base a.base a.offset a.offset f g (access_is order start packet known i i a a f g enc enc at leaves ea ea refl there) (λ j lt. leaves.seen a a j ea ea there lt lt) at.common e)
 
 loads_same : (order : Order) (start : ℕ) (packet : Packet) (known : Known) (i : Insn) (f g : FlatState) → HasEncoding i → AtOnce order start packet known f g → Goes start packet known.left i i f g → AllByRecursion (λ r. get_or g.registers (register_number r) 0 ≡ flat_register f r) (registers_read i) → loads_common known i ≡ true → ReadsSame i f g
 loads_same order start packet known (Load size dst src off) f g enc at leaves agree e = loaded_there order start packet known (Load size dst src off) (record { base = src; offset = off; size = size; reads = true; writes = false }) f g enc at leaves refl agree.0 e
@@ -273,7 +273,7 @@ loaded_alike : (order : Order) (start : ℕ) (packet : Packet) (known : Known) (
 loaded_alike order start packet known i moved a b f g enc enc' at leaves ea eb size e =
     let h = and_parts (same_address known.facts b.base b.offset a.base a.offset) (is_common known (byte_count a.size) a.base a.offset b.base b.offset) e in
     let there = address_same order start packet known.facts f g b.base a.base a.offset b.offset at.all h.0 in
-    access_common order known start packet (byte_count a.size) a.base b.base a.offset b.offset f g (access_is order start packet known i moved a b f g enc enc' at leaves ea eb size there) (λ j lt. leaves.seen a j ea lt) at.common h.1
+    access_common order known start packet (byte_count a.size) a.base b.base a.offset b.offset f g (access_is order start packet known i moved a b f g enc enc' at leaves ea eb size there) (λ j lt. leaves.seen a b j ea eb there lt (subst (λ n. j < n) (sym size) lt)) at.common h.1
 
 load_same : (order : Order) (start : ℕ) (packet : Packet) (known : Known) (i moved : Insn) (f g : FlatState) → HasEncoding i → HasEncoding moved → AtOnce order start packet known f g → Goes start packet known.left i moved f g → loads_alike known i moved ≡ true → LoadsSame order i moved f g
 load_same order start packet known (Load size dst src off) (Load other into base at) f g enc enc' one leaves e =

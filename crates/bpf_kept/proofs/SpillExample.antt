@@ -17,7 +17,7 @@ use Rattle.bpf_kept.specs.declared.notes.Holder.{Holder}
 use Rattle.bpf_kept.specs.declared.notes.Holder.TheVariants.{Register, Slot}
 use Rattle.bpf_kept.specs.declared.notes.Fact.{Fact}
 use Rattle.bpf_kept.specs.declared.notes.Note.{Note}
-use Rattle.bpf_kept.specs.Rules.{own_in, pinned, numbered, reads_same, result_term, same_address, is_common, keeps, paired, made, holds_behind, are_told}
+use Rattle.bpf_kept.specs.Rules.{own_in, pinned, numbered, reads_same, result_term, same_address, is_common, keeps, paired, made, holds_behind, are_told, by_itself}
 use Rattle.bpf_kept.specs.Counters.{all_count_behind, has_turn}
 use Rattle.bpf_kept.specs.Guards.{accesses_ahead, is_ahead, guards_sum, passes}
 use Rattle.bpf_kept.specs.Matching.{Notes, facts_at, left_alone, known_at_start, arrives, starts, stands, extra, adds, IsBody, IsExtra, IsEither, HoldsAt, Matches}
@@ -38,40 +38,40 @@ abbrev pub new : Instructions
 new = record { order = Little; list = Store DW R10 (negsuc 15) R1 ∷ Alu Mov W64 R1 (Imm (pos 0)) ∷ Store DW R10 (negsuc 7) R1 ∷ Load DW R5 R10 (negsuc 15) ∷ Load B R4 R5 (pos 0) ∷ Load DW R3 R10 (negsuc 7) ∷ JumpIf Gt W64 R4 (Imm (pos 63)) (pos 5) ∷ Alu Add W64 R3 (FromReg R4) ∷ Load DW R5 R10 (negsuc 15) ∷ Alu Add W64 R5 (FromReg R3) ∷ Load B R0 R5 (pos 0) ∷ Exit ∷ Alu Mov W64 R0 (Imm (pos 0)) ∷ Exit ∷ [] }
 
 abbrev note_0 : Note
-note_0 = record { old = 0; extras = 2; apart = []; zeros = []; facts = held_by (Some (Register R1)) (Some (Register R1)) 0 0 ∷ held_by (Some (Register R1)) (None) 0 middle ∷ held_by (None) (Some (Register R1)) 0 middle ∷ []; counters = [] }
+note_0 = record { old = 0; extras = 2; apart = []; zeros = []; facts = held_by (Some (Register R1)) (Some (Register R1)) 0 0 ∷ held_by (Some (Register R1)) (None) 0 middle ∷ held_by (None) (Some (Register R1)) 0 middle ∷ []; counters = []; back = by_itself (Register R0) ∷ []; spare = None; barred = None }
 
 abbrev note_1 : Note
-note_1 = record { old = 0; extras = 1; apart = apart; zeros = []; facts = held_by (Some (Slot 62)) (Some (Register R1)) 0 0 ∷ held_by (Some (Slot 62)) (None) 0 middle ∷ held_by (None) (Some (Register R1)) 0 middle ∷ []; counters = [] }
+note_1 = record { old = 0; extras = 1; apart = apart; zeros = []; facts = held_by (Some (Slot 62)) (Some (Register R1)) 0 0 ∷ held_by (Some (Slot 62)) (None) 0 middle ∷ held_by (None) (Some (Register R1)) 0 middle ∷ []; counters = []; back = by_itself (Register R0) ∷ []; spare = None; barred = None }
 
 abbrev note_2 : Note
-note_2 = record { old = 0; extras = 0; apart = apart; zeros = []; facts = held_by (Some (Register R1)) (Some (Register R1)) 0 middle ∷ held_by (Some (Slot 62)) (Some (Register R1)) 0 0 ∷ held_by (Some (Slot 62)) (None) 0 middle ∷ held_by (None) (Some (Register R1)) 0 middle ∷ []; counters = [] }
+note_2 = record { old = 0; extras = 0; apart = apart; zeros = []; facts = held_by (Some (Register R1)) (Some (Register R1)) 0 middle ∷ held_by (Some (Slot 62)) (Some (Register R1)) 0 0 ∷ held_by (Some (Slot 62)) (None) 0 middle ∷ held_by (None) (Some (Register R1)) 0 middle ∷ []; counters = []; back = by_itself (Register R0) ∷ []; spare = None; barred = None }
 
 abbrev note_3 : Note
-note_3 = record { old = 1; extras = 1; apart = apart; zeros = []; facts = held_by (Some (Slot 62)) (Some (Register R1)) 0 0 ∷ held_by (Some (Slot 62)) (None) 0 middle ∷ held_by (Some (Slot 63)) (Some (Slot 63)) 0 middle ∷ held_by (None) (Some (Slot 63)) 0 middle ∷ []; counters = [] }
+note_3 = record { old = 1; extras = 1; apart = apart; zeros = []; facts = held_by (Some (Slot 62)) (Some (Register R1)) 0 0 ∷ held_by (Some (Slot 62)) (None) 0 middle ∷ held_by (Some (Slot 63)) (Some (Slot 63)) 0 middle ∷ held_by (None) (Some (Slot 63)) 0 middle ∷ []; counters = []; back = by_itself (Register R0) ∷ []; spare = None; barred = None }
 
 abbrev note_4 : Note
-note_4 = record { old = 1; extras = 0; apart = apart; zeros = []; facts = held_by (Some (Register R5)) (Some (Register R1)) 0 0 ∷ held_by (Some (Slot 62)) (None) 0 middle ∷ held_by (Some (Slot 63)) (Some (Slot 63)) 0 middle ∷ held_by (None) (Some (Slot 63)) 0 middle ∷ []; counters = [] }
+note_4 = record { old = 1; extras = 0; apart = apart; zeros = []; facts = held_by (Some (Register R5)) (Some (Register R1)) 0 0 ∷ held_by (Some (Slot 62)) (None) 0 middle ∷ held_by (Some (Slot 63)) (Some (Slot 63)) 0 middle ∷ held_by (None) (Some (Slot 63)) 0 middle ∷ []; counters = []; back = by_itself (Register R0) ∷ []; spare = None; barred = None }
 
 abbrev note_5 : Note
-note_5 = record { old = 2; extras = 0; apart = apart; zeros = []; facts = held_by (Some (Register R4)) (Some (Register R4)) 0 0 ∷ held_by (Some (Slot 62)) (None) 0 middle ∷ held_by (Some (Slot 63)) (Some (Slot 63)) 0 middle ∷ held_by (None) (Some (Slot 63)) 0 middle ∷ []; counters = [] }
+note_5 = record { old = 2; extras = 0; apart = apart; zeros = []; facts = held_by (Some (Register R4)) (Some (Register R4)) 0 0 ∷ held_by (Some (Slot 62)) (None) 0 middle ∷ held_by (Some (Slot 63)) (Some (Slot 63)) 0 middle ∷ held_by (None) (Some (Slot 63)) 0 middle ∷ []; counters = []; back = by_itself (Register R0) ∷ []; spare = None; barred = None }
 
 abbrev note_6 : Note
-note_6 = record { old = 3; extras = 1; apart = apart; zeros = []; facts = held_by (Some (Register R3)) (Some (Register R3)) 0 middle ∷ held_by (Some (Register R4)) (Some (Register R4)) 0 0 ∷ held_by (Some (Slot 62)) (None) 0 middle ∷ held_by (None) (Some (Register R3)) 0 middle ∷ []; counters = [] }
+note_6 = record { old = 3; extras = 1; apart = apart; zeros = []; facts = held_by (Some (Register R3)) (Some (Register R3)) 0 middle ∷ held_by (Some (Register R4)) (Some (Register R4)) 0 0 ∷ held_by (Some (Slot 62)) (None) 0 middle ∷ held_by (None) (Some (Register R3)) 0 middle ∷ []; counters = []; back = by_itself (Register R0) ∷ []; spare = None; barred = None }
 
 abbrev note_7 : Note
-note_7 = record { old = 3; extras = 0; apart = apart; zeros = []; facts = held_by (Some (Register R3)) (Some (Register R3)) 0 middle ∷ held_by (Some (Register R4)) (Some (Register R4)) 0 0 ∷ held_by (Some (Slot 62)) (None) 0 middle ∷ []; counters = [] }
+note_7 = record { old = 3; extras = 0; apart = apart; zeros = []; facts = held_by (Some (Register R3)) (Some (Register R3)) 0 middle ∷ held_by (Some (Register R4)) (Some (Register R4)) 0 0 ∷ held_by (Some (Slot 62)) (None) 0 middle ∷ []; counters = []; back = by_itself (Register R0) ∷ []; spare = None; barred = None }
 
 abbrev note_8 : Note
-note_8 = record { old = 4; extras = 2; apart = apart; zeros = []; facts = held_by (Some (Register R3)) (Some (Register R3)) 0 middle ∷ held_by (Some (Slot 62)) (None) 0 middle ∷ []; counters = [] }
+note_8 = record { old = 4; extras = 2; apart = apart; zeros = []; facts = held_by (Some (Register R3)) (Some (Register R3)) 0 middle ∷ held_by (Some (Slot 62)) (None) 0 middle ∷ []; counters = []; back = by_itself (Register R0) ∷ []; spare = None; barred = None }
 
 abbrev note_9 : Note
-note_9 = record { old = 4; extras = 1; apart = apart; zeros = []; facts = held_by (Some (Register R3)) (Some (Register R3)) 0 middle ∷ held_by (Some (Register R5)) (None) 0 middle ∷ []; counters = [] }
+note_9 = record { old = 4; extras = 1; apart = apart; zeros = []; facts = held_by (Some (Register R3)) (Some (Register R3)) 0 middle ∷ held_by (Some (Register R5)) (None) 0 middle ∷ []; counters = []; back = by_itself (Register R0) ∷ []; spare = None; barred = None }
 
 abbrev note_10 : Note
-note_10 = record { old = 4; extras = 0; apart = apart; zeros = []; facts = held_by (Some (Register R5)) (Some (Register R3)) 0 0 ∷ []; counters = [] }
+note_10 = record { old = 4; extras = 0; apart = apart; zeros = []; facts = held_by (Some (Register R5)) (Some (Register R3)) 0 0 ∷ []; counters = []; back = by_itself (Register R0) ∷ []; spare = None; barred = None }
 
 abbrev note_11 : Note
-note_11 = record { old = 5; extras = 0; apart = apart; zeros = []; facts = held_by (Some (Register R0)) (Some (Register R0)) 0 0 ∷ []; counters = [] }
+note_11 = record { old = 5; extras = 0; apart = apart; zeros = []; facts = held_by (Some (Register R0)) (Some (Register R0)) 0 0 ∷ []; counters = []; back = by_itself (Register R0) ∷ []; spare = None; barred = None }
 
 abbrev pub notes : Notes
 notes = Some note_0 ∷ Some note_1 ∷ Some note_2 ∷ Some note_3 ∷ Some note_4 ∷ Some note_5 ∷ Some note_6 ∷ Some note_7 ∷ Some note_8 ∷ Some note_9 ∷ Some note_10 ∷ Some note_11 ∷ []

@@ -14,7 +14,7 @@ use Rattle.bpf_insn.specs.declared.instruction.Cond.TheVariants.{Eq, Ne}
 use Rattle.bpf_insn.specs.declared.instruction.Insn.TheVariants.{Alu, Load, Store, StoreImm, JumpIf, Exit}
 use Rattle.bpf_kept.specs.declared.notes.Holder.TheVariants.{Register, Slot}
 use Rattle.bpf_kept.specs.declared.notes.Note.{Note}
-use Rattle.bpf_kept.specs.Rules.{own_in, pinned, numbered, reads_same, result_term, same_address, is_common, keeps, paired, made, holds_behind, are_told}
+use Rattle.bpf_kept.specs.Rules.{own_in, pinned, numbered, reads_same, result_term, same_address, is_common, keeps, paired, made, holds_behind, are_told, by_itself}
 use Rattle.bpf_kept.specs.Counters.{all_count_behind, has_turn}
 use Rattle.bpf_kept.specs.Guards.{accesses_ahead, is_ahead, guards_sum, passes}
 use Rattle.bpf_kept.specs.Matching.{Notes, facts_at, left_alone, known_at_start, arrives, starts, stands, extra, adds, IsBody, IsExtra, IsEither, HoldsAt, Matches}
@@ -32,34 +32,34 @@ abbrev pub new : Instructions
 new = record { order = Little; list = StoreImm DW R10 (negsuc 7) (pos 65536) ∷ Alu Mov W64 R0 (Imm (pos 0)) ∷ Load DW R9 R10 (negsuc 7) ∷ JumpIf Eq W64 R9 (Imm (pos 0)) (pos 6) ∷ Alu Add W64 R9 (Imm (negsuc 0)) ∷ Store DW R10 (negsuc 7) R9 ∷ Load B R3 R1 (pos 0) ∷ Alu Add W64 R0 (FromReg R3) ∷ JumpIf Ne W64 R0 (Imm (pos 7)) (negsuc 6) ∷ Exit ∷ Alu Mov W64 R0 (Imm (pos 0)) ∷ Exit ∷ [] }
 
 abbrev note_0 : Note
-note_0 = record { old = 0; extras = 1; apart = []; zeros = []; facts = held_by (Some (Register R1)) (Some (Register R1)) 0 0 ∷ []; counters = [] }
+note_0 = record { old = 0; extras = 1; apart = []; zeros = []; facts = held_by (Some (Register R1)) (Some (Register R1)) 0 0 ∷ []; counters = []; back = by_itself (Register R0) ∷ []; spare = None; barred = None }
 
 abbrev note_1 : Note
-note_1 = record { old = 0; extras = 0; apart = apart; zeros = []; facts = held_by (Some (Register R1)) (Some (Register R1)) 0 0 ∷ []; counters = Some (record { of = Slot 63; head = 1; taken = 0 }) ∷ [] }
+note_1 = record { old = 0; extras = 0; apart = apart; zeros = []; facts = held_by (Some (Register R1)) (Some (Register R1)) 0 0 ∷ []; counters = Some (record { of = Slot 63; head = 1; taken = 0 }) ∷ []; back = by_itself (Register R0) ∷ []; spare = None; barred = None }
 
 abbrev note_2 : Note
-note_2 = record { old = 1; extras = 4; apart = apart; zeros = []; facts = held_by (Some (Register R0)) (Some (Register R0)) 0 0 ∷ held_by (Some (Register R1)) (Some (Register R1)) 0 0 ∷ []; counters = Some (record { of = Slot 63; head = 1; taken = 0 }) ∷ [] }
+note_2 = record { old = 1; extras = 4; apart = apart; zeros = []; facts = held_by (Some (Register R0)) (Some (Register R0)) 0 0 ∷ held_by (Some (Register R1)) (Some (Register R1)) 0 0 ∷ []; counters = Some (record { of = Slot 63; head = 1; taken = 0 }) ∷ []; back = by_itself (Register R0) ∷ []; spare = None; barred = None }
 
 abbrev note_3 : Note
-note_3 = record { old = 1; extras = 3; apart = apart; zeros = []; facts = held_by (Some (Register R0)) (Some (Register R0)) 0 0 ∷ held_by (Some (Register R1)) (Some (Register R1)) 0 0 ∷ []; counters = Some (record { of = Register R9; head = 1; taken = 0 }) ∷ [] }
+note_3 = record { old = 1; extras = 3; apart = apart; zeros = []; facts = held_by (Some (Register R0)) (Some (Register R0)) 0 0 ∷ held_by (Some (Register R1)) (Some (Register R1)) 0 0 ∷ []; counters = Some (record { of = Register R9; head = 1; taken = 0 }) ∷ []; back = by_itself (Register R0) ∷ []; spare = None; barred = None }
 
 abbrev note_4 : Note
-note_4 = record { old = 1; extras = 2; apart = apart; zeros = []; facts = held_by (Some (Register R0)) (Some (Register R0)) 0 0 ∷ held_by (Some (Register R1)) (Some (Register R1)) 0 0 ∷ []; counters = Some (record { of = Register R9; head = 1; taken = 0 }) ∷ [] }
+note_4 = record { old = 1; extras = 2; apart = apart; zeros = []; facts = held_by (Some (Register R0)) (Some (Register R0)) 0 0 ∷ held_by (Some (Register R1)) (Some (Register R1)) 0 0 ∷ []; counters = Some (record { of = Register R9; head = 1; taken = 0 }) ∷ []; back = by_itself (Register R0) ∷ []; spare = None; barred = None }
 
 abbrev note_5 : Note
-note_5 = record { old = 1; extras = 1; apart = apart; zeros = []; facts = held_by (Some (Register R0)) (Some (Register R0)) 0 0 ∷ held_by (Some (Register R1)) (Some (Register R1)) 0 0 ∷ []; counters = Some (record { of = Register R9; head = 1; taken = 1 }) ∷ [] }
+note_5 = record { old = 1; extras = 1; apart = apart; zeros = []; facts = held_by (Some (Register R0)) (Some (Register R0)) 0 0 ∷ held_by (Some (Register R1)) (Some (Register R1)) 0 0 ∷ []; counters = Some (record { of = Register R9; head = 1; taken = 1 }) ∷ []; back = by_itself (Register R0) ∷ []; spare = None; barred = None }
 
 abbrev note_6 : Note
-note_6 = record { old = 1; extras = 0; apart = apart; zeros = []; facts = held_by (Some (Register R0)) (Some (Register R0)) 0 0 ∷ held_by (Some (Register R1)) (Some (Register R1)) 0 0 ∷ []; counters = Some (record { of = Slot 63; head = 1; taken = 1 }) ∷ [] }
+note_6 = record { old = 1; extras = 0; apart = apart; zeros = []; facts = held_by (Some (Register R0)) (Some (Register R0)) 0 0 ∷ held_by (Some (Register R1)) (Some (Register R1)) 0 0 ∷ []; counters = Some (record { of = Slot 63; head = 1; taken = 1 }) ∷ []; back = by_itself (Register R0) ∷ []; spare = None; barred = None }
 
 abbrev note_7 : Note
-note_7 = record { old = 2; extras = 0; apart = apart; zeros = []; facts = held_by (Some (Register R0)) (Some (Register R0)) 0 0 ∷ held_by (Some (Register R1)) (Some (Register R1)) 0 0 ∷ held_by (Some (Register R3)) (Some (Register R3)) 0 0 ∷ []; counters = Some (record { of = Slot 63; head = 1; taken = 0 }) ∷ [] }
+note_7 = record { old = 2; extras = 0; apart = apart; zeros = []; facts = held_by (Some (Register R0)) (Some (Register R0)) 0 0 ∷ held_by (Some (Register R1)) (Some (Register R1)) 0 0 ∷ held_by (Some (Register R3)) (Some (Register R3)) 0 0 ∷ []; counters = Some (record { of = Slot 63; head = 1; taken = 0 }) ∷ []; back = by_itself (Register R0) ∷ []; spare = None; barred = None }
 
 abbrev note_8 : Note
-note_8 = record { old = 3; extras = 0; apart = apart; zeros = []; facts = held_by (Some (Register R0)) (Some (Register R0)) 0 0 ∷ held_by (Some (Register R1)) (Some (Register R1)) 0 0 ∷ held_by (Some (Register R3)) (Some (Register R3)) 0 0 ∷ []; counters = Some (record { of = Slot 63; head = 1; taken = 0 }) ∷ [] }
+note_8 = record { old = 3; extras = 0; apart = apart; zeros = []; facts = held_by (Some (Register R0)) (Some (Register R0)) 0 0 ∷ held_by (Some (Register R1)) (Some (Register R1)) 0 0 ∷ held_by (Some (Register R3)) (Some (Register R3)) 0 0 ∷ []; counters = Some (record { of = Slot 63; head = 1; taken = 0 }) ∷ []; back = by_itself (Register R0) ∷ []; spare = None; barred = None }
 
 abbrev note_9 : Note
-note_9 = record { old = 4; extras = 0; apart = apart; zeros = []; facts = held_by (Some (Register R0)) (Some (Register R0)) 0 0 ∷ []; counters = [] }
+note_9 = record { old = 4; extras = 0; apart = apart; zeros = []; facts = held_by (Some (Register R0)) (Some (Register R0)) 0 0 ∷ []; counters = []; back = by_itself (Register R0) ∷ []; spare = None; barred = None }
 
 abbrev pub notes : Notes
 notes = Some note_0 ∷ Some note_1 ∷ Some note_2 ∷ Some note_3 ∷ Some note_4 ∷ Some note_5 ∷ Some note_6 ∷ Some note_7 ∷ Some note_8 ∷ Some note_9 ∷ []

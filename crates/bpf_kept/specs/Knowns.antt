@@ -15,7 +15,7 @@ abbrev pub facts_in : FactList → Facts
 facts_in f = take f.count f.all
 
 abbrev pub known_of : KnownHere → Known
-known_of k = record { facts = k.facts.now; apart = k.apart.now; counters = k.counters.now; turns = k.turns; left = k.left }
+known_of k = record { facts = k.facts.now; apart = k.apart.now; counters = k.counters.now; turns = k.turns; left = k.left; back = k.back.now; spare = k.spare; barred = k.barred }
 
 -- what holds of registers at the start
 abbrev pub first_facts : Bool → Facts
@@ -25,9 +25,13 @@ first_facts padded =
     ∷ by_itself (Register R0) ∷ by_itself (Register R2) ∷ by_itself (Register R3) ∷ by_itself (Register R4) ∷ by_itself (Register R5)
     ∷ by_itself (Register R6) ∷ by_itself (Register R7) ∷ by_itself (Register R8) ∷ by_itself (Register R9) ∷ by_itself (Register R10) ∷ []
 
+-- what holds of registers at the entry of a function, beside what is handed to it
+abbrev pub fresh_registers : Facts
+fresh_registers = by_itself (Register R0) ∷ by_itself (Register R6) ∷ by_itself (Register R7) ∷ by_itself (Register R8) ∷ by_itself (Register R9) ∷ by_itself (Register R10) ∷ []
+
 -- where something is noted, and at the start, if so many of the frame's lowest bytes are left alone
 abbrev pub known_for : ℕ → ℕ → Note → Known
-known_for turns left note = record { facts = facts_at note; apart = note.apart; counters = note.counters; turns = turns; left = left }
+known_for turns left note = record { facts = facts_at note; apart = note.apart; counters = note.counters; turns = turns; left = left; back = note.back; spare = note.spare; barred = note.barred }
 
 abbrev pub start_for : Bool → ℕ → ℕ → Known
-start_for padded turns left = record { facts = start_facts padded; apart = []; counters = []; turns = turns; left = left }
+start_for padded turns left = record { facts = start_facts padded; apart = []; counters = []; turns = turns; left = left; back = by_itself (Register R0) ∷ []; spare = None; barred = None }

@@ -49,7 +49,7 @@ ZeroStepIsStep = (place : Placement) (p : Instructions) (f g : FlatState) → Is
 
 -- ---- notes that match show that the meaning is kept
 
--- for one function, and a new program that is never stuck
+-- for a new program that is never stuck
 abbrev pub MatchingKeepsFlatMeaning : Type 0
 MatchingKeepsFlatMeaning =
     (old new : Instructions) (notes : Notes) (bounds : Bounds) → IsProgram old.list → IsProgram new.list → Matches old new notes bounds → NeverStuck new bounds.length

@@ -17,6 +17,8 @@ pub mod Slots
 pub mod Rules
 -- counters of turns
 pub mod Counters
+-- calls of local functions
+pub mod Calls
 -- guards
 pub mod Guards
 -- what the notes have to say at each slot

@@ -1,4 +1,4 @@
--- What has to hold of the notes at each slot of the new program, where the old one is one function. Nothing here speaks of runs.
+-- What has to hold of the notes at each slot of the new program. Nothing here speaks of runs.
 use Rattle.std.specs.Prelude.{◌≡◌, ◌↔◌, ℕ, zero, suc, ◌+◌, ◌-◌, pos, ◌==◌, ◌&&◌, ◌^◌, ◌<◌, ◌≤◌, nat_le, Bool, IsTrue, true, false, not, List, [], ◌∷◌, ◌++◌, get_or, length as count, Option, Some, None, option_map, ◌||◌, if◌then◌else◌}
 use Rattle.std.specs.List.{list_all}
 use Rattle.std.specs.Option.{option_map_or}
@@ -13,7 +13,7 @@ use Rattle.bpf_insn.specs.declared.instruction.Size.TheVariants.{DW}
 use Rattle.bpf_insn.specs.declared.instruction.Width.TheVariants.{W64}
 use Rattle.bpf_insn.specs.declared.instruction.AluOp.TheVariants.{Mov}
 use Rattle.bpf_insn.specs.declared.instruction.Cond.TheVariants.{Le}
-use Rattle.bpf_insn.specs.declared.instruction.Insn.TheVariants.{Alu, Load, Store, StoreImm, JumpIf, Exit}
+use Rattle.bpf_insn.specs.declared.instruction.Insn.TheVariants.{Alu, Load, Store, StoreImm, JumpIf, CallLocal, Exit}
 use Rattle.bpf_semantics.specs.Blocks.{head_bytes}
 use Rattle.bpf_semantics.specs.Flat.{addresses}
 use Rattle.bpf_kept.specs.Far.{middle, bytes_before}
@@ -27,7 +27,9 @@ use Rattle.bpf_kept.specs.Meaning.{Bounds}
 use Rattle.bpf_kept.specs.Terms.{Facts, is_noted, frame_slots, constant, zero_term, context_offset, negated}
 use Rattle.bpf_kept.specs.Slots.{slot_facts, slot_at}
 use Rattle.bpf_kept.specs.Rules.{Known, put_into, undirected, paired, holds_behind, by_itself, are_told}
-use Rattle.bpf_kept.specs.Counters.{all_count_behind, has_turn}
+pub use Rattle.bpf_kept.specs.Rules.{is_zero_slot, same_slot}
+use Rattle.bpf_kept.specs.Calls.{is_result, known_entered, spares, is_this, tests_barred, known_returned, apart_waits}
+use Rattle.bpf_kept.specs.Counters.{is_spared, all_count_behind, has_turn}
 use Rattle.bpf_kept.specs.Guards.{Front, passes}
 
 -- ---- notes
@@ -49,13 +51,6 @@ most_at_start = 256
 
 -- ---- what is known where something is noted
 
--- in a slot the old program has 0
-abbrev pub is_zero_slot : ℕ → Fact
-is_zero_slot n = record { of = None; base = Some (Slot n); by = Some zero_term }
-
-abbrev pub same_slot : ℕ → Fact
-same_slot n = by_itself (Slot n)
-
 -- what a note says
 abbrev pub said : Note → Facts
 said note = note.facts ++ slot_facts is_zero_slot (is_noted note.zeros) frame_slots
@@ -76,17 +71,26 @@ unfoldable pub left_alone : Instructions → ℕ → ℕ
 left_alone new untouched = if list_all (λ i. not (hands_frame i)) new.list then frame_bytes else untouched
 
 abbrev pub known_at : Instructions → Bounds → Note → Known
-known_at new bounds note = record { facts = facts_at note; apart = note.apart; counters = note.counters; turns = bounds.turns; left = left_alone new bounds.untouched }
+known_at new bounds note = record { facts = facts_at note; apart = note.apart; counters = note.counters; turns = bounds.turns; left = left_alone new bounds.untouched; back = note.back; spare = note.spare; barred = note.barred }
 
 -- ---- edges
 
--- What is noted asks for no more than what holds: its facts, each slot of the frame, and its counters.
+-- r0 of the new program still isn't that number
+abbrev pub still_barred : Known → Change → ℕ → Bool
+still_barred known change n = is_spared change (Register R0) && is_this known.barred n
+
+-- What is noted asks for no more than what holds: its facts, each slot of the frame, its counters, and what r0 isn't.
 abbrev pub is_given : Known → Change → Option ℕ → Note → Bool
-is_given known change step note = list_all (holds_behind known.facts change) (said note) && (are_told known change note.apart && all_count_behind known change step note.counters)
+is_given known change step note =
+    list_all (holds_behind known.facts change) (said note) && (are_told known change note.apart && (all_count_behind known change step note.counters && option_map_or (still_barred known change) note.barred true))
+
+-- What the function gives back as the note says, and never, is what is known of it.
+abbrev pub keeps_back : Known → Note → Bool
+keeps_back known note = list_all (holds_behind note.back Kept) known.back && option_map_or (is_this note.spare) known.spare true
 
 -- So it is, where the old program is in front of a slot, and few enough extra instructions stand there.
 abbrev pub suits : Known → Change → Option ℕ → ℕ → ℕ → Note → Bool
-suits known change step slot most note = note.old == slot && (nat_le note.extras most && is_given known change step note)
+suits known change step slot most note = note.old == slot && (nat_le note.extras most && (is_given known change step note && keeps_back known note))
 
 unfoldable pub arrives : Notes → Known → Change → Option ℕ → ℕ → ℕ → ℕ → Bool
 arrives notes known change step slot most new_slot = option_map_or (suits known change step slot most) (note_at notes new_slot) false
@@ -111,8 +115,35 @@ leads notes known change slot new_slot i moved = option_map_or (leads_to notes k
 abbrev pub goes : Notes → Known → ℕ → ℕ → Insn → Insn → Change → Bool
 goes notes known slot new_slot i moved change = falls notes known change slot new_slot i moved && leads notes known change slot new_slot i moved
 
+abbrev pub is_exit : Insn → Bool
+is_exit Exit = true
+is_exit i = false
+
+-- An EXIT gives back what the notes say.
+abbrev pub returns : Known → Insn → Insn → Bool
+returns known i moved = is_exit i && (is_exit moved && (list_all (holds_behind known.facts Kept) known.back && spares known.facts known.spare))
+
+-- A call leads to an entry, and behind it is known what waited, and what the function gives back by the note of its entry.
+abbrev pub enters : Notes → Known → ℕ → ℕ → ℕ → Note → Bool
+enters notes known slot new_slot to entry =
+    suits (known_entered known entry.back entry.spare) Kept None to most_extras entry
+    && (list_all is_result entry.back && arrives notes (known_returned known entry.back entry.spare) Kept (Some slot) (slot + 1) most_extras (new_slot + 1))
+
+abbrev pub calls_to : Notes → Known → ℕ → ℕ → ℕ → ℕ → Bool
+calls_to notes known slot new_slot to new_to = option_map_or (enters notes known slot new_slot to) (note_at notes new_to) false
+
+-- where a call leads
+abbrev pub called : ℕ → Insn → Option ℕ
+called slot (CallLocal off) = target slot off
+called slot i = None
+
+abbrev pub calls : Notes → Known → ℕ → ℕ → Insn → Insn → Bool
+calls notes known slot new_slot i moved =
+    apart_waits known && option_map_or (λ to. option_map_or (calls_to notes known slot new_slot to) (called new_slot moved) false) (called slot i) false
+
 unfoldable pub stands : Notes → Known → Bool → ℕ → ℕ → Insn → Insn → Bool
-stands notes known same slot new_slot i moved = option_map_or (goes notes known slot new_slot i moved) (paired known same i moved) false
+stands notes known same slot new_slot i moved =
+    returns known i moved || (calls notes known slot new_slot i moved || option_map_or (goes notes known slot new_slot i moved) (paired known same i moved) false)
 
 -- ---- an extra instruction
 
@@ -125,9 +156,9 @@ made_in moved = put_into moved >>= λ r. if is_frame_pointer r then None else So
 abbrev pub makes : Insn → Option Change
 makes moved = option_map (λ h. Made h moved) (made_in moved)
 
--- a guard or the test of a counter that passes, or what is made
+-- a guard, the test of a counter or of what a function gave back, that passes; or what is made
 unfoldable pub extra : Front → Known → Insn → Option Change
-extra front known moved = if passes front known.facts moved || has_turn known.counters front.slot moved then Some Kept else makes moved
+extra front known moved = if passes front known.facts moved || (has_turn known.counters front.slot moved || tests_barred known.barred moved) then Some Kept else makes moved
 
 -- the next one has fewer extra ones in front
 unfoldable pub adds : Notes → Front → Known → ℕ → ℕ → Insn → Bool
@@ -193,7 +224,7 @@ start_facts padded =
     ∷ slot_facts is_zero_slot (λ n. true) frame_slots ++ slot_facts same_slot (λ n. true) frame_slots
 
 unfoldable pub known_at_start : Instructions → Bounds → Known
-known_at_start new bounds = record { facts = start_facts bounds.padded; apart = []; counters = []; turns = bounds.turns; left = left_alone new bounds.untouched }
+known_at_start new bounds = record { facts = start_facts bounds.padded; apart = []; counters = []; turns = bounds.turns; left = left_alone new bounds.untouched; back = by_itself (Register R0) ∷ []; spare = None; barred = None }
 
 unfoldable pub starts : Notes → Instructions → Bounds → Bool
 starts notes new bounds = arrives notes (known_at_start new bounds) Kept None 0 (most_at_start - start_slot bounds.padded) (start_slot bounds.padded)

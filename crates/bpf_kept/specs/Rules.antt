@@ -20,7 +20,7 @@ use Rattle.bpf_insn.specs.declared.instruction.Cond.{Cond}
 use Rattle.bpf_insn.specs.declared.instruction.Cond.TheVariants.{Eq, Gt, Ge, Ne, SGt, SGe, Lt, Le, SLt, SLe}
 use Rattle.bpf_insn.specs.declared.instruction.EndBits.TheVariants.{B16 as E16, B32 as E32}
 use Rattle.bpf_insn.specs.declared.instruction.Insn.{Insn}
-use Rattle.bpf_insn.specs.declared.instruction.Insn.TheVariants.{Alu, Neg, MovSx, End, LoadImm64, Load, LoadSx, Store, StoreImm, Ja, JaLong, JumpIf, CallLocal, Exit}
+use Rattle.bpf_insn.specs.declared.instruction.Insn.TheVariants.{Alu, Neg, MovSx, End, LoadImm64, Load, LoadSx, Store, StoreImm, Ja, JaLong, JumpIf, CallLocal}
 use Rattle.bpf_semantics.specs.Flat.{addresses}
 use Rattle.bpf_kept.specs.Far.{middle}
 use Rattle.bpf_kept.specs.declared.notes.Holder.{Holder}
@@ -34,13 +34,17 @@ use Rattle.bpf_kept.specs.Terms.{Facts, is_noted, frame_slots, constant, zero_te
 use Rattle.bpf_kept.specs.Slots.{each_slot, slot_at, misses, reaches, is_clear}
 
 -- What is known in front of an instruction: facts; which slots of the frame may differ; what counts turns, where the old program may come to an
--- instruction so often; and how many of the frame's lowest bytes no access by another register than r10 goes to.
+-- instruction so often; how many of the frame's lowest bytes no access by another register than r10 goes to; what the function gives back, and
+-- a number that it never does; and one that r0 of the new program isn't.
 pub record Known : Type 0 where
   pub facts : Facts
   pub apart : List Bool
   pub counters : List (Option TurnsLeft)
   pub turns : ℕ
   pub left : ℕ
+  pub back : Facts
+  pub spare : Option ℕ
+  pub barred : Option ℕ
 
 -- ---- which facts give which
 
@@ -305,10 +309,9 @@ is_jump (Ja off) = true
 is_jump (JaLong off) = true
 is_jump i = false
 
--- the same instruction does the same: a test answers alike, and the end gives the same number
+-- the same test answers alike
 abbrev pub is_kept : Facts → Insn → Bool
 is_kept facts (JumpIf cond width dst src off) = reads_same facts (JumpIf cond width dst src (pos 0)) || by_equality facts (JumpIf cond width dst src off)
-is_kept facts Exit = is_same facts R0
 is_kept facts i = false
 
 -- neither changes a register or the memory, and both do the same
@@ -456,6 +459,13 @@ holds_behind facts change want = gives (known_number None zero_term) want || cha
 -- a register or slot has the same in both
 abbrev pub by_itself : Holder → Fact
 by_itself h = record { of = Some h; base = Some h; by = Some zero_term }
+
+abbrev pub same_slot : ℕ → Fact
+same_slot n = by_itself (Slot n)
+
+-- in a slot the old program has 0
+abbrev pub is_zero_slot : ℕ → Fact
+is_zero_slot n = record { of = None; base = Some (Slot n); by = Some zero_term }
 
 -- a slot in which the programs may have something else behind a change: it was one, or it is written
 abbrev pub is_parted : List Bool → Change → ℕ → Bool

@@ -168,11 +168,11 @@ fn is_kept(facts: &[Fact], insn: &Insn) -> bool
 {
     match *insn {
         Insn::JumpIf { .. } => reads_same(facts, &undirected(insn)) || by_equality(facts, insn),
-        Insn::Exit => is_same(facts, Reg::R0),
         Insn::Alu { .. } | Insn::Neg { .. } | Insn::MovSx { .. } | Insn::End { .. } => false,
         Insn::LoadImm64 { .. } | Insn::Load { .. } | Insn::LoadSx { .. } => false,
         Insn::Store { .. } | Insn::StoreImm { .. } | Insn::Atomic { .. } => false,
-        Insn::Ja { .. } | Insn::JaLong { .. } | Insn::CallLocal { .. } => false,
+        Insn::Ja { .. } | Insn::JaLong { .. } => false,
+        Insn::CallLocal { .. } | Insn::Exit => false,
     }
 }
 

@@ -30,7 +30,7 @@ pub struct FactList {
 
 impl FactList {
     /// None.
-    fn new() -> Self
+    pub fn new() -> Self
         ensures facts { facts_in result ≡ [] }
         ensures count { result.count ≡ 0 }
     {
@@ -46,7 +46,7 @@ impl FactList {
     }
 
     /// One more.
-    fn push(&mut self, fact: Fact)
+    pub fn push(&mut self, fact: Fact)
         requires { self.old.count < 160 }
         ensures facts { facts_in self.new ≡ facts_in self.old ++ fact ∷ [] }
         ensures count { self.new.count ≡ self.old.count + 1 }
@@ -65,7 +65,8 @@ impl FactList {
 }
 
 /// What is known in front of an instruction: facts; which slots of the frame may differ; what counts turns, where the old program may come to an
-/// instruction so often; and how many of the frame's lowest bytes no access by another register than r10 goes to.
+/// instruction so often; how many of the frame's lowest bytes no access by another register than r10 goes to; what the function
+/// gives back, and a number that it never does; and one that r0 of the new program isn't.
 #[derive(Clone, Copy)]
 pub struct KnownHere<'a> {
     pub facts: &'a [Fact],
@@ -73,6 +74,9 @@ pub struct KnownHere<'a> {
     pub counters: &'a [Option<TurnsLeft>],
     pub turns: u64,
     pub left: u32,
+    pub back: &'a [Fact],
+    pub spare: Option<u64>,
+    pub barred: Option<u64>,
 }
 
 // ---- facts of slots
@@ -107,7 +111,7 @@ fn add_zero(facts: &mut FactList, zeros: &[bool], n: u8)
 }
 
 /// Adds it of each slot of which it is noted.
-fn add_zeros(facts: &mut FactList, zeros: &[bool])
+pub fn add_zeros(facts: &mut FactList, zeros: &[bool])
     requires { facts.old.count ≤ 96 }
     ensures facts { facts_in facts.new ≡ facts_in facts.old ++ slot_facts is_zero_slot (is_noted zeros.now) frame_slots }
     ensures count { facts.new.count ≤ facts.old.count + frame_slots }
@@ -131,7 +135,7 @@ fn add_common(facts: &mut FactList, apart: &[bool], n: u8)
 }
 
 /// Adds it of each slot of which nothing else is noted.
-fn add_same(facts: &mut FactList, apart: &[bool])
+pub fn add_same(facts: &mut FactList, apart: &[bool])
     requires { facts.old.count ≤ 96 }
     ensures facts { facts_in facts.new ≡ facts_in facts.old ++ slot_facts same_slot (λ n. not (is_noted apart.now n)) frame_slots }
     ensures count { facts.new.count ≤ facts.old.count + frame_slots }
@@ -171,7 +175,7 @@ pub fn said(note: &Note) -> FactList
 /// What holds where it is noted.
 pub fn facts_at(note: &Note) -> FactList
     ensures facts { facts_in result ≡ facts_at note.now }
-    ensures count { result.count ≤ 160 }
+    ensures count { result.count ≤ 153 }
 {
     let mut facts = said(note);
     facts.push(by_itself(Holder::Register(Reg::R10)));

@@ -1,4 +1,4 @@
-//! Semantic preservation on plain addresses: notes of one function that show that a program keeps the meaning of
+//! Semantic preservation on plain addresses: notes that show that a program keeps the meaning of
 //! another, the laws, and the checker of notes.
 #![tactic(auto)]
 
@@ -6,6 +6,7 @@ mod accesses;
 mod alike;
 mod behind;
 mod bounds;
+mod calls;
 mod code;
 mod commons;
 mod counters;
@@ -28,7 +29,7 @@ pub use alike::{are_same, paired};
 pub use behind::{holds_behind, is_told};
 pub use bounds::RunBounds;
 pub use counters::counts_behind;
-pub use facts::{gives, is_holder, known_number, same_holder};
+pub use facts::{by_itself, gives, is_holder, known_number, same_holder};
 pub use guards::GuardSite;
 pub use known::{FactList, KnownHere, facts_at, is_zero_slot, left_alone, same_slot, start_facts};
 pub use laws::{
@@ -38,7 +39,7 @@ pub use laws::{
     zero_start_fits, zero_step_is_step,
 };
 pub use note_fault::NoteFault;
-pub use notes::{COUNTERS, Change, FACTS, Fact, Holder, Need, Note, SLOTS, Term, TurnsLeft};
+pub use notes::{BACK, COUNTERS, Change, FACTS, Fact, Holder, Need, Note, SLOTS, Term, TurnsLeft};
 pub use pass::{follows, follows_certified, start_slot};
 pub use slots::{Displaced, slot_at};
 pub use stands::extra;

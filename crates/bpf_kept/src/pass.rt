@@ -14,16 +14,17 @@ ghost use Rattle.bpf_kept.specs.NoteFaults.{IsFor, Starts, IsNoteFault, IsFaultB
 use crate::bounds::RunBounds;
 use crate::cut::cuts_blocks;
 use crate::edges::{Arrival, arrives};
+use crate::facts::by_itself;
 use crate::known::{KnownHere, left_alone, start_facts};
 use crate::laws::{
     certified_keeps_flat_meaning, flat_meaning_is_exact, flat_meaning_is_far,
     matching_keeps_flat_meaning,
 };
 use crate::note_fault::NoteFault;
-use crate::notes::{Change, Note};
+use crate::notes::{Change, Holder, Note};
 use crate::stands::{NewSlot, holds_at};
 use bpf_cert::Certificate;
-use bpf_insn::{Code, Order};
+use bpf_insn::{Code, Order, Reg};
 
 /// The greatest number of extra instructions at the start.
 const MOST_AT_START: u32 = 256;
@@ -85,6 +86,9 @@ fn starts(notes: &[Option<Note>], bounds: RunBounds, left: u32) -> bool
         counters: &[],
         turns: bounds.turns,
         left,
+        back: &[by_itself(Holder::Register(Reg::R0))],
+        spare: None,
+        barred: None,
     };
     let arrival = Arrival {
         step: None,
@@ -126,10 +130,10 @@ fn matches<O: Code, N: Code>(
     all_hold(old, new, notes, bounds, left)
 }
 
-/// Whether the new program is shown to keep the meaning of the old one, which is one function: on each context of so many bytes on which the old
-/// one ends with a number on plain addresses, with frames near and wide, the new one ends with that number, if it is never stuck. So it is wherever
-/// memory lies far, and on the exact machine. The notes, one for each slot of the new program that is used, are looked at and not trusted. It takes
-/// one pass, and no memory. Else it is told what fails first.
+/// Whether the new program is shown to keep the meaning of the old one: on each context of so many bytes on which the old one ends with a number on
+/// plain addresses, with frames near and wide, the new one ends with that number, if it is never stuck. So it is wherever memory lies far, and on the
+/// exact machine. The notes, one for each slot of the new program that is used, are looked at and not trusted. It takes one pass, and no memory. Else
+/// it is told what fails first.
 pub fn follows<O: Code, N: Code>(
     old: &O,
     new: &N,

@@ -1,21 +1,27 @@
 //! What is noted of a slot of the new program: an instruction that stands for an old one, or an extra one.
 
-ghost use Rattle.std.specs.Prelude.{◌≡◌, ◌<◌, ◌≤◌, ◌↔◌, ◌-◌, IsTrue, Some, None, option_map, option_and_then, if◌then◌else◌};
+ghost use Rattle.std.specs.Prelude.{◌≡◌, ◌+◌, ◌<◌, ◌≤◌, ◌↔◌, ◌-◌, IsTrue, false, Some, None, option_map, option_and_then, if◌then◌else◌};
 ghost use Rattle.bpf_insn.specs.Effects.{is_frame_pointer};
-ghost use Rattle.bpf_kept.specs.Rules.{put_into};
+ghost use Rattle.bpf_kept.specs.Rules.{put_into, paired};
+ghost use Rattle.bpf_kept.specs.Calls.{known_entered, known_returned};
+ghost use Rattle.bpf_kept.specs.declared.notes.Change.TheVariants.{Kept};
+ghost use Rattle.std.specs.Option.{option_map_or};
 ghost use Rattle.bpf_kept.specs.declared.notes.Holder.TheVariants.{Register, Slot};
 ghost use Rattle.bpf_insn.specs.Limits.{max_slots};
 ghost use Rattle.bpf_kept.specs.Fronts.{front};
 ghost use Rattle.bpf_kept.specs.Knowns.{known_of, known_for};
 ghost use Rattle.bpf_kept.specs.Slots.{slot_at};
 ghost use Rattle.bpf_kept.specs.Shown.{bounds_of};
-ghost use Rattle.bpf_kept.specs.Matching.{left_alone, led, falls, leads, stands, made_in, makes, extra, adds, IsBody, IsExtra, HoldsAt};
+ghost use Rattle.bpf_kept.specs.Matching.{most_extras, left_alone, led, falls, leads, goes, is_exit, returns, enters, called, calls_to, suits, arrives, stands, made_in, makes, extra, adds, IsBody, IsExtra, HoldsAt};
 
 use crate::alike::{are_same, paired};
 use crate::bounds::RunBounds;
+use crate::calls::{
+    apart_waits, entered_facts, is_result, returned_counters, returned_facts, spares, tests_barred,
+};
 use crate::code::insn_at;
 use crate::counters::has_turn;
-use crate::edges::{Arrival, arrives, note_at};
+use crate::edges::{Arrival, all_hold, arrives, note_at, suits};
 use crate::guards::{GuardSite, passes};
 use crate::known::{KnownHere, facts_at};
 use crate::notes::{Change, Holder, Note};
@@ -83,15 +89,134 @@ fn leads(notes: &[Option<Note>], known: &KnownHere<'_>, change: Change, pair: St
     arrives(notes, known, change, arrival)
 }
 
-/// Whether the one stands for the other; `same` says whether they are the same but for where they lead.
-#[tactic(auto, unfolding(crate::specs::Matching::stands))]
-fn stands(notes: &[Option<Note>], known: &KnownHere<'_>, same: bool, pair: StandIn) -> bool
+/// Whether the one stands for the other, where neither calls or ends a function; `same` says whether they are the same but for where they lead.
+fn pairs(notes: &[Option<Note>], known: &KnownHere<'_>, same: bool, pair: StandIn) -> bool
     requires old { pair.slot < max_slots }
     requires new { pair.new_slot < max_slots }
-    ensures { result ≡ stands notes.now (known_of known.now) same pair.slot pair.new_slot pair.insn pair.moved }
+    ensures { result ≡ option_map_or (goes notes.now (known_of known.now) pair.slot pair.new_slot pair.insn pair.moved) (paired (known_of known.now) same pair.insn pair.moved) false }
 {
     match paired(known, same, &pair.insn, &pair.moved) {
         Some(change) => falls(notes, known, change, pair) && leads(notes, known, change, pair),
+        None => false,
+    }
+}
+
+/// Whether an instruction ends a function.
+fn is_exit(insn: &Insn) -> bool
+    ensures { result ≡ is_exit insn.now }
+{
+    matches!(*insn, Insn::Exit)
+}
+
+/// Whether both end a function, which gives back what the notes say.
+fn returns(known: &KnownHere<'_>, pair: StandIn) -> bool
+    ensures { result ≡ returns (known_of known.now) pair.insn pair.moved }
+{
+    is_exit(&pair.insn)
+        && is_exit(&pair.moved)
+        && all_hold(known.facts, Change::Kept, known.back)
+        && spares(known.facts, known.spare)
+}
+
+/// Where a call leads.
+fn called(slot: u32, insn: &Insn) -> Option<u32>
+    requires { slot ≤ max_slots }
+    ensures { result ≡ called slot insn.now }
+{
+    match *insn {
+        Insn::CallLocal { off } => target(slot, off),
+        Insn::Alu { .. } | Insn::Neg { .. } | Insn::MovSx { .. } | Insn::End { .. } => None,
+        Insn::LoadImm64 { .. } | Insn::Load { .. } | Insn::LoadSx { .. } => None,
+        Insn::Store { .. } | Insn::StoreImm { .. } | Insn::Atomic { .. } => None,
+        Insn::Ja { .. } | Insn::JaLong { .. } | Insn::JumpIf { .. } | Insn::Exit => None,
+    }
+}
+
+/// Whether what is noted of the entry of a called function asks for no more than what holds there.
+fn enters_at(at: NewSlot, note: &Note, to: u32, entry: &Note) -> bool
+    ensures { result ≡ suits (known_entered (known_for at.bounds.turns at.left note.now) entry.now.back entry.now.spare) Kept None to most_extras entry.now }
+{
+    let facts = entered_facts(note);
+    let known = KnownHere {
+        facts: facts.as_slice(),
+        apart: &[],
+        counters: &[],
+        turns: at.bounds.turns,
+        left: at.left,
+        back: &entry.back,
+        spare: entry.spare,
+        barred: None,
+    };
+    let arrival = Arrival {
+        step: None,
+        slot: to,
+        most: MOST_EXTRAS,
+        new_slot: at.slot,
+    };
+    suits(&known, Change::Kept, arrival, entry)
+}
+
+/// Whether what is noted behind the call does.
+fn goes_on_behind(notes: &[Option<Note>], at: NewSlot, note: &Note, entry: &Note) -> bool
+    requires old { note.now.old < max_slots }
+    requires new { at.slot < max_slots }
+    ensures { result ≡ arrives notes.now (known_returned (known_for at.bounds.turns at.left note.now) entry.now.back entry.now.spare) Kept (Some note.now.old) (note.now.old + 1) most_extras (at.slot + 1) }
+{
+    let facts = returned_facts(at.left, note, &entry.back);
+    let counters = returned_counters(at.left, note.counters);
+    let known = KnownHere {
+        facts: facts.as_slice(),
+        apart: &note.apart,
+        counters: &counters,
+        turns: at.bounds.turns,
+        left: at.left,
+        back: &note.back,
+        spare: note.spare,
+        barred: entry.spare,
+    };
+    let arrival = Arrival {
+        step: Some(note.old),
+        slot: note.old + 1,
+        most: MOST_EXTRAS,
+        new_slot: at.slot + 1,
+    };
+    arrives(notes, &known, Change::Kept, arrival)
+}
+
+/// Whether a call at a slot leads to an entry, and goes on behind it.
+fn enters(notes: &[Option<Note>], at: NewSlot, note: &Note, to: u32, entry: &Note) -> bool
+    requires old { note.now.old < max_slots }
+    requires new { at.slot < max_slots }
+    ensures { result ≡ enters notes.now (known_for at.bounds.turns at.left note.now) note.now.old at.slot to entry.now }
+{
+    enters_at(at, note, to, entry)
+        && entry.back.iter().all(|fact| is_result(*fact))
+        && goes_on_behind(notes, at, note, entry)
+}
+
+/// Whether a call does that leads to a slot of each program.
+fn calls_to(notes: &[Option<Note>], at: NewSlot, note: &Note, to: u32, new_to: u32) -> bool
+    requires old { note.now.old < max_slots }
+    requires new { at.slot < max_slots }
+    ensures { result ≡ calls_to notes.now (known_for at.bounds.turns at.left note.now) note.now.old at.slot to new_to }
+{
+    match note_at(notes, new_to) {
+        Some(entry) => enters(notes, at, note, to, entry),
+        None => false,
+    }
+}
+
+/// Whether both call, and the one leads where the other does.
+fn calls(notes: &[Option<Note>], at: NewSlot, note: &Note, pair: StandIn) -> bool
+    requires old { note.now.old < max_slots }
+    requires new { at.slot < max_slots }
+    ensures { result ≡ option_map_or (λ to. option_map_or (calls_to notes.now (known_for at.bounds.turns at.left note.now) note.now.old at.slot to) (called at.slot pair.moved) false) (called note.now.old pair.insn) false }
+{
+    match called(note.old, &pair.insn) {
+        Some(to) => match called(at.slot, &pair.moved) {
+            Some(new_to) => calls_to(notes, at, note, to, new_to),
+            None => false,
+        },
         None => false,
     }
 }
@@ -148,7 +273,10 @@ pub fn extra<O: Code>(
 ) -> Option<Change>
     ensures { result ≡ extra (front (O.program old.now) site.slot site.length) (known_of known.now) moved.now }
 {
-    if passes(old, site, known.facts, moved) || has_turn(known.counters, site.slot, moved) {
+    if passes(old, site, known.facts, moved)
+        || has_turn(known.counters, site.slot, moved)
+        || tests_barred(known.barred, moved)
+    {
         Some(Change::Kept)
     } else {
         makes(moved)
@@ -201,7 +329,9 @@ pub struct NewSlot {
 }
 
 /// Whether a pair stands for one another, where something is noted.
+#[tactic(auto, unfolding(crate::specs::Matching::stands))]
 fn stands_at(notes: &[Option<Note>], at: NewSlot, note: &Note, same: bool, pair: StandIn) -> bool
+    requires slots { (pair.slot ≡ note.now.old) × (pair.new_slot ≡ at.slot) }
     requires old { pair.slot < max_slots }
     requires new { pair.new_slot < max_slots }
     ensures { result ≡ stands notes.now (known_for at.bounds.turns at.left note.now) same pair.slot pair.new_slot pair.insn pair.moved }
@@ -213,8 +343,13 @@ fn stands_at(notes: &[Option<Note>], at: NewSlot, note: &Note, same: bool, pair:
         counters: &note.counters,
         turns: at.bounds.turns,
         left: at.left,
+        back: &note.back,
+        spare: note.spare,
+        barred: note.barred,
     };
-    stands(notes, &known, same, pair)
+    returns(&known, pair)
+        || (apart_waits(&known) && calls(notes, at, note, pair))
+        || pairs(notes, &known, same, pair)
 }
 
 /// Whether the instruction at a new slot stands for the old one that is noted.
@@ -255,6 +390,9 @@ fn adds_at<O: Code>(old: &O, notes: &[Option<Note>], at: NewSlot, note: &Note, m
         counters: &note.counters,
         turns: at.bounds.turns,
         left: at.left,
+        back: &note.back,
+        spare: note.spare,
+        barred: note.barred,
     };
     let site = GuardSite {
         slot: note.old,
