@@ -9,6 +9,9 @@
 //! `follows LENGTH TURNS UNTOUCHED` and `certified LENGTH LEAST MOST TURNS UNTOUCHED`, with a certificate for such lengths, are answered: `yes`, or `no`
 //! with the number of what fails, and `at SLOT` where it is a new slot's. A last word `padded` says that contexts are blocks. Other lines begin with `#`,
 //! and are written as they are.
+//!
+//! `written LENGTH TURNS UNTOUCHED` is answered by the text of the notes, with `|` for LF. `reads TEXT` is answered by how many notes a text has, and
+//! whether it is the one that is written for them, or by the number and the line of the refusal.
 #![tactic(auto)]
 
 use bpf_cert::{Certificate, read};
@@ -17,6 +20,7 @@ use bpf_kept::{
     COUNTERS, FACTS, Fact, Holder, Note, NoteFault, RunBounds, SLOTS, Term, TurnsLeft, follows,
     follows_certified,
 };
+use bpf_kept_notes::{read as read_notes, write as write_notes};
 use bpf_text::assemble;
 use std::alloc::Global;
 use std::io::{self, BufRead, BufReader, BufWriter, Write};
@@ -265,6 +269,41 @@ fn tell(out: &mut impl Write, shown: Option<Result<(), NoteFault>>) -> io::Resul
     }
 }
 
+/// Writes the text of notes in one line.
+fn tell_text(out: &mut impl Write, text: &[u8]) -> io::Result<()> {
+    for byte in text {
+        let told = if *byte == b'\n' { b'|' } else { *byte };
+        out.write_all(&[told])?;
+    }
+    out.write_all(b"\n")
+}
+
+/// The text of notes that a line holds.
+fn text_of(alloc: Global, line: &str) -> io::Result<Vec<u8>> {
+    let mut text = Vec::new(alloc);
+    for byte in line.as_bytes() {
+        text.push(if *byte == b'|' { b'\n' } else { *byte })?;
+    }
+    Ok(text)
+}
+
+/// Reads a text of notes, and writes what that is.
+fn tell_read(alloc: Global, out: &mut impl Write, text: &[u8]) -> io::Result<()> {
+    match read_notes(alloc, text) {
+        Ok(read) => {
+            let again = write_notes(alloc, read.runs, &read.notes)?;
+            let is_same = again.as_slice() == text;
+            let count = read.notes.len();
+            write!(out, "{count} notes, {}\n", if is_same { "the same text" } else { "another text" })
+        }
+        Err(refusal) => {
+            let number = refusal.number();
+            let line = refusal.line();
+            write!(out, "N{number} at {line}\n")
+        }
+    }
+}
+
 /// Does what a line says.
 fn heed(alloc: Global, out: &mut impl Write, session: &mut Session, line: &str) -> io::Result<()> {
     let mut words = line.split_whitespace();
@@ -290,6 +329,16 @@ fn heed(alloc: Global, out: &mut impl Write, session: &mut Session, line: &str) 
             let certificate = certificate_of(alloc, least, most)?;
             let bounds = bounds_of(length, &mut words);
             tell(out, session.shown(bounds, certificate.as_ref()))?;
+        }
+        Some("written") => {
+            let length = number_of(words.next());
+            let bounds = bounds_of(length, &mut words);
+            let text = write_notes(alloc, bounds, &session.notes)?;
+            tell_text(out, &text)?;
+        }
+        Some("reads") => {
+            let text = text_of(alloc, line.strip_prefix("reads ").unwrap_or(""))?;
+            tell_read(alloc, out, &text)?;
         }
         _ => write!(out, "{line}\n")?,
     }
