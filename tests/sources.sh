@@ -139,11 +139,9 @@ default_arms() {
     ' "$@"
 }
 
-# A match on instructions names each of them, so that a new one is thought of in every place. But for these, which ask of one
-# form, in searches whose finds are judged.
-asks_one='bpf_harden_kept//src/(brought|turns)\.rt|bpf_harden_text//src/(edits|emit)\.rt'
+# A match on instructions names each of them, so that a new one is thought of in every place.
 for crate in "$crates"/*/; do
-    files=$(find "$crate/src" -name '*.rt' ! -path '*/tests/*' ! -name 'tests.rt' | grep -vE "$asks_one" | sort)
+    files=$(find "$crate/src" -name '*.rt' ! -path '*/tests/*' ! -name 'tests.rt' | sort)
     arms=$(default_arms $files)
     if [ -n "$arms" ]; then
         echo "these matches on instructions have a default arm:"

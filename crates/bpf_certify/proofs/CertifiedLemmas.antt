@@ -30,8 +30,9 @@ pub rewritten : (old : Instructions) (length : ℕ) (wish : Wish) (d : Certified
     → IsProgram old.list → r.hardened.program ≡ new → IsPaid r.hardened.program d.certificate length wish.bound d.bound → new.order ≡ old.order → AreWished wish r.turns → r.untouched ≤ frame_bytes
     → (IsTrue r.is_shown → r.on_addresses ≡ None → Matches old new r.notes.items (runs_of length wish r))
     → IfSome r.on_addresses (λ notes. MatchesThere old new notes.items (on_plain (runs_of length wish r)))
+    → (IsTrue wish.notes → r.on_addresses ≡ None)
     → IsRewritten old length wish d r
-rewritten old length wish d r new law certified_law far exact program same paid order_is turns_are few matches addresses =
+rewritten old length wish d r new law certified_law far exact program same paid order_is turns_are few matches addresses tags =
     let runs = runs_of length wish r in
     let match : IsTrue r.is_shown → r.on_addresses ≡ None → Matches old r.hardened.program r.notes.items runs = λ shown none. subst (λ q. Matches old q r.notes.items runs) (sym same) (matches shown none) in
     let there : IfSome r.on_addresses (λ notes. Keeps old r.hardened.program notes.items (on_plain runs)) =
@@ -43,6 +44,7 @@ rewritten old length wish d r new law certified_law far exact program same paid 
       turns_are = turns_are;
       few = few;
       matches = match;
+      with_tags = tags;
       addresses = there;
       keeps = λ shown. by_either r.on_addresses there (λ notes k. exact_is_kept old r.hardened.program runs (StandsForExit old notes.items) (k.exact few)) (λ none. law old r.hardened.program r.notes.items runs program (match shown none));
     }

@@ -68,13 +68,15 @@ abbrev pub on_plain : Bounds → BoundsOnAddresses
 on_plain runs = record { length = runs.length; padded = runs.padded; turns = runs.turns; untouched = runs.untouched }
 
 -- The certificate is that of the new program, which has the old one's byte order, for the turns that are wished. Where it is told so, it keeps the
--- meaning of the old one, for the turns and the bytes that are told: notes on plain addresses show it there, too, and else those with tags.
+-- meaning of the old one, for the turns and the bytes that are told: notes on plain addresses show it there, too, and else those with tags, as
+-- always where notes are wanted.
 pub record IsRewritten (old : Instructions) (length : ℕ) (wish : Wish) (c : Certified) (r : Rewritten) : Type 0 where
   pub paid : IsPaid r.hardened.program c.certificate length wish.bound c.bound
   pub order_is : r.hardened.program.order ≡ old.order
   pub turns_are : AreWished wish r.turns
   pub few : r.untouched ≤ frame_bytes
   pub matches : IsTrue r.is_shown → r.on_addresses ≡ None → Matches old r.hardened.program r.notes.items (runs_of length wish r)
+  pub with_tags : IsTrue wish.notes → r.on_addresses ≡ None
   pub addresses : IfSome r.on_addresses (λ notes. Keeps old r.hardened.program notes.items (on_plain (runs_of length wish r)))
   pub keeps : IsTrue r.is_shown → KeepsMeaning old r.hardened.program (runs_of length wish r)
 

@@ -255,6 +255,7 @@ fn shown_of(
     ensures few { IfOk result (λ s. s.untouched ≤ frame_bytes) }
     ensures shows { IfOk result (λ s. IsTrue s.is_shown → s.on_addresses ≡ None → Matches old.now new.now.program s.notes.items (leaving runs s.untouched)) }
     ensures addresses { IfOk result (λ s. IfSome s.on_addresses (λ notes. MatchesOnAddresses old.now new.now.program notes.items (on_plain (leaving runs s.untouched)))) }
+    ensures tags { IsTrue wish.notes → IfOk result (λ s. s.on_addresses ≡ None) }
     ensures all { wish.unproved ≡ false → IfOk result (λ s. IsTrue s.is_shown) }
     ensures err { IfErr result (IsUnjudged old.now new.now.program runs) }
 {

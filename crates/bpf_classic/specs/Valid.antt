@@ -16,7 +16,7 @@ use Rattle.bpf_classic.specs.declared.refusal.Kind.TheVariants.{Packets, Seccomp
 use Rattle.bpf_classic.specs.declared.refusal.Fault.{Fault}
 use Rattle.bpf_classic.specs.declared.refusal.Fault.TheVariants.{Code, Cell as CellFault, Constant as ConstantFault, Target, Seccomp as SeccompFault, Extension as ExtensionFault, NoWord}
 use Rattle.bpf_classic.specs.declared.refusal.FilterRefusal.{FilterRefusal}
-use Rattle.bpf_classic.specs.declared.refusal.FilterRefusal.TheVariants.{Length as LengthRefused, Instruction as InstructionRefused, Memory}
+use Rattle.bpf_classic.specs.declared.refusal.FilterRefusal.TheVariants.{Length as LengthRefused, Instruction as InstructionRefused, Memory, Unshown}
 
 -- where Linux's extensions begin: offsets that no packet has (SKF_AD_OFF, -0x1000), and the last of them (SKF_AD_VLAN_TPID)
 abbrev pub extensions : ℕ
@@ -129,11 +129,12 @@ pub record IsLowestFault (kind : Kind) (raws : List Raw) (at : ℕ) (fault : Fau
   pub has_fault : fault_at kind raws at ≡ Some fault
   pub lower : (j : ℕ) → j < at → fault_at kind raws j ≡ None
 
--- the instructions are refused for this cause
+-- the instructions are refused for this cause; that no program is made of a filter is another
 abbrev pub IsRefused : Kind → List Raw → FilterRefusal → Type 0
 IsRefused kind raws LengthRefused = IsBadLength raws
 IsRefused kind raws (InstructionRefused at fault) = (IsBadLength raws → ⊥) × IsLowestFault kind raws at fault
 IsRefused kind raws Memory = ⊤
+IsRefused kind raws Unshown = ⊥
 
 abbrev pub refusal_number : FilterRefusal → ℕ
 refusal_number LengthRefused = 1
@@ -145,3 +146,4 @@ refusal_number (InstructionRefused at SeccompFault) = 6
 refusal_number (InstructionRefused at ExtensionFault) = 7
 refusal_number (InstructionRefused at NoWord) = 7
 refusal_number Memory = 9
+refusal_number Unshown = 10

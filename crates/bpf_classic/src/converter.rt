@@ -1,11 +1,12 @@
 //! The program of a filter.
 
-ghost use Rattle.std.specs.Prelude.{◌≡◌, ◌≤◌, ◌+◌, ◌-◌, length, map, true, IfOk};
+ghost use Rattle.std.specs.Prelude.{◌≡◌, ◌≤◌, ◌+◌, ◌-◌, ◌⊎◌, length, map, true, IfOk, IfErr};
 ghost use Rattle.bpf_insn.specs.Limits.{max_context};
 ghost use Rattle.bpf_classic.specs.Valid.{max_filter};
 ghost use Rattle.bpf_classic.specs.Template.{entry, whole, from_on, IsTable};
 ghost use Rattle.bpf_classic.specs.Flow.{all_turn};
 ghost use Rattle.bpf_classic.specs.Meaning.{insns, program_of, IsConverted, HasStarts, KeepsAnswers};
+ghost use Rattle.bpf_classic.specs.declared.refusal.FilterRefusal.TheVariants.{Memory, Unshown};
 
 use crate::filter::Filter;
 use crate::flow::{all_turn, is_sound, reads_a, reads_x, uses_trap};
@@ -13,6 +14,7 @@ use crate::instruction::Classic;
 use crate::laws::conversion_keeps_answers;
 use crate::layout::{Annotated, Layout, Wanted};
 use crate::marks::{annotate, set_backs};
+use crate::refusal::FilterRefusal;
 use crate::ways::from_on;
 use crate::writing::{put_entry, put_templates, slots_from};
 use bpf_insn::{BuildError, Insn, Program};
@@ -152,8 +154,9 @@ fn finished(
 
 /// The program of a filter, for contexts of `wanted.length` bytes in a form: from 0 to 4,096, of blocks at least 8 (with extensions 72), of
 /// seccomp 64. On each such context it ends with what the filter answers, within the longest way through it; with 0 where the filter's
-/// run jumps back more often than `wanted.turns`. `Memory` if memory runs out.
-pub fn convert(alloc: Global, filter: &Filter, wanted: Wanted) -> Result<Converted, BuildError>
+/// run jumps back more often than `wanted.turns`. `Memory` if memory runs out; `Unshown` if what was found to hold in front of the instructions
+/// doesn't agree, or their templates are no program, of which no case is known.
+pub fn convert(alloc: Global, filter: &Filter, wanted: Wanted) -> Result<Converted, FilterRefusal>
     requires { wanted.length ≤ max_context }
     ensures converted { IfOk result (λ c. IsConverted filter.now.kind filter.now.list c.layout c.marked c.program) }
     ensures answers { IfOk result (λ c. KeepsAnswers filter.now.list c.layout c.program) }
@@ -162,6 +165,7 @@ pub fn convert(alloc: Global, filter: &Filter, wanted: Wanted) -> Result<Convert
     ensures length { IfOk result (λ c. c.layout.length ≡ wanted.length) }
     ensures order { IfOk result (λ c. c.layout.order ≡ wanted.order) }
     ensures turns { IfOk result (λ c. c.layout.turns ≡ wanted.turns) }
+    ensures err { IfErr result (λ e. (e ≡ Memory) ⊎ (e ≡ Unshown)) }
 {
     conversion_keeps_answers();
     let layout = Layout {
@@ -176,10 +180,10 @@ pub fn convert(alloc: Global, filter: &Filter, wanted: Wanted) -> Result<Convert
     };
     let instructions = filter.instructions();
     let Ok((layout, list)) = annotated(alloc, instructions, &layout) else {
-        return Err(BuildError::Memory);
+        return Err(FilterRefusal::Memory);
     };
     if !is_sound(&layout, &list) {
-        return Err(BuildError::Length);
+        return Err(FilterRefusal::Unshown);
     }
     written(alloc, layout, list)
 }
@@ -205,7 +209,7 @@ fn put_all(
 }
 
 /// The program of instructions that are marked, with what is known of it.
-fn written(alloc: Global, layout: Layout, list: Vec<Annotated>) -> Result<Converted, BuildError>
+fn written(alloc: Global, layout: Layout, list: Vec<Annotated>) -> Result<Converted, FilterRefusal>
     requires few { length list.items ≤ max_filter }
     requires short { layout.length ≤ max_context }
     ensures program { IfOk result (λ c. c.program ≡ program_of layout list.items) }
@@ -213,18 +217,19 @@ fn written(alloc: Global, layout: Layout, list: Vec<Annotated>) -> Result<Conver
     ensures marked { IfOk result (λ c. c.marked ≡ list.items) }
     ensures starts { IfOk result (λ c. HasStarts layout list.items c.starts) }
     ensures turns { IfOk result (λ _. all_turn layout list.items list.items ≡ true) }
+    ensures err { IfErr result (λ e. (e ≡ Memory) ⊎ (e ≡ Unshown)) }
 {
     let Ok(table) = slots_from(alloc, &layout, &list) else {
-        return Err(BuildError::Memory);
+        return Err(FilterRefusal::Memory);
     };
     if !all_turn(&layout, &list, &table) {
-        return Err(BuildError::Length);
+        return Err(FilterRefusal::Unshown);
     }
     let Ok((out, first)) = put_all(alloc, &layout, &list, &table) else {
-        return Err(BuildError::Memory);
+        return Err(FilterRefusal::Memory);
     };
     let Ok(starts) = starts_of(alloc, &table, first) else {
-        return Err(BuildError::Memory);
+        return Err(FilterRefusal::Memory);
     };
     match Program::new(alloc, out, layout.order) {
         Ok(program) => Ok(Converted {
@@ -233,7 +238,10 @@ fn written(alloc: Global, layout: Layout, list: Vec<Annotated>) -> Result<Conver
             list,
             starts,
         }),
-        Err(error) => Err(error),
+        Err(BuildError::Memory) => Err(FilterRefusal::Memory),
+        Err(BuildError::Length | BuildError::NoEncoding { .. } | BuildError::Target { .. }) => {
+            Err(FilterRefusal::Unshown)
+        }
     }
 }
 

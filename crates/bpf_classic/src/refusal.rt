@@ -1,4 +1,4 @@
-//! Why instructions are no filter.
+//! Why instructions are no filter, and why no program is made of one.
 
 use thiserror::Error;
 
@@ -36,7 +36,7 @@ pub enum Fault {
     NoWord,
 }
 
-/// Why instructions are no filter.
+/// Why instructions are no filter, or no program is made of one.
 #[derive(Clone, Copy, Debug, PartialEq, Eq, Error)]
 pub enum FilterRefusal {
     /// B1: there are none, or more than 4,096.
@@ -48,13 +48,16 @@ pub enum FilterRefusal {
     /// B9: memory ran out.
     #[error("out of memory")]
     Memory,
+    /// B10: what was found to hold in front of its instructions doesn't agree, or the templates are no program. No filter is known of which this is said.
+    #[error("the program that was made isn't shown to keep the filter's answers")]
+    Unshown,
 }
 
 impl FilterRefusal {
     ghost use Rattle.std.specs.Prelude.{◌≡◌};
     ghost use Rattle.bpf_classic.specs.Valid.{refusal_number};
 
-    /// The number of the refusal, from 1 to 9.
+    /// The number of the refusal, from 1 to 10, and never 8.
     pub fn number(&self) -> u8
         ensures { result ≡ refusal_number self.now }
     {
@@ -69,6 +72,7 @@ impl FilterRefusal {
                 Fault::Extension | Fault::NoWord => 7,
             },
             FilterRefusal::Memory => 9,
+            FilterRefusal::Unshown => 10,
         }
     }
 }

@@ -44,7 +44,7 @@ made_for : (program : Instructions) (c : Certifying) (length : ℕ) (d : Certifi
     → (c.unproved ≡ false → IfSome rewritten (λ r. IsTrue r.is_shown)) → IsMadeOf program (program_of program rewritten) c length (notes_of rewritten) (rewriting_of c rewritten)
 made_for program c length d None stands shown = (refl, stands.0, refl)
 made_for program c length d (Some r) stands shown =
-    record { padded_is = refl; turns_are = stands.turns_are; order_is = stands.order_is; shown = shown; shows = shows; keeps = stands.keeps }
+    record { padded_is = refl; turns_are = stands.turns_are; order_is = stands.order_is; shown = shown; matches = λ wanted told. stands.matches told (stands.with_tags wanted); shows = shows; keeps = stands.keeps }
   where
     shows : IsTrue r.is_shown → Matches program r.hardened.program r.notes.items (runs_of length (wish_of c) r) ⊎ ((there : Notes) × Keeps program r.hardened.program there (on_plain (runs_of length (wish_of c) r)))
     shows told = either r.on_addresses stands.addresses (λ none. stands.matches told none) (λ there k. (there.items, k))

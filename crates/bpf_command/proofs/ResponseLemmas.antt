@@ -1,11 +1,16 @@
 -- What is found for a request, from what its command says of it.
-use Rattle.std.proofs.Common.{◌≡◌, ℕ, List, Option, Result, Ok, Err, IfOk, IfErr, MatchResult, sym, subst}
+use Rattle.std.proofs.Common.{◌≡◌, ℕ, List, Bool, true, false, Option, Some, None, Result, Ok, Err, IfOk, IfErr, MatchResult, refl, sym, subst}
+use Rattle.std.specs.Prelude.{if◌then◌else◌}
+use Rattle.std.proofs.lemmas.Option.{none-some}
 use Rattle.std.specs.Io.KnownBytes.{Keeps}
 use Rattle.bpf_answers.specs.declared.answer.Answer.{Answer}
 use Rattle.bpf_answers.specs.declared.failure.Failure.{Failure}
+use Rattle.bpf_answers.specs.declared.failure.Failure.TheVariants.{NotTogether}
 use Rattle.bpf_answers.specs.declared.reply.Reply.TheVariants.{One}
 use Rattle.bpf_answers.proofs.MadeLemmas.{keeps}
+use Rattle.bpf_request.specs.declared.converting.Converting.{Converting}
 use Rattle.bpf_command_core.specs.Given.{Replies}
+use Rattle.bpf_command.specs.Conflicts.{conversion_conflict, is_misfit}
 use Rattle.bpf_command.specs.Found.{Finding, Gives}
 use Rattle.bpf_command.specs.declared.finding.Finding.TheVariants.{Given}
 
@@ -32,3 +37,13 @@ pub answered : (says : Answer → Type 0) (misses : Failure → Type 0) (names :
     → MatchResult s (Gives (Replies says known known)) (λ f. misses f × Keeps known known × names)
 answered says misses names known r s is also h m n =
     carried (λ a. Given (One a)) (Gives (Replies says known known)) misses (Keeps known known) names r s is also (silent says r known h) m (unprinted r known) n
+
+-- ---- no conflict
+
+unless : (b : Bool) (rest : Option Failure) → (if b then Some NotTogether else rest) ≡ None → b ≡ false
+unless true rest e = absurd (none-some NotTogether (sym e))
+unless false rest e = refl
+
+-- contexts are of one form, and of a length that it has
+pub fits : (c : Converting) → conversion_conflict c ≡ None → is_misfit c ≡ false
+fits c e = unless (is_misfit c) _ e

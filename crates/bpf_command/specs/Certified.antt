@@ -58,13 +58,14 @@ abbrev pub runs_told : ℕ → Rewriting → Bounds
 runs_told length r = record { length = length; padded = r.padded; turns = r.turns; untouched = r.untouched }
 
 -- What is told of a hardened program, which has the byte order of the one at IN, for the turns that are asked for: without `--unproved` it is
--- shown; and what is shown keeps the meaning of the program at IN, since the notes match, for the very contexts, turns and bytes left to r10
--- that are told.
+-- shown; and what is shown keeps the meaning of the program at IN, for the very contexts, turns and bytes left to r10 that are told: the notes that
+-- are wanted match, and where none are, these or others on plain addresses do.
 pub record IsRewriting (program made : Instructions) (c : Certifying) (length : ℕ) (notes : List (Option Counterpart)) (r : Rewriting) : Type 0 where
   pub padded_is : r.padded ≡ c.padded
   pub turns_are : IfSome c.turns (λ asked. r.turns ≡ asked)
   pub order_is : made.order ≡ program.order
   pub shown : c.unproved ≡ false → IsTrue r.is_shown
+  pub matches : IsTrue (is_some c.notes) → IsTrue r.is_shown → Matches program made notes (runs_told length r)
   pub shows : IsTrue r.is_shown → Matches program made notes (runs_told length r) ⊎ ((there : Notes) × Keeps program made there (on_plain (runs_told length r)))
   pub keeps : IsTrue r.is_shown → KeepsMeaning program made (runs_told length r)
 

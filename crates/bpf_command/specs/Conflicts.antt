@@ -1,5 +1,5 @@
 -- What words of a request can't stand together.
-use Rattle.std.specs.Prelude.{◌==◌, ◌&&◌, ◌||◌, not, Bool, List, [], ℕ, Option, Some, None, nat_lt, codes, option_map, unwrap_or, if◌then◌else◌}
+use Rattle.std.specs.Prelude.{◌&&◌, Bool, List, [], ℕ, Option, Some, None, nat_lt, codes, option_map, unwrap_or, if◌then◌else◌}
 use Rattle.std.specs.Option.{option_or}
 use Rattle.std.specs.Str.{bytes_eq}
 use Rattle.std.specs.Borrow.{Bor}
@@ -14,6 +14,7 @@ use Rattle.bpf_request.specs.declared.subject.Aspect.{Aspect}
 use Rattle.bpf_request.specs.declared.subject.Aspect.TheVariants.{Listing, Slot as OneSlot, Graph as Drawn}
 use Rattle.bpf_request.specs.declared.subject.Subject.{Subject}
 use Rattle.bpf_request.specs.declared.subject.Subject.TheVariants.{Image, Text as TextAlone, Certified, Slot, Inferred, Hardened, Graph, GraphAlone, Misfit}
+pub use Rattle.bpf_command_core.specs.Spelled.{is_misfit}
 use Rattle.bpf_answers.specs.declared.failure.Failure.{Failure}
 use Rattle.bpf_answers.specs.declared.failure.Failure.TheVariants.{MostBelowLeast, InputTwice, NotTogether}
 
@@ -72,14 +73,6 @@ certify_conflict c =
     (option_or (option_or (option_or (option_or (dashed c.output.now) (dashed c.certificate.now)) (dashed_if c.notes)) (dashed_if c.changes))
     (option_or (option_or (written_twice c.output.now c.notes c.changes) (written_twice c.certificate.now c.notes c.changes)) (same_name c.output.now (Some c.certificate))))
     (twice c.input.now (name_given c.lines))
-
--- two forms of contexts, or a length that the form doesn't have: seccomp's is 64, and a block has at least its first eight bytes, or 72
--- with Linux's words
-abbrev pub is_misfit : Converting → Bool
-is_misfit c =
-    if c.seccomp then c.plain || c.extensions || not (c.length == 64)
-    else if c.extensions then c.plain || nat_lt c.length 72
-    else not c.plain && nat_lt c.length 8
 
 -- of a conversion: such contexts; standard output for a file, where it takes the line; one name for two files
 abbrev pub conversion_conflict : Converting → Option Failure

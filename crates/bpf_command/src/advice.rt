@@ -55,13 +55,14 @@ pub(crate) fn after_refusal<H: Terminal>(aside: &H, request: Request<'_>) {
         _ => return,
     };
     let order = order_word(order);
-    match certificate {
-        Some(name) => tell!(
-            aside,
-            "`bpf explain {flags}{order}{input} {name}` tells why"
-        ),
-        None => tell!(aside, "`bpf explain {flags}{order}{input}` tells why"),
-    }
+    let (blank, name) = match certificate {
+        Some(name) => (" ", name),
+        None => ("", ""),
+    };
+    tell!(
+        aside,
+        "`bpf explain {flags}{order}{input}{blank}{name}` tells why"
+    )
 }
 
 /// Names the command that tells why an image was refused.
@@ -86,14 +87,15 @@ impl<'a> Display for ExplainAdvice<'a> {
             ..
         } = self.0;
         let order = order_word(order);
-        write!(f, "`bpf explain {order}{input} --infer {least}")?;
-        if most != least {
-            write!(f, " --most {most}")?;
+        let deep = if self.0.deep { " --deep" } else { "" };
+        if most == least {
+            write!(f, "`bpf explain {order}{input} --infer {least}{deep}`")
+        } else {
+            write!(
+                f,
+                "`bpf explain {order}{input} --infer {least} --most {most}{deep}`"
+            )
         }
-        if self.0.deep {
-            f.write_str(" --deep")?;
-        }
-        f.write_str("`")
     }
 }
 
@@ -133,17 +135,19 @@ pub(crate) fn after_search<H: Terminal>(
     let explaining = ExplainAdvice(asked);
     let order = order_word(asked.order);
     let may_harden = least == most && may_be_hardened(error);
-    match (may_deepen, may_harden) {
-        (true, true) => tell!(
+    let deepening = match (may_deepen, may_harden) {
+        (true, true) => "try --deep, or ",
+        (true, false) => "try --deep; ",
+        (false, true) => "try ",
+        (false, false) => "",
+    };
+    if may_harden {
+        tell!(
             aside,
-            "try --deep, or `bpf harden {order}{input} {least} NEW`; {explaining} tells why"
-        ),
-        (true, false) => tell!(aside, "try --deep; {explaining} tells why"),
-        (false, true) => tell!(
-            aside,
-            "try `bpf harden {order}{input} {least} NEW`; {explaining} tells why"
-        ),
-        (false, false) => tell!(aside, "{explaining} tells why"),
+            "{deepening}`bpf harden {order}{input} {least} NEW`; {explaining} tells why"
+        )
+    } else {
+        tell!(aside, "{deepening}{explaining} tells why")
     }
 }
 

@@ -1,6 +1,8 @@
 //! From words to a status.
 
+ghost use Rattle.std.specs.Prelude.{◌≡◌, None};
 ghost use Rattle.bpf_answers.specs.Told.{IsTold, Tells};
+ghost use Rattle.bpf_command.specs.Conflicts.{conflict_of};
 ghost use Rattle.bpf_command.specs.Response.{Carries, Performs, Responds, Serves, names};
 
 use crate::advice::after_failure;
@@ -31,6 +33,7 @@ fn carry_out<'a, P: Places, W: Write, H: Aside>(
     out: &mut W,
     aside: &mut H,
 ) -> Result<Finding, Failure<'a>>
+    requires { conflict_of request ≡ None }
     ensures { Carries (names P.meets P.opens P.creates P.ends P.Writer.contents places.old places.new) (W.contents out.old) (W.contents out.new)
         request.entry result }
 {

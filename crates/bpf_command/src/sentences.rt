@@ -31,10 +31,8 @@ struct AskedSource<'a, 'b> {
 /// difference.
 fn tell_sentence<H: Aside, D: Display + Drop>(aside: &H, sentence: D, source: &str) {
     let mut stream = aside.stream();
-    let _ = write!(OneLine::new(&mut stream), "{sentence}");
-    if !source.is_empty() {
-        let _ = write!(OneLine::new(&mut stream), "; from {source}");
-    }
+    let from = if source.is_empty() { "" } else { "; from " };
+    let _ = write!(OneLine::new(&mut stream), "{sentence}{from}{source}");
     let _ = write!(stream, "\n");
 }
 
@@ -50,15 +48,15 @@ impl<'a> Display for Dear<'a> {
     fn fmt<W: fmt::Write>(&self, f: &mut fmt::Formatter<W>) -> fmt::Result {
         let (turns, bound) = (self.turns, self.bound);
         let most = self.asked.bound.unwrap_or(MOST_BOUND);
+        let wanted = if turns > 1 {
+            "give fewer --turns, or"
+        } else {
+            "let its runs be shorter, or give"
+        };
         write!(
             f,
-            "with turns {turns} a run may take {bound} instructions, more than {most}: "
-        )?;
-        if turns > 1 {
-            f.write_str("give fewer --turns, or a greater --bound")
-        } else {
-            f.write_str("let its runs be shorter, or give a greater --bound")
-        }
+            "with turns {turns} a run may take {bound} instructions, more than {most}: {wanted} a greater --bound"
+        )
     }
 }
 

@@ -1,8 +1,14 @@
 -- What is said of the names of a conversion, from what is said of each.
-use Rattle.std.proofs.Common.{◌≡◌, ◌≤◌, ℕ, List, Option, Some, None, refl, sym, subst, inl, inr}
+use Rattle.std.proofs.Common.{◌≡◌, ◌≤◌, ℕ, min, List, Bool, true, false, Option, Some, None, refl, sym, subst, inl, inr, arith}
+use Rattle.std.specs.Prelude.{◌==◌, ◌&&◌, ◌||◌, not, nat_lt, if◌then◌else◌}
+use Rattle.std.proofs.lemmas.Bool.{false≢true, ltb-false}
+use Rattle.std.proofs.Math.Nat.{le-min}
 use Rattle.std.specs.Borrow.{Bor}
 use Rattle.bpf_insn.specs.Limits.{max_context}
 use Rattle.bpf_classic.specs.declared.raw.Raw.{Raw}
+use Rattle.bpf_classic.specs.Template.{head}
+use Rattle.bpf_classic.specs.declared.layout.Form.{Form}
+use Rattle.bpf_classic.specs.declared.layout.Form.TheVariants.{Blocks, Plain, Seccomp, Extended}
 use Rattle.bpf_conversion.specs.declared.made.Made.{Made}
 use Rattle.bpf_request.specs.declared.converting.Converting.{Converting}
 use Rattle.bpf_answers.specs.Opened.{Opening}
@@ -10,7 +16,29 @@ use Rattle.bpf_answers.specs.Loaded.{BytesAt}
 use Rattle.bpf_answers.specs.declared.certified.Certification.{Certification}
 use Rattle.bpf_answers.specs.declared.failure.Failure.{Failure}
 use Rattle.bpf_answers.specs.declared.failure.Failure.TheVariants.{CannotRead, CannotWrite, NoMemory}
-use Rattle.bpf_command_core.specs.Converted.{ConvertFails, Converts, FilterUnread, IsMadeOf, IsOfListing, Missing, NotAll, NotConverted, Placing, max_filter_text, told_of}
+use Rattle.bpf_command_core.specs.Converted.{ConvertFails, Converts, FilterUnread, IsMadeOf, form_of, is_misfit, IsOfListing, Missing, NotAll, NotConverted, Placing, max_filter_text, told_of}
+
+-- ---- the length
+
+head_few : (form : Form) → head form ≤ max_context
+head_few Blocks = omega arith
+head_few Plain = omega arith
+head_few Seccomp = omega arith
+head_few Extended = omega arith
+
+-- a length that its form has gives room for what stands in front of a packet
+room : (seccomp extensions plain : Bool) (length : ℕ)
+    → (if seccomp then plain || extensions || not (length == 64) else if extensions then plain || nat_lt length 72 else not plain && nat_lt length 8) ≡ false
+    → head (if seccomp then Seccomp else if extensions then Extended else if plain then Plain else Blocks) ≤ length
+room true extensions plain length e = omega arith
+room false true true length e = absurd (false≢true (sym e))
+room false true false length e = ltb-false length 72 e
+room false false true length e = omega arith
+room false false false length e = ltb-false length 8 e
+
+-- so does the greatest one
+pub within : (c : Converting) → is_misfit c ≡ false → head (form_of c) ≤ min c.length max_context
+within c fits = le-min (room c.seccomp c.extensions c.plain c.length fits) (head_few (form_of c))
 
 -- ---- what is made
 

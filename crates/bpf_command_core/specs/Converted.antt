@@ -19,7 +19,7 @@ use Rattle.bpf_answers.specs.declared.failure.Failure.{Failure}
 use Rattle.bpf_answers.specs.declared.failure.Failure.TheVariants.{CannotRead, CannotWrite, NoMemory}
 use Rattle.bpf_command_core.specs.declared.conversion.Conversion.{Conversion}
 use Rattle.bpf_command_core.specs.declared.conversion.Conversion.TheVariants.{Made as IsDone, Refused}
-pub use Rattle.bpf_command_core.specs.Spelled.{IsMadeOf, IsUnconvertible, form_of, spelled, told_unconvertible}
+pub use Rattle.bpf_command_core.specs.Spelled.{IsMadeOf, IsUnconvertible, form_of, is_misfit, spelled, told_unconvertible}
 pub use Rattle.bpf_command_core.specs.Standing.{Placing, Standing, placing}
 use Rattle.bpf_command_core.specs.Standing.{beside, paired}
 use Rattle.bpf_command_core.specs.Standing.Standing.{Whole, Nothing, ImageAlone, Unlisted}

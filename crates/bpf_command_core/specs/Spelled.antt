@@ -1,5 +1,5 @@
 -- Which filter the bytes at a name spell, and what is made of it.
-use Rattle.std.specs.Prelude.{◌≡◌, ◌⊎◌, ℕ, min, List, Option, Some, None, Result, Ok, Err, if◌then◌else◌}
+use Rattle.std.specs.Prelude.{◌≡◌, ◌==◌, ◌&&◌, ◌||◌, ◌⊎◌, ℕ, min, nat_lt, Bool, not, List, Option, Some, None, Result, Ok, Err, if◌then◌else◌}
 use Rattle.bpf_classic.specs.declared.raw.Raw.{Raw}
 use Rattle.bpf_classic.specs.Bytes.{raws_in}
 use Rattle.bpf_classic.specs.Text.{raws_of}
@@ -9,10 +9,10 @@ use Rattle.bpf_classic.specs.Template.{usual_turns}
 use Rattle.bpf_classic.specs.declared.layout.Form.{Form}
 use Rattle.bpf_classic.specs.declared.layout.Form.TheVariants.{Blocks, Plain, Seccomp, Extended}
 use Rattle.bpf_classic.specs.declared.layout.Wanted.{Wanted}
-use Rattle.bpf_conversion.specs.Made.{IsMade, IsRefusedFor, told_conversion}
+use Rattle.bpf_conversion.specs.Made.{IsMade, IsRefusedFor}
 use Rattle.bpf_conversion.specs.declared.made.Made.{Made}
 use Rattle.bpf_request.specs.declared.converting.Converting.{Converting}
-use Rattle.bpf_refusals.specs.Told.{told_spelling}
+use Rattle.bpf_refusals.specs.Told.{told_filter, told_spelling}
 use Rattle.bpf_refusals.specs.declared.told.Told.{Told}
 use Rattle.bpf_command_core.specs.declared.unconvertible.Unconvertible.{Unconvertible}
 use Rattle.bpf_command_core.specs.declared.unconvertible.Unconvertible.TheVariants.{Text, Filter}
@@ -23,6 +23,14 @@ spelled c bytes = if c.raw then raws_in c.order bytes else raws_of bytes
 
 abbrev pub form_of : Converting → Form
 form_of c = if c.seccomp then Seccomp else if c.extensions then Extended else if c.plain then Plain else Blocks
+
+-- two forms of contexts, or a length that the form doesn't have: seccomp's is 64, and a block has at least its first eight bytes, or 72
+-- with Linux's words
+abbrev pub is_misfit : Converting → Bool
+is_misfit c =
+    if c.seccomp then c.plain || c.extensions || not (c.length == 64)
+    else if c.extensions then c.plain || nat_lt c.length 72
+    else not c.plain && nat_lt c.length 8
 
 -- how often a run may jump back: as it is said, up to 65,535 times, or for each eight bytes of a packet once, and once more
 abbrev pub turns_or : Option ℕ → ℕ → ℕ
@@ -44,9 +52,9 @@ IsMadeOf c length bytes raws made = (spelled c bytes ≡ Ok raws) × IsMade raws
 -- the bytes spell no instructions, or no filter; or memory ran out
 abbrev pub IsUnconvertible : Converting → List ℕ → Unconvertible → Type 0
 IsUnconvertible c bytes (Text fault) = (fault ≡ faults.Memory) ⊎ (spelled c bytes ≡ Err fault)
-IsUnconvertible c bytes (Filter error) = (raws : List Raw) × (spelled c bytes ≡ Ok raws) × IsRefusedFor raws (form_of c) error
+IsUnconvertible c bytes (Filter refusal) = (raws : List Raw) × (spelled c bytes ≡ Ok raws) × IsRefusedFor raws (form_of c) refusal
 
 -- what is answered of that
 abbrev pub told_unconvertible : Unconvertible → Told
 told_unconvertible (Text fault) = told_spelling fault
-told_unconvertible (Filter error) = told_conversion error
+told_unconvertible (Filter refusal) = told_filter refusal

@@ -1,8 +1,9 @@
 //! `bpf convert IN LEN OUT CERT`.
 
-ghost use Rattle.std.specs.Prelude.{◌≡◌, ◌≤◌, IfOk, IfErr};
+ghost use Rattle.std.specs.Prelude.{◌≡◌, ◌≤◌, false, IfOk, IfErr};
 ghost use Rattle.bpf_insn.specs.Limits.{max_context};
-ghost use Rattle.bpf_command_core.specs.Converted.{ConvertFails, ConvertSays, NotConverted, placing, told_of};
+ghost use Rattle.bpf_classic.specs.Template.{head};
+ghost use Rattle.bpf_command_core.specs.Converted.{ConvertFails, ConvertSays, NotConverted, form_of, is_misfit, placing, told_of};
 
 use crate::conversion::Conversion;
 use crate::placed::put_all;
@@ -15,9 +16,11 @@ use bpf_request::Converting;
 use std::alloc::Global;
 
 /// The length of the contexts; the words' parser has seen that it is at most the greatest.
+#[tactic(auto, using(crate::proofs::ConvertedLemmas::within))]
 fn length_of(asked: Converting<'_>) -> u32
     ensures short { result ≤ max_context }
     ensures given { asked.entry.length ≤ max_context → result ≡ asked.entry.length }
+    ensures room { is_misfit asked.entry ≡ false → head (form_of asked.entry) ≤ result }
 {
     asked.length.min(MAX_CONTEXT as u32)
 }
@@ -33,13 +36,14 @@ fn told_of(length: u32, made: &Made) -> Certification
     }
 }
 
-/// Writes the image of a filter of classic BPF, its certificate, and a listing where one is asked for, once the checker has taken the certificate.
-/// The places for them are made only then.
+/// Writes the image of a filter of classic BPF, its certificate, and a listing where one is asked for, once all of it is made. The places for them
+/// are made only then. The words ask for contexts of one form, and of a length that it has.
 pub fn converted<'a, P: Places>(
     alloc: Global,
     places: &mut P,
     asked: Converting<'a>,
 ) -> Result<Conversion, Failure<'a>>
+    requires { is_misfit asked ≡ false }
     ensures ok { IfOk result (ConvertSays P.opens (placing P.creates P.ends P.Writer.contents) places.old asked.entry places.new) }
     ensures err { IfErr result (ConvertFails P.opens (placing P.creates P.ends P.Writer.contents) places.old asked.entry places.new) }
     ensures names { IfErr result (λ _. NotConverted P.opens (placing P.creates P.ends P.Writer.contents) places.old asked.entry places.new) }

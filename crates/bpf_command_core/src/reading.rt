@@ -5,7 +5,7 @@ ghost use Rattle.bpf_insn.specs.Limits.{max_context};
 ghost use Rattle.bpf_classic.specs.declared.fault.TextFault.TheVariants.{Memory};
 ghost use Rattle.bpf_answers.specs.Loaded.{BytesAt, Tried};
 ghost use Rattle.bpf_command_core.specs.Converted.{FilterUnread, IsUnconvertible, form_of, max_filter_text, spelled};
-ghost use Rattle.bpf_classic.specs.Template.{usual_turns};
+ghost use Rattle.bpf_classic.specs.Template.{head, usual_turns};
 ghost use Rattle.bpf_command_core.specs.Spelled.{IsMadeOf, turns_or, wanted_of};
 
 use crate::unconvertible::Unconvertible;
@@ -97,7 +97,8 @@ pub(crate) fn made_of(
     asked: Converting<'_>,
     length: u32,
 ) -> Result<(Vec<Raw>, Made), Unconvertible>
-    requires { length ≤ max_context }
+    requires short { length ≤ max_context }
+    requires room { head (form_of asked) ≤ length }
     ensures ok { IfOk result (λ found. IsMadeOf asked.entry length bytes.now found.0.items found.1) }
     ensures err { IfErr result (IsUnconvertible asked.entry bytes.now) }
 {

@@ -1,7 +1,6 @@
 //! Why what is at a name isn't converted.
 
-use bpf_classic::TextFault;
-use bpf_conversion::ConvertError;
+use bpf_classic::{FilterRefusal, TextFault};
 use bpf_refusals::{Tells, Told};
 use thiserror::Error;
 
@@ -13,7 +12,7 @@ pub enum Unconvertible {
     Text(TextFault),
     /// B1 to B7, B9, B10: no program is made of its instructions.
     #[error("{0}")]
-    Filter(ConvertError),
+    Filter(FilterRefusal),
 }
 
 impl Tells for Unconvertible {
@@ -24,7 +23,7 @@ impl Tells for Unconvertible {
     fn told(&self) -> Told {
         match self {
             Unconvertible::Text(fault) => fault.told(),
-            Unconvertible::Filter(error) => error.told(),
+            Unconvertible::Filter(refusal) => refusal.told(),
         }
     }
 }

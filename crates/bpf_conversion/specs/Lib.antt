@@ -7,6 +7,8 @@ pub mod Known
 pub mod Leaders
 -- the certificate
 pub mod Claim
+-- the law that it certifies the program
+pub mod Accepted
 -- what is found out about a program before its labels are made
 pub mod Outline
 -- the listing of a filter's program

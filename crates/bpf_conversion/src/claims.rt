@@ -1,5 +1,5 @@
 //! The certificate by templates: a label at each leader of a block, with what is known there, and the longest way as its budget, with one
-//! more turn for each that is left.
+//! more turn for each that is left. By a law it certifies the program.
 
 ghost use Rattle.std.specs.Prelude.{◌≡◌, ◌&&◌, false, map, get_or, IfOk, IfErr};
 ghost use Rattle.bpf_insn.specs.Image.{IsProgram};
@@ -121,7 +121,7 @@ fn labels(alloc: Global, converted: &Converted, found: &Outline) -> Result<Vec<L
 }
 
 /// A program is valid.
-fn valid<C: Code>(program: &C)
+pub fn valid<C: Code>(program: &C)
     ensures { IsProgram (C.program program.now).list }
 {
     let _slots = program.slots();

@@ -1,10 +1,10 @@
-//! What a converted filter gets: its certificate, by template, which the checker takes; and its listing, with each of
+//! What a converted filter gets: its certificate, by template, which certifies it by a law; and its listing, with each of
 //! its instructions above what came from it.
 #![tactic(auto)]
 
 mod claims;
-mod error;
 pub mod found;
+mod law;
 mod leaders;
 mod listing;
 mod made;
@@ -13,6 +13,6 @@ mod states;
 mod ways;
 
 pub use claims::certificate;
-pub use error::ConvertError;
+pub use law::certified_at_once;
 pub use listing::listed;
 pub use made::{Made, converted, kind_of};

@@ -44,14 +44,17 @@ fn making_of(insn: &Insn) -> Option<MadeOf> {
     match *insn {
         Insn::Alu {
             op,
-            width: Width::W64,
+            width,
             dst,
             src,
-        } => Some(MadeOf {
-            op,
-            dst,
-            source: source_of(src),
-        }),
+        } => match width {
+            Width::W64 => Some(MadeOf {
+                op,
+                dst,
+                source: source_of(src),
+            }),
+            Width::W32 => None,
+        },
         Insn::LoadImm64 { value, .. } => Some(move_of(MadeFrom::Number(value))),
         Insn::Load { size, src, off, .. } => {
             let slot = slot_at(size, Displaced { base: src, off })?;
@@ -59,7 +62,9 @@ fn making_of(insn: &Insn) -> Option<MadeOf> {
         }
         Insn::Store { src, .. } => Some(move_of(MadeFrom::Place(Holder::Register(src)))),
         Insn::StoreImm { imm, .. } => Some(move_of(MadeFrom::Number(extended(imm)))),
-        _ => None,
+        Insn::Neg { .. } | Insn::MovSx { .. } | Insn::End { .. } | Insn::LoadSx { .. } => None,
+        Insn::Atomic { .. } | Insn::Ja { .. } | Insn::JaLong { .. } => None,
+        Insn::JumpIf { .. } | Insn::CallLocal { .. } | Insn::Exit => None,
     }
 }
 

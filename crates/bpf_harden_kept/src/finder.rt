@@ -1,4 +1,5 @@
-//! A forward data flow over the slots of a hardened program, to the greatest fixed point (Kildall, 1973).
+//! A forward data flow over the slots of a hardened program, to the greatest fixed point (Kildall, 1973). Ways that the old program surely doesn't go
+//! are left out (Wegman and Zadeck, 1991).
 
 use crate::note::{FlowEdge, first_note, join};
 use crate::sites::{NewSite, sites_of};
@@ -8,7 +9,7 @@ use bpf_infer_base::{SlotSet, get_or, held, put};
 use bpf_insn::{Insn, MAX_SLOTS, Program, target};
 use bpf_kept::{
     Change, Fact, GuardSite, KnownHere, Note, RunBounds, are_same, extra, facts_at, left_alone,
-    paired, start_facts, start_slot,
+    may_fall, paired, start_facts, start_slot, surely_falls,
 };
 use std::alloc::{AllocError, Global};
 
@@ -100,7 +101,7 @@ impl<'a> DataFlow<'a> {
 
     /// The start leads to the first slot, in blocks behind the cut of the length.
     fn start(&mut self) -> Result<(), AllocError> {
-        let facts = start_facts(self.bounds.padded);
+        let facts = start_facts(self.bounds.padded, self.bounds.length);
         let known = KnownHere {
             facts: facts.as_slice(),
             apart: &[],
@@ -123,7 +124,7 @@ impl<'a> DataFlow<'a> {
         let known = self.known(facts.as_slice(), note);
         let site = GuardSite {
             slot: note.old,
-            length: self.bounds.length,
+            bounds: self.bounds,
         };
         let Some(change) = extra(self.old, site, &known, insn) else {
             return Ok(());
@@ -137,7 +138,7 @@ impl<'a> DataFlow<'a> {
         self.arrive(slot.saturating_add(insn.slots()), way)
     }
 
-    /// Goes on from an instruction that stands for an old one.
+    /// Goes on from an instruction that stands for an old one, on each way that the old one may go.
     fn pass_body(&mut self, slot: u32, note: &Note, moved: &Insn) -> Result<(), AllocError> {
         let Some(insn) = self.old.at(note.old).copied() else {
             return Ok(());
@@ -153,8 +154,11 @@ impl<'a> DataFlow<'a> {
             change,
             step: Some(note.old),
         };
-        if insn.goes_on() {
+        if may_fall(known.facts, &insn) {
             self.arrive(slot.saturating_add(moved.slots()), way)?;
+        }
+        if surely_falls(known.facts, &insn) {
+            return Ok(());
         }
         match led(slot, moved) {
             Some(to) => self.arrive(to, way),

@@ -6,8 +6,8 @@ use crate::sites::NewSite;
 use crate::turns::Head;
 use bpf_kept::{
     COUNTERS, Change, FACTS, Fact, Holder, KnownHere, Note, SLOTS, TurnsLeft, constant,
-    counts_behind, gives, holds_behind, is_told, is_zero_slot, known_number, same_holder,
-    same_slot, zero,
+    counts_behind, end_facts, gives, holds_behind, is_told, is_zero_slot, known_number,
+    same_holder, same_slot, zero,
 };
 use std::alloc::{AllocError, Global};
 
@@ -55,7 +55,7 @@ fn set_noted(noted: &mut [bool; SLOTS], slot: u8, is_so: bool) {
     }
 }
 
-/// Whether a note gives a fact by what it says of slots of the frame.
+/// Whether a note gives a fact by what it says of slots of the frame, or as each note does.
 fn is_implied(note: &Note, fact: Fact) -> bool {
     match (fact.of, fact.base) {
         (None, Some(Holder::Slot(slot))) => {
@@ -64,7 +64,7 @@ fn is_implied(note: &Note, fact: Fact) -> bool {
         (Some(Holder::Slot(slot)), _) => {
             !is_noted(&note.apart, slot) && gives(same_slot(slot), fact)
         }
-        _ => gives(nothing(), fact),
+        _ => gives(nothing(), fact) || end_facts().iter().any(|have| gives(*have, fact)),
     }
 }
 

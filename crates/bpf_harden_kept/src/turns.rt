@@ -24,7 +24,11 @@ fn tested_by(insn: &Insn) -> Option<Reg> {
             src: Operand::Imm(0),
             ..
         } => Some(dst),
-        _ => None,
+        Insn::JumpIf { .. } | Insn::Ja { .. } | Insn::JaLong { .. } => None,
+        Insn::Alu { .. } | Insn::Neg { .. } | Insn::MovSx { .. } | Insn::End { .. } => None,
+        Insn::LoadImm64 { .. } | Insn::Load { .. } | Insn::LoadSx { .. } => None,
+        Insn::Store { .. } | Insn::StoreImm { .. } | Insn::Atomic { .. } => None,
+        Insn::CallLocal { .. } | Insn::Exit => None,
     }
 }
 
@@ -36,8 +40,15 @@ fn fetched(new: &Program, slot: u32, r: Reg) -> Option<u8> {
             dst,
             src,
             off,
-        } if dst == r => slot_at(size, Displaced { base: src, off }),
-        _ => None,
+        } => if dst == r {
+            slot_at(size, Displaced { base: src, off })
+        } else {
+            None
+        },
+        Insn::Alu { .. } | Insn::Neg { .. } | Insn::MovSx { .. } | Insn::End { .. } => None,
+        Insn::LoadImm64 { .. } | Insn::LoadSx { .. } | Insn::Store { .. } => None,
+        Insn::StoreImm { .. } | Insn::Atomic { .. } | Insn::Ja { .. } => None,
+        Insn::JaLong { .. } | Insn::JumpIf { .. } | Insn::CallLocal { .. } | Insn::Exit => None,
     }
 }
 

@@ -157,6 +157,10 @@ pub fn with_signs(insn: &Insn) -> Option<Insn> {
             src: Operand::Reg(src),
             off,
         }),
-        _ => None,
+        Insn::Alu { .. } | Insn::Neg { .. } | Insn::MovSx { .. } | Insn::End { .. } => None,
+        Insn::LoadImm64 { .. } | Insn::Load { .. } | Insn::LoadSx { .. } => None,
+        Insn::Store { .. } | Insn::StoreImm { .. } | Insn::Atomic { .. } => None,
+        Insn::Ja { .. } | Insn::JaLong { .. } | Insn::JumpIf { .. } => None,
+        Insn::CallLocal { .. } | Insn::Exit => None,
     }
 }

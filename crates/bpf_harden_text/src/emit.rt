@@ -194,7 +194,11 @@ impl<'a> TextWriter<'a> {
                 src: Operand::Reg(src),
                 ..
             } if self.is_offset(slot, dst) && self.is_offset(slot, src) => with_signs(insn),
-            _ => None,
+            Insn::Alu { .. } | Insn::Neg { .. } | Insn::MovSx { .. } | Insn::End { .. } => None,
+            Insn::LoadImm64 { .. } | Insn::Load { .. } | Insn::LoadSx { .. } => None,
+            Insn::Store { .. } | Insn::StoreImm { .. } | Insn::Atomic { .. } => None,
+            Insn::Ja { .. } | Insn::JaLong { .. } | Insn::JumpIf { .. } => None,
+            Insn::CallLocal { .. } | Insn::Exit => None,
         }
     }
 

@@ -6,14 +6,13 @@ use Rattle.bpf_insn.specs.Laws.{IsImageOfProgram}
 use Rattle.bpf_insn.specs.declared.order.Order.{Order}
 use Rattle.bpf_cert.specs.Spelling.{certificate_text}
 use Rattle.bpf_cert.specs.View.{CertificateView}
-use Rattle.bpf_check.specs.CheckedProgram.{IsCertifiedBy}
 use Rattle.bpf_check.specs.Verdicts.{Promises, program_in}
 use Rattle.bpf_safety.specs.Certified.{Certified}
 use Rattle.bpf_classic.specs.declared.raw.Raw.{Raw}
 use Rattle.bpf_classic.specs.Bytes.{raws_in}
 use Rattle.bpf_classic.specs.Meaning.{KeepsAnswers}
 use Rattle.bpf_classic.specs.declared.layout.Wanted.{Wanted}
-use Rattle.bpf_conversion.specs.Made.{IsMade, filter_of}
+use Rattle.bpf_conversion.specs.Made.{Certifies, IsMade, filter_of}
 use Rattle.bpf_conversion.specs.declared.made.Made.{Made}
 use Rattle.bpf_host_calls.specs.Converted.{IsConvertedAs, IsImageOfFilter}
 use Rattle.bpf_host_calls.specs.declared.conversion.BpfConverted.{BpfConverted}
@@ -27,7 +26,7 @@ image_in : (order : Order) (p : Instructions) (bytes : List ℕ) → p.order ≡
 image_in order p bytes same program bytes_are = record { program = program; bytes_are = bytes_are ∙ ap (λ o. image o p.list) same }
 
 -- what its certificate promises
-promised : (order : Order) (size bound : ℕ) (p : Instructions) (c : CertificateView) (bytes text : List ℕ) → p.order ≡ order → IsImageOfProgram order bytes p.list → IsCertifiedBy p c → c.least ≡ size → c.most ≡ size → bound ≡ c.steps → text ≡ certificate_text c → Promises order bytes text size size bound
+promised : (order : Order) (size bound : ℕ) (p : Instructions) (c : CertificateView) (bytes text : List ℕ) → p.order ≡ order → IsImageOfProgram order bytes p.list → Certifies p c → c.least ≡ size → c.most ≡ size → bound ≡ c.steps → text ≡ certificate_text c → Promises order bytes text size size bound
 promised order size bound p c bytes text same is_image by least most bound_is text_is =
     record {
       certificate = c;

@@ -12,9 +12,9 @@ use Rattle.bpf_classic.specs.Meaning.{KeepsAnswers}
 use Rattle.bpf_classic.specs.declared.layout.Form.{Form}
 use Rattle.bpf_classic.specs.declared.layout.Layout.{Layout}
 use Rattle.bpf_classic.specs.declared.layout.Wanted.{Wanted}
-use Rattle.bpf_conversion.specs.Made.{IsRefusedFor, filter_of, kind_of, told_conversion}
-use Rattle.bpf_conversion.specs.declared.error.ConvertError.{ConvertError}
-use Rattle.bpf_refusals.specs.Told.{told_spelling}
+use Rattle.bpf_classic.specs.declared.refusal.FilterRefusal.{FilterRefusal}
+use Rattle.bpf_conversion.specs.Made.{IsRefusedFor, filter_of, kind_of}
+use Rattle.bpf_refusals.specs.Told.{told_filter, told_spelling}
 use Rattle.bpf_refusals.specs.declared.told.TheConstants.{FILTER_MEMORY}
 use Rattle.bpf_host_calls.specs.Told.{refusal_of}
 use Rattle.bpf_host_calls.specs.declared.answers.BpfRefusal.{BpfRefusal}
@@ -66,14 +66,14 @@ pub record WantsConvertedRoom (filter_order : Order) (filter : List ℕ) (wanted
 abbrev pub IsCutFilter : Order → List ℕ → BpfRefusal → Type 0
 IsCutFilter filter_order filter told = (at : ℕ) × (raws_in filter_order filter ≡ Err (Part at)) × (told ≡ refusal_of (told_spelling (Part at)))
 
--- its instructions are no filter of this form, or the checker doesn't take the certificate, as is told; that memory ran out, B9, is no refusal
+-- its instructions are no filter of this form, or no program is made of it, as is told; that memory ran out, B9, is no refusal
 pub record IsUnconverted (filter_order : Order) (filter : List ℕ) (form : Form) (told : BpfRefusal) : Type 0 where
   pub raws : List Raw
   pub spelled : raws_in filter_order filter ≡ Ok raws
-  pub error : ConvertError
+  pub error : FilterRefusal
   pub refused : IsRefusedFor raws form error
-  pub other : (told_conversion error).number ≢ FILTER_MEMORY
-  pub tells : told ≡ refusal_of (told_conversion error)
+  pub other : (told_filter error).number ≢ FILTER_MEMORY
+  pub tells : told ≡ refusal_of (told_filter error)
 
 abbrev pub IsNotConverted : Order → List ℕ → Form → BpfRefusal → Type 0
 IsNotConverted filter_order filter form told = IsCutFilter filter_order filter told ⊎ IsUnconverted filter_order filter form told

@@ -4,6 +4,7 @@ ghost use Rattle.std.specs.Prelude.{◌≡◌, ◌≤◌, ◌<◌, ◌++◌, ◌
 ghost use Rattle.bpf_insn.specs.Image.{IsProgram, image};
 ghost use Rattle.bpf_insn.specs.Limits.{max_context};
 ghost use Rattle.bpf_cert.specs.Spelling.{certificate_text};
+ghost use Rattle.bpf_classic.specs.Template.{head};
 ghost use Rattle.bpf_host_calls.specs.Converted.{IsConvertedAs, IsNotConverted};
 ghost use Rattle.bpf_host_calls.specs.ToldConverted.{IsTold};
 ghost use Rattle.bpf_host_calls.specs.declared.answers.TheConstants.{YES, TOO_SMALL};
@@ -73,7 +74,8 @@ pub(crate) fn conversion(
     given: Given<'_>,
     wanted: Wanted,
 ) -> Result<MadeOfFilter, Unmade>
-    requires { wanted.length ≤ max_context }
+    requires short { wanted.length ≤ max_context }
+    requires room { head wanted.form ≤ wanted.length }
     ensures ok { IfOk result (λ made. IsConvertedAs given.entry.order given.entry.filter.now wanted made.told made.image.items made.text.items) }
     ensures err { IfErr result (IsTold (IsNotConverted given.entry.order given.entry.filter.now wanted.form)) }
 {

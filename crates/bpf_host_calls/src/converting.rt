@@ -21,8 +21,8 @@ use std::alloc::Global;
 /// 1: `converted` says how many of the first bytes of `made` are the image and how many of `text` the certificate, which certifies it with the
 /// bound that is told. On each such context the image's program ends with what the filter answers, with 0 where the filter's run jumps back more often. 0: the bytes are no filter, and `refusal` says why, by
 /// B with the instruction. -1: memory ran out. -2: an order is neither 0 nor 1, the form is above 3, or no context of the form has `size` bytes. -3:
-/// `made` or `text` has less room than `converted` says. What isn't answered stays as it was. What comes out was checked: `verify` of
-/// `bpf_host_calls` says yes of it.
+/// `made` or `text` has less room than `converted` says. What isn't answered stays as it was. The checker isn't asked, since by a law
+/// `verify` of `bpf_host_calls` says yes of what comes out.
 pub fn convert(
     alloc: Global,
     filter: &[u8],

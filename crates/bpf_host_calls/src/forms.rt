@@ -2,6 +2,7 @@
 
 ghost use Rattle.std.specs.Prelude.{◌≡◌, ◌<◌, ◌≤◌, true, IfSome, IfNone};
 ghost use Rattle.bpf_insn.specs.Limits.{max_context};
+ghost use Rattle.bpf_classic.specs.Template.{head};
 ghost use Rattle.bpf_host_calls.specs.Forms.{form_named, may_have, form_part, form_asked, turns_of, wanted_by};
 
 use bpf_classic::{Form, Wanted, usual_turns};
@@ -34,6 +35,7 @@ pub(crate) fn form_of(form: u32) -> Option<Form>
 pub(crate) fn may_have(form: Form, size: u32) -> bool
     ensures same { result ≡ may_have form size }
     ensures short { result ≡ true → size ≤ max_context }
+    ensures room { result ≡ true → head form ≤ size }
 {
     match form {
         Form::Blocks => size >= HEAD && size <= MAX_CONTEXT as u32,

@@ -4,7 +4,7 @@ ghost use Rattle.std.specs.Prelude.{◌≡◌};
 ghost use Rattle.bpf_host_calls.specs.ToldConverted.{TellsConversion};
 
 use crate::answers::{BpfRefusal, told_refusal};
-use bpf_conversion::ConvertError;
+use bpf_classic::FilterRefusal;
 use bpf_refusals::{FILTER_MEMORY, Tells};
 
 /// Why no image is made of a filter.
@@ -12,12 +12,12 @@ use bpf_refusals::{FILTER_MEMORY, Tells};
 pub(crate) enum Unmade {
     /// Memory ran out.
     Memory,
-    /// The bytes are no filter, or its certificate is refused.
+    /// The bytes are no filter, or no program is made of it.
     Refused(BpfRefusal),
 }
 
 /// Why no program is made of instructions.
-pub(crate) fn of_conversion(error: ConvertError) -> Unmade
+pub(crate) fn of_conversion(error: FilterRefusal) -> Unmade
     ensures { TellsConversion error result }
 {
     let told = error.told();

@@ -7,7 +7,7 @@ use Rattle.std.specs.Option.{option_map_or}
 use Rattle.std.proofs.lemmas.Bool.{and_parts, cond_both, cases_order, eqb-true, eq-eqb, false≢true}
 use Rattle.std.proofs.lemmas.Option.{none-some, same_Some, option_and_then_some}
 use Rattle.bpf_insn.specs.Arithmetic.{modulo}
-use Rattle.bpf_insn.specs.Effects.{Access, access_of, register_written, fetch_register}
+use Rattle.bpf_insn.specs.Effects.{Access, access_of, register_written, fetch_register, is_frame_pointer}
 use Rattle.bpf_insn.specs.Image.{IsProgram, HasEncoding}
 use Rattle.bpf_insn.specs.Instruction.{Instructions, register_number, byte_count, slot_count, insn_at, is_straight}
 use Rattle.bpf_insn.specs.declared.order.Order.{Order}
@@ -16,7 +16,7 @@ use Rattle.bpf_insn.specs.declared.instruction.Reg.TheVariants.{R0}
 use Rattle.bpf_insn.specs.declared.instruction.Size.TheVariants.{DW}
 use Rattle.bpf_insn.specs.declared.instruction.Insn.{Insn}
 use Rattle.bpf_insn.specs.declared.instruction.Insn.TheVariants.{Alu, Neg, MovSx, End, LoadImm64, Load, LoadSx, Store, StoreImm, Atomic, Ja, JaLong, JumpIf, CallLocal, Exit}
-use Rattle.bpf_semantics.specs.Flat.{Placement, FlatState, addresses, address, flat_register, flat_fetched, flat_does}
+use Rattle.bpf_semantics.specs.Flat.{Placement, FlatState, IsAmong, addresses, address, frame_start, flat_register, flat_fetched, flat_does}
 use Rattle.bpf_semantics.specs.Placement.{IsInMemory}
 use Rattle.bpf_semantics.proofs.FlatRegistersLaw.{flat_writes_one_register}
 use Rattle.bpf_semantics.proofs.StateLemmas.{encoding_at}
@@ -95,10 +95,11 @@ pub onward : (place : Placement) (p : Instructions) (first f g : FlatState) (j :
 unfolding zero_after
 onward place p first f g j e h = ap (option_and_then (zero_step place p)) (sym e) ∙ h
 
--- an access by a register that has y stays inside
-pub record Inside (place : Placement) (len y : ℕ) (a : Access) : Type 0 where
+-- an access by a register that has y stays inside, and by another one than r10 above the lowest bytes of the frame
+pub record Inside (place : Placement) (len untouched : ℕ) (r : Reg) (y : ℕ) (a : Access) : Type 0 where
   pub near : FitsSigned w16 a.offset
   pub there : (b : ℕ) → b < byte_count a.size → IsInMemory place len 0 ((modulo (pos y +ℤ a.offset) addresses + b) % addresses)
+  pub above : is_frame_pointer r ≡ false → (b : ℕ) → b < byte_count a.size → IsAmong (frame_start place 0) untouched ((modulo (pos y +ℤ a.offset) addresses + b) % addresses) → ⊥
 
 module _ (place : Placement) (old : Instructions) (program : IsProgram old.list) (own : List ℕ) (bounds : Bounds) (v k : ℕ) (ends : FlatEnds place old own bounds v k) where
   abbrev pub begin : FlatState
@@ -164,16 +165,19 @@ module _ (place : Placement) (old : Instructions) (program : IsProgram old.list)
   all_append P [] ys h k = k
   all_append P (x ∷ xs) ys h k = (h.0, all_append P xs ys h.1 k)
 
-  pub all_inside : (r : Reg) (n j : ℕ) (f : FlatState) → zero_after place old j begin ≡ Some f → j ≤ k → f.returns ≡ [] → IsZeroState f → AllByRecursion (Inside place (length own) (flat_register f r)) (accesses_ahead old r n f.slot)
+  pub all_inside : (r : Reg) (n j : ℕ) (f : FlatState) → zero_after place old j begin ≡ Some f → j ≤ k → f.returns ≡ [] → IsZeroState f
+      → AllByRecursion (Inside place (length own) bounds.untouched r (flat_register f r)) (accesses_ahead old r n f.slot)
   unfolding accesses_ahead
   all_inside r zero j f run le outermost state = tt
   all_inside r (suc n) j f run le outermost state = by_insn (λ m g. all_inside r n m g) (insn_at old.list f.slot) refl
     where
-      here : (i : Insn) → insn_at old.list f.slot ≡ Some i → (o : Option Access) → access_of i ≡ o → AllByRecursion (Inside place (length own) (flat_register f r)) (option_map_or (if_by r) o [])
+      here : (i : Insn) → insn_at old.list f.slot ≡ Some i → (o : Option Access) → access_of i ≡ o
+          → AllByRecursion (Inside place (length own) bounds.untouched r (flat_register f r)) (option_map_or (if_by r) o [])
       here i stands None eo = tt
       here i stands (Some a) eo =
-          cond_both (register_number a.base == register_number r) (a ∷ []) [] (AllByRecursion (Inside place (length own) (flat_register f r)))
-          (λ e. let base : flat_register f a.base ≡ flat_register f r = ap (λ n. get_or f.registers n 0) (eqb-true (register_number a.base) (register_number r) e) in
+          cond_both (register_number a.base == register_number r) (a ∷ []) [] (AllByRecursion (Inside place (length own) bounds.untouched r (flat_register f r)))
+          (λ e. let same : register_number a.base ≡ register_number r = eqb-true (register_number a.base) (register_number r) e in
+          let base : flat_register f a.base ≡ flat_register f r = ap (λ n. get_or f.registers n 0) same in
           let stay = ends.stays j f le run in
           let inside : (b : ℕ) → b < byte_count a.size → IsInMemory place (length own) (length f.returns) ((address f a.base a.offset + b) % addresses) = λ b lt. elim (reads_or_writes i a eo) [
             | inl reads ↦ stay.reads i a b stands eo reads lt
@@ -183,21 +187,27 @@ module _ (place : Placement) (old : Instructions) (program : IsProgram old.list)
               near = access_near i a (encoding_at old.list program.encoding f.slot i stands) eo;
               there = λ b lt. subst (λ y. IsInMemory place (length own) 0 ((modulo (pos y +ℤ a.offset) addresses + b) % addresses)) base
                   (subst (λ rs. IsInMemory place (length own) (length rs) ((address f a.base a.offset + b) % addresses)) outermost (inside b lt));
+              above = λ other b lt among. ends.leaves j f le run i a b 0 stands eo (λ ten. false≢true (sym other ∙ eq-eqb (register_number r) 10 (sym same ∙ ten))) lt (omega arith)
+                  (subst (λ y. IsAmong (frame_start place 0) bounds.untouched ((modulo (pos y +ℤ a.offset) addresses + b) % addresses)) (sym base) among);
             },
             tt,
           ))
           (λ e. tt)
 
-      later : ((m : ℕ) (g : FlatState) → zero_after place old m begin ≡ Some g → m ≤ k → g.returns ≡ [] → IsZeroState g → AllByRecursion (Inside place (length own) (flat_register g r)) (accesses_ahead old r n g.slot)) → (i : Insn) → insn_at old.list f.slot ≡ Some i → is_passed r i ≡ true → AllByRecursion (Inside place (length own) (flat_register f r)) (accesses_ahead old r n (f.slot + slot_count i))
+      later : ((m : ℕ) (g : FlatState) → zero_after place old m begin ≡ Some g → m ≤ k → g.returns ≡ [] → IsZeroState g → AllByRecursion (Inside place (length own) bounds.untouched r (flat_register g r)) (accesses_ahead old r n g.slot))
+          → (i : Insn) → insn_at old.list f.slot ≡ Some i → is_passed r i ≡ true
+          → AllByRecursion (Inside place (length own) bounds.untouched r (flat_register f r)) (accesses_ahead old r n (f.slot + slot_count i))
       later again i stands passed =
           let h = and_parts (is_straight i) (not (option_map_or (λ w. register_number w == register_number r) (register_written i) false)) passed in
           let g = goes_on j f i run le stands (exit_turns i h.0) in
           let p = passes r i f g.0 stands passed state outermost g.1 in
-          subst (λ slot. AllByRecursion (Inside place (length own) (flat_register f r)) (accesses_ahead old r n slot)) p.slot
-          (subst (λ y. AllByRecursion (Inside place (length own) y) (accesses_ahead old r n g.0.slot)) p.same (again (suc j) g.0 g.2 g.3 p.outermost p.state))
+          subst (λ slot. AllByRecursion (Inside place (length own) bounds.untouched r (flat_register f r)) (accesses_ahead old r n slot)) p.slot
+          (subst (λ y. AllByRecursion (Inside place (length own) bounds.untouched r y) (accesses_ahead old r n g.0.slot)) p.same (again (suc j) g.0 g.2 g.3 p.outermost p.state))
 
-      by_insn : ((m : ℕ) (g : FlatState) → zero_after place old m begin ≡ Some g → m ≤ k → g.returns ≡ [] → IsZeroState g → AllByRecursion (Inside place (length own) (flat_register g r)) (accesses_ahead old r n g.slot)) → (o : Option Insn) → insn_at old.list f.slot ≡ o → AllByRecursion (Inside place (length own) (flat_register f r)) (option_map_or (λ i. accesses_by r i ++ (if is_passed r i then accesses_ahead old r n (f.slot + slot_count i) else [])) o [])
+      by_insn : ((m : ℕ) (g : FlatState) → zero_after place old m begin ≡ Some g → m ≤ k → g.returns ≡ [] → IsZeroState g → AllByRecursion (Inside place (length own) bounds.untouched r (flat_register g r)) (accesses_ahead old r n g.slot))
+          → (o : Option Insn) → insn_at old.list f.slot ≡ o
+          → AllByRecursion (Inside place (length own) bounds.untouched r (flat_register f r)) (option_map_or (λ i. accesses_by r i ++ (if is_passed r i then accesses_ahead old r n (f.slot + slot_count i) else [])) o [])
       by_insn again None eo = tt
       by_insn again (Some i) eo =
-          all_append (Inside place (length own) (flat_register f r)) (accesses_by r i) (if is_passed r i then accesses_ahead old r n (f.slot + slot_count i) else []) (here i eo (access_of i) refl)
-          (cond_both (is_passed r i) (accesses_ahead old r n (f.slot + slot_count i)) [] (AllByRecursion (Inside place (length own) (flat_register f r))) (later again i eo) (λ e. tt))
+          all_append (Inside place (length own) bounds.untouched r (flat_register f r)) (accesses_by r i) (if is_passed r i then accesses_ahead old r n (f.slot + slot_count i) else []) (here i eo (access_of i) refl)
+          (cond_both (is_passed r i) (accesses_ahead old r n (f.slot + slot_count i)) [] (AllByRecursion (Inside place (length own) bounds.untouched r (flat_register f r))) (later again i eo) (λ e. tt))

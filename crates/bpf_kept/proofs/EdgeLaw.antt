@@ -1,5 +1,5 @@
 -- An edge: what is known behind a change gives all that is noted where the edge leads.
-use Rattle.std.proofs.Common.{◌≡◌, ℕ, zero, suc, ◌+◌, ◌-◌, ◌*◌, ◌/◌, ◌<◌, inl, inr, refl, sym, ◌∙◌, subst, arith, Bool, true, false, ◌∷◌}
+use Rattle.std.proofs.Common.{◌≡◌, ℕ, zero, suc, ◌+◌, ◌-◌, ◌*◌, ◌/◌, ◌<◌, inl, inr, refl, sym, ◌∙◌, subst, arith, Bool, true, false, ◌∷◌, ◌++◌}
 use Rattle.std.specs.Prelude.{not, ◌||◌, get_or, ltb}
 use Rattle.std.specs.List.{AllByRecursion, list_all}
 use Rattle.std.proofs.lemmas.Bool.{cond_both, cases_lt, or_cases, false≢true}
@@ -14,14 +14,15 @@ use Rattle.bpf_kept.specs.declared.notes.Fact.{Fact}
 use Rattle.bpf_kept.specs.declared.notes.Note.{Note}
 use Rattle.bpf_kept.specs.declared.notes.Change.{Change}
 use Rattle.bpf_kept.specs.Meaning.{Bounds}
-use Rattle.bpf_kept.specs.Terms.{Packet, IsSeen, Differs, Holds, AllHold, IsCommon, frame_slots, slot_number, value_in, is_noted, zero_term}
+use Rattle.bpf_kept.specs.Terms.{Packet, IsSeen, Differs, Holds, AllHold, IsCommon, frame_slots, slot_number, value_in, is_noted, zero_term, frame_end}
 use Rattle.bpf_kept.specs.Slots.{slot_facts}
 use Rattle.bpf_kept.specs.Rules.{Known, holds_behind, by_itself, is_parted, is_told, are_told}
-use Rattle.bpf_kept.specs.Matching.{said, same_slot, facts_at, known_at}
-use Rattle.bpf_kept.proofs.TermLaw.{zero_differs, same_number, shift_constant}
+use Rattle.bpf_kept.specs.Matching.{said, same_slot, end_facts, facts_at, known_at}
+use Rattle.bpf_kept.proofs.TermLaw.{zero_differs, same_number, shift_constant, opposite_differs}
 use Rattle.bpf_kept.proofs.HoldsLaw.{IsHigh, all_of, all_both}
 use Rattle.bpf_kept.proofs.FrameLaw.{IsRoomy, slot_passes, slot_same, slot_bytes, slots_apart}
 use Rattle.bpf_kept.proofs.PutLaw.{AtOnce, ArePointers}
+use Rattle.bpf_kept.proofs.ExtraLaw.{end_known}
 
 -- at one placement, behind a change: each fact that the change gives, and each byte that lies in no slot that may differ then
 pub record Behind (order : Order) (start : ℕ) (packet : Packet) (known : Known) (change : Change) (f g : FlatState) : Type 0 where
@@ -91,6 +92,13 @@ module _ (order : Order) (start : ℕ) (packet : Packet) (known : Known) (change
   pointer_there : Holds start (value_in order start packet f) (value_in order start packet g) (by_itself (Register R10))
   pointer_there = numbers_equal start (get_or f.registers 10 0) (get_or g.registers 10 0) (behind.flat.numbers 10) (behind.pointers.1 ∙ sym behind.pointers.0)
 
+  -- it is where the frame ends
+  end_there : AllHold start (value_in order start packet f) (value_in order start packet g) end_facts
+  end_there = (
+    pointer_there,
+    (opposite_differs start frame_end (get_or f.registers 10 0) (end_known start (get_or f.registers 10 0) behind.pointers.0), (end_known start (get_or g.registers 10 0) behind.pointers.1, tt)),
+  )
+
   pub settled : list_all (holds_behind known.facts change) (said note) ≡ true → are_told known change note.apart ≡ true → AtOnce order start packet (known_at new bounds note) f g
   unfolding facts_at
   settled e t =
@@ -102,5 +110,6 @@ module _ (order : Order) (start : ℕ) (packet : Packet) (known : Known) (change
         new_flat = behind.new_flat;
         common = common;
         pointers = behind.pointers;
-        all = all_both (Holds start (value_in order start packet f) (value_in order start packet g)) (said note) (by_itself (Register R10) ∷ slot_facts same_slot (λ n. not (is_noted note.apart n)) frame_slots) (said_there e) (pointer_there, slots_there common);
+        all = all_both (Holds start (value_in order start packet f) (value_in order start packet g)) (said note) (end_facts ++ slot_facts same_slot (λ n. not (is_noted note.apart n)) frame_slots) (said_there e)
+            (all_both (Holds start (value_in order start packet f) (value_in order start packet g)) end_facts (slot_facts same_slot (λ n. not (is_noted note.apart n)) frame_slots) end_there (slots_there common));
       }

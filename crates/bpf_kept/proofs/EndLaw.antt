@@ -1,6 +1,6 @@
 -- Guards by the packet's end pass: where the old program's accesses follow, what is tested isn't behind that end.
-use Rattle.std.proofs.Common.{◌≡◌, ℕ, ◌+◌, ◌-◌, ◌*◌, ◌%◌, ◌^◌, ◌<◌, ◌≤◌, ◌==◌, refl, sym, ap, ◌∙◌, subst, arith, Bool, true, false, Option, Some, None}
-use Rattle.std.specs.Prelude.{ℤ, pos, negsuc, ◌+ℤ◌, ◌-ℤ◌, ◌≤ℤ◌, ◌&&◌}
+use Rattle.std.proofs.Common.{◌≡◌, ℕ, ◌+◌, ◌-◌, ◌%◌, ◌^◌, ◌<◌, ◌≤◌, ◌==◌, refl, ap, ◌∙◌, subst, arith, Bool, true, false, Option, Some, None}
+use Rattle.std.specs.Prelude.{ℤ, pos, ◌+ℤ◌, ◌-ℤ◌, ◌≤ℤ◌, ◌&&◌}
 use Rattle.std.specs.Int.{w64, cast_signed}
 use Rattle.std.specs.Option.{option_map_or}
 use Rattle.std.specs.List.{AllByRecursion, list_any}
@@ -12,10 +12,10 @@ use Rattle.bpf_insn.specs.Instruction.{Instructions, register_number, byte_count
 use Rattle.bpf_insn.specs.declared.order.Order.{Order}
 use Rattle.bpf_insn.specs.declared.instruction.Reg.{Reg}
 use Rattle.bpf_semantics.specs.Blocks.{head_bytes}
-use Rattle.bpf_semantics.specs.Flat.{FlatState, IsFlat, IsAmong, addresses, frame_start, flat_register}
-use Rattle.bpf_semantics.specs.Placement.{IsInMemory}
-use Rattle.bpf_semantics.proofs.FlatArith.{Same, same_refl, same_trans, same_plus, same_minus, same_equal}
+use Rattle.bpf_semantics.specs.Flat.{FlatState, IsFlat, addresses, frame_start, flat_register}
+use Rattle.bpf_semantics.proofs.FlatArith.{Same, same_refl, same_trans, same_plus, same_equal}
 use Rattle.bpf_kept.specs.Far.{near, wide, middle, bytes_before}
+use Rattle.bpf_kept.specs.Meaning.{Bounds}
 use Rattle.bpf_kept.specs.declared.notes.Holder.{Holder}
 use Rattle.bpf_kept.specs.declared.notes.Holder.TheVariants.{Register, Slot, Length}
 use Rattle.bpf_kept.specs.declared.notes.Term.{Term}
@@ -23,28 +23,12 @@ use Rattle.bpf_kept.specs.declared.notes.Fact.{Fact}
 use Rattle.bpf_kept.specs.declared.notes.Need.TheVariants.{Below, Above}
 use Rattle.bpf_kept.specs.Terms.{Packet, Facts, Differs, DiffersBy, Holds, AllHold, value_in, shift}
 use Rattle.bpf_kept.specs.Rules.{is_holder, is_register}
-use Rattle.bpf_kept.specs.Guards.{Front, is_end_term, is_end, has_end, is_met, is_ahead, is_reached_by, is_reached_in, is_reached, accesses_ahead, farthest_ahead}
-use Rattle.bpf_kept.proofs.FarLaw.{one_address_is_context}
+use Rattle.bpf_kept.specs.Guards.{Front, in_context, is_end_term, is_end, has_end, is_met, is_ahead, is_reached_by, is_reached_in, is_reached, accesses_ahead, farthest_ahead}
 use Rattle.bpf_kept.proofs.TermLaw.{differs_same}
 use Rattle.bpf_kept.proofs.HoldsLaw.{any_holds, held, plain_shift}
 use Rattle.bpf_kept.proofs.TestLaw.{cancelled}
 use Rattle.bpf_kept.proofs.AheadLaw.{Inside}
-use Rattle.bpf_kept.proofs.GuardLaw.{Lies, at_most, le_of, last_same, any_of, old_same, context_same}
-
--- in what is given, which begins a few bytes behind the middle
-packet_distance : (x y len b h : ℕ) (moved off : ℤ) → Same (pos x) (pos y +ℤ (pos (2 ^ 63) +ℤ moved)) → IsAmong (2 ^ 63 + h) len ((modulo (pos y +ℤ off) addresses + b) % addresses)
-    → (d : ℕ) × (d < len) × Same (pos d) (((pos x -ℤ (moved +ℤ pos h)) +ℤ off) +ℤ pos b)
-packet_distance x y len b h moved off s among =
-    let a : ℕ = (modulo (pos y +ℤ off) addresses + b) % addresses in
-    let low = among.0 in
-    let high = among.1 in
-    let sa : Same (pos a) ((pos y +ℤ off) +ℤ pos b) = last_same (pos y +ℤ off) b in
-    let so = old_same x y (pos (2 ^ 63) +ℤ moved) s in
-    let d : pos (a - (2 ^ 63 + h)) ≡ pos a -ℤ pos (2 ^ 63 + h) = omega (arith, ints) in
-    (a - (2 ^ 63 + h), omega arith, same_trans (same_equal d) (same_trans (same_minus (same_trans sa (same_plus (same_plus so (same_refl off)) (same_refl (pos b)))) (same_refl (pos (2 ^ 63 + h)))) (turn_back (pos x) moved off (pos b))))
-  where
-    turn_back : (x m o b : ℤ) → Same ((((x -ℤ (pos (2 ^ 63) +ℤ m)) +ℤ o) +ℤ b) -ℤ pos (2 ^ 63 + h)) (((x -ℤ (m +ℤ pos h)) +ℤ o) +ℤ b)
-    turn_back x m o b = record { p = 1; q = 0; same = omega (arith, ints) }
+use Rattle.bpf_kept.proofs.GuardLaw.{Lies, begins, at_most, le_of, any_of, context_same, signed_top, in_packet}
 
 -- ---- the packet's end
 
@@ -72,10 +56,15 @@ few_before : (padded : Bool) → bytes_before padded ≤ head_bytes
 few_before true = omega arith
 few_before false = omega arith
 
-module _ (padded : Bool) (packet : Packet) (old : Instructions) (len slot x : ℕ) (fn fw : FlatState) (short : packet.length < 2 ^ 32) (small : x < addresses) (flat : IsFlat fn) (flat' : IsFlat fw)
-    (inside : (r : Reg) → AllByRecursion (Inside (near padded) packet.length (flat_register fn r)) (accesses_ahead old r farthest_ahead slot)) (inside' : (r : Reg) → AllByRecursion (Inside (wide padded) packet.length (flat_register fw r)) (accesses_ahead old r farthest_ahead slot)) where
+-- that an access ends at the offset or behind it is what the number, which is moved so, wants
+not_behind : (h len : ℕ) (moved e : ℤ) → h ≤ 8 → moved ≤ℤ e → ((pos (h + len) +ℤ moved) -ℤ pos (len + 8)) ≤ℤ e
+not_behind h len moved e le t = omega (arith, ints)
+
+module _ (bounds : Bounds) (packet : Packet) (old : Instructions) (slot x : ℕ) (fn fw : FlatState) (short : bounds.length < 2 ^ 32) (few : bytes_before bounds.padded + packet.length ≤ bounds.length) (small : x < addresses) (flat : IsFlat fn) (flat' : IsFlat fw)
+    (inside : (r : Reg) → AllByRecursion (Inside (near bounds.padded) packet.length bounds.untouched r (flat_register fn r)) (accesses_ahead old r farthest_ahead slot))
+    (inside' : (r : Reg) → AllByRecursion (Inside (wide bounds.padded) packet.length bounds.untouched r (flat_register fw r)) (accesses_ahead old r farthest_ahead slot)) where
   abbrev front : Front
-  front = record { old = old; slot = slot; length = len }
+  front = record { old = old; slot = slot; bounds = bounds }
 
   abbrev start : ℕ
   start = frame_start (near false) 0
@@ -84,43 +73,48 @@ module _ (padded : Bool) (packet : Packet) (old : Instructions) (len slot x : �
   other = frame_start (wide false) 0
 
   abbrev before : ℕ
-  before = bytes_before padded
+  before = bytes_before bounds.padded
 
-  in_packet : (moved : ℤ) (r : Reg) (a : Access) → flat_register fw r ≡ flat_register fn r → Same (pos x) (pos (flat_register fn r) +ℤ (pos (2 ^ 63) +ℤ moved)) → Inside (near padded) packet.length (flat_register fn r) a → Inside (wide padded) packet.length (flat_register fw r) a → Lies x packet.length (moved +ℤ pos before) a
-  in_packet moved r a same s h k =
-      let y : ℕ = flat_register fn r in
-      record {
-        near = h.near;
-        there = λ b lt. packet_distance x y packet.length b before moved a.offset s
-            (one_address_is_context padded packet.length 0 ((modulo (pos y +ℤ a.offset) addresses + b) % addresses) (omega arith) (h.there b lt) (subst (λ y. IsInMemory (wide padded) packet.length 0 ((modulo (pos y +ℤ a.offset) addresses + b) % addresses)) same (k.there b lt)));
-      }
+  -- an access by a register stays inside at both placements
+  abbrev InsideNear : Reg → Access → Type 0
+  InsideNear r a = Inside (near bounds.padded) packet.length bounds.untouched r (flat_register fn r) a
 
-  not_behind : (h len : ℕ) (moved a e : ℤ) → h ≤ 8 → a ≤ℤ moved → moved ≤ℤ e → (a ≤ℤ (moved +ℤ pos h)) × (((pos len +ℤ (moved +ℤ pos h)) -ℤ pos (len + 8)) ≤ℤ e)
-  not_behind h len moved a e le f t = (omega (arith, ints), omega (arith, ints))
+  abbrev InsideWide : Reg → Access → Type 0
+  InsideWide r a = Inside (wide bounds.padded) packet.length bounds.untouched r (flat_register fw r) a
 
-  by_accesses : (moved : ℤ) (r : Reg) → flat_register fw r ≡ flat_register fn r → Same (pos x) (pos (flat_register fn r) +ℤ (pos (2 ^ 63) +ℤ moved)) → is_reached_by front moved r ≡ true → x ≤ packet.length + head_bytes
+  by_accesses : (t : Term) (r : Reg) → flat_register fw r ≡ flat_register fn r
+      → Same (pos x) (pos (flat_register fn r) +ℤ (pos (2 ^ 63) +ℤ (in_context bounds t).moved)) → is_reached_by front r (in_context bounds t) ≡ true
+      → x ≤ packet.length + head_bytes
   unfolding is_ahead
-  by_accesses moved r same s e =
+  by_accesses t r same s e =
+      let moved : ℤ = cast_signed w64 ((t.moved + middle) % addresses) in
       let accesses = accesses_ahead old r farthest_ahead slot in
-      let h = and_parts (list_any (is_met (Below moved)) accesses) (list_any (is_met (Above moved)) accesses) e in
-      let a = any_of (is_met (Below moved)) (Inside (near padded) packet.length (flat_register fn r)) (Inside (wide padded) packet.length (flat_register fw r)) accesses h.0 (inside r) (inside' r) in
-      let b = any_of (is_met (Above moved)) (Inside (near padded) packet.length (flat_register fn r)) (Inside (wide padded) packet.length (flat_register fw r)) accesses h.1 (inside r) (inside' r) in
-      let le = not_behind before packet.length moved a.0.offset (b.0.offset +ℤ pos (byte_count b.0.size)) (few_before padded) (le_of a.0.offset moved a.1) (le_of moved (b.0.offset +ℤ pos (byte_count b.0.size)) b.1) in
-      at_most x packet.length (packet.length + 8) (moved +ℤ pos before) a.0 b.0 small (omega arith) short (in_packet moved r a.0 same s a.2 a.3) (in_packet moved r b.0 same s b.2 b.3) le.0 le.1
+      let low : ℤ = (pos before +ℤ moved) -ℤ pos 0 in
+      let h = and_parts (list_any (is_met (Below low)) accesses) (list_any (is_met (Above moved)) accesses) e in
+      let a = any_of (is_met (Below low)) (InsideNear r) (InsideWide r) accesses h.0 (inside r) (inside' r) in
+      let b = any_of (is_met (Above moved)) (InsideNear r) (InsideWide r) accesses h.1 (inside r) (inside' r) in
+      let lies : (a : Access) → InsideNear r a → InsideWide r a → Lies x before (before + packet.length) moved a =
+      λ a h k. in_packet bounds.padded packet.length bounds.untouched x (flat_register fn r) (flat_register fw r) moved r a same s h k in
+      let near : before + packet.length < 2 ^ 32 = omega arith in
+      let first = begins x before (before + packet.length) 0 moved a.0 small near (signed_top (t.moved + middle)) (lies a.0 a.2 a.3) (le_of a.0.offset low a.1) in
+      at_most x before (before + packet.length) (packet.length + 8) moved a.0 b.0 near first a.2.near (lies b.0 b.2 b.3)
+      (not_behind before packet.length moved (b.0.offset +ℤ pos (byte_count b.0.size)) (few_before bounds.padded) (le_of moved (b.0.offset +ℤ pos (byte_count b.0.size)) b.1))
 
-  by_register : (t : Term) (r : Reg) → Differs start t (flat_register fn r) x → Differs other t (flat_register fw r) x → is_reached_in front t (Register r) ≡ true → x ≤ packet.length + head_bytes
+  by_register : (t : Term) (r : Reg) → Differs start t (flat_register fn r) x → Differs other t (flat_register fw r) x
+      → is_reached_in front t (Register r) ≡ true → x ≤ packet.length + head_bytes
   by_register t r p q e =
       let moved : ℤ = cast_signed w64 ((t.moved + middle) % addresses) in
-      let c = and_parts (t.frames == 0) (is_reached_by front moved r) e in
+      let c = and_parts (t.frames == 0) (is_reached_by front r (in_context bounds t)) e in
       let near_is = differs_same start t (flat_register fn r) x p in
       let wide_is = differs_same other t (flat_register fw r) x q in
       let s : Same (pos x) (pos (flat_register fn r) +ℤ (pos (2 ^ 63) +ℤ moved)) = same_trans near_is (same_plus (same_refl (pos (flat_register fn r))) (same_trans (same_equal (plain_shift start t c.0)) (context_same t.moved))) in
       let s' : Same (pos x) (pos (flat_register fw r) +ℤ (pos (2 ^ 63) +ℤ moved)) = same_trans wide_is (same_plus (same_refl (pos (flat_register fw r))) (same_trans (same_equal (plain_shift other t c.0)) (context_same t.moved))) in
       let same : flat_register fw r ≡ flat_register fn r = cancelled (flat_register fw r) (flat_register fn r) x x (pos (2 ^ 63) +ℤ moved) (flat'.numbers (register_number r)) (flat.numbers (register_number r)) s' s refl in
-      by_accesses moved r same s c.1
+      by_accesses t r same s c.1
 
   -- what is known of it at both placements
-  pub end_passes : (order : Order) (fact : Fact) → DiffersBy start fact.by (value_in order start packet fn fact.base) x → DiffersBy other fact.by (value_in order other packet fw fact.base) x → is_reached front fact ≡ true → x ≤ packet.length + head_bytes
+  pub end_passes : (order : Order) (fact : Fact) → DiffersBy start fact.by (value_in order start packet fn fact.base) x
+      → DiffersBy other fact.by (value_in order other packet fw fact.base) x → is_reached front fact ≡ true → x ≤ packet.length + head_bytes
   end_passes order fact p q e = by_term fact.by refl e
     where
       by_base : (t : Term) → fact.by ≡ Some t → (o : Option Holder) → fact.base ≡ o → option_map_or (is_reached_in front t) o false ≡ true → x ≤ packet.length + head_bytes

@@ -1,11 +1,11 @@
 -- What the new program puts into a register or slot by itself, and what a change leaves of each fact.
 use Rattle.std.proofs.Common.{◌≡◌, ℕ, ◌+◌, ◌%◌, ◌<◌, inl, inr, refl, sym, ap, ◌∙◌, subst, arith, Bool, true, false, Option, Some, None, cond}
-use Rattle.std.specs.Prelude.{ℤ, pos, ◌+ℤ◌, ◌-ℤ◌, neg_ℤ, ◌&&◌, ◌||◌, not, is_none, get_or, option_map}
+use Rattle.std.specs.Prelude.{ℤ, pos, ◌+ℤ◌, ◌-ℤ◌, ◌&&◌, ◌||◌, not, is_none, get_or, option_map}
 use Rattle.std.specs.List.{list_any}
 use Rattle.std.specs.Option.{option_map_or}
 use Rattle.std.proofs.lemmas.Bool.{and_parts, or_cases, eqb-true, false≢true}
 use Rattle.std.proofs.lemmas.Int.{ints}
-use Rattle.std.proofs.lemmas.Option.{none-some, same_Some, option_and_then_some}
+use Rattle.std.proofs.lemmas.Option.{none-some, same_Some}
 use Rattle.bpf_insn.specs.Arithmetic.{modulo, extended}
 use Rattle.bpf_insn.specs.Effects.{is_frame_pointer}
 use Rattle.bpf_insn.specs.Limits.{frame_bytes}
@@ -24,16 +24,15 @@ use Rattle.bpf_insn.specs.declared.instruction.Insn.TheVariants.{Alu, LoadImm64,
 use Rattle.bpf_semantics.specs.Flat.{FlatState, IsFlat, addresses, flat_register, flat_operand}
 use Rattle.bpf_semantics.proofs.FlatArith.{Same, same_refl, same_sym, same_trans, same_plus, same_minus, same_equal, modulo-same}
 use Rattle.bpf_semantics.proofs.NumberLemmas.{modulo_below}
-use Rattle.bpf_semantics.proofs.StateLemmas.{option_map_some}
 use Rattle.bpf_kept.specs.declared.notes.Holder.{Holder}
 use Rattle.bpf_kept.specs.declared.notes.Holder.TheVariants.{Register, Slot}
 use Rattle.bpf_kept.specs.declared.notes.Term.{Term}
 use Rattle.bpf_kept.specs.declared.notes.Fact.{Fact}
 use Rattle.bpf_kept.specs.declared.notes.Change.TheVariants.{Kept, Put, Stored, Made}
-use Rattle.bpf_kept.specs.Terms.{Packet, Facts, Values, Differs, DiffersBy, Holds, AllHold, value_in, shift, constant, zero_term, frame_end, plus, minus, negated}
+use Rattle.bpf_kept.specs.Terms.{Packet, Facts, Values, Differs, DiffersBy, Holds, AllHold, value_in, shift, constant, zero_term, frame_end, plus, minus, number_pin}
 use Rattle.bpf_kept.specs.Slots.{slot_at, is_clear}
-use Rattle.bpf_kept.specs.Rules.{is_holder, is_register, is_base, is_enough, gives, sum_base, difference_base, both, is_known, is_sum, is_difference, is_moved, made_by, made_from, of_slot, known_number, known_operand, pinned, pin_of, pins, of_number, of_operand, by_operand, made, stays, outlives, put_gives, made_gives, stored_gives, holds_behind}
-use Rattle.bpf_kept.proofs.TermLaw.{shift_plus, shift_minus, shift_neg, shift_constant, differs_same, same_differs, same_number}
+use Rattle.bpf_kept.specs.Rules.{is_holder, is_register, is_base, is_enough, gives, sum_base, difference_base, both, is_known, is_sum, is_difference, is_moved, made_by, made_from, of_slot, known_number, known_operand, pinned, pins, of_number, of_operand, by_operand, made, stays, outlives, put_gives, made_gives, stored_gives, holds_behind}
+use Rattle.bpf_kept.proofs.TermLaw.{shift_plus, shift_minus, shift_constant, differs_same, same_differs, same_number, opposite_differs}
 use Rattle.bpf_kept.proofs.HoldsLaw.{IsHigh, Elsewhere, any_holds, pinned_differs, held, none_is, base_same, enough_differs, gives_holds, stays_holds, other_holds}
 use Rattle.bpf_kept.proofs.FrameLaw.{IsRoomy, IsEnd, slot_access, slot_loaded}
 use Rattle.bpf_kept.proofs.PutValue.{put_value}
@@ -116,10 +115,10 @@ difference_known start old a b want y z high zero ha hb e =
 
 -- ---- operands
 
-constant_known : (start n : ℕ) → n < addresses → Differs start (constant n) 0 n
+pub constant_known : (start n : ℕ) → n < addresses → Differs start (constant n) 0 n
 constant_known start n small = same_differs start (constant n) 0 n small (same_equal (let e = shift_constant start n in omega (arith, ints)))
 
-end_known : (start y : ℕ) → y ≡ (start + frame_bytes) % addresses → Differs start frame_end 0 y
+pub end_known : (start y : ℕ) → y ≡ (start + frame_bytes) % addresses → Differs start frame_end 0 y
 end_known start y e =
     let s : Same (pos y) (pos (start + frame_bytes)) = subst (λ y. Same (pos y) (pos (start + frame_bytes))) (sym e) (modulo-same (pos (start + frame_bytes))) in
     same_differs start frame_end 0 y (omega arith) (same_trans s (record { p = 0; q = start; same = omega (arith, ints) }))
@@ -228,41 +227,14 @@ module _ (order : Order) (start : ℕ) (packet : Packet) (facts : Facts) (f g : 
   made_known (StoreImm size dst off imm) want enc e = from_known Mov R0 (Imm imm) want e
   made_known m want enc e = absurd (false≢true e)
 
--- ---- what the old program puts or stores, where it is known by itself
+-- ---- what the old program has, where it is known by itself
 
-zero_pin : (start n : ℕ) → n < addresses → Differs start (negated (constant n)) n 0
-zero_pin start n small =
-    let back : pos n +ℤ (pos 0 -ℤ pos n) ≡ pos 0 = omega (arith, ints) in
-    let by : Same (shift start (negated (constant n))) (pos 0 -ℤ pos n) = same_trans (shift_neg start (constant n)) (same_equal (ap neg_ℤ (shift_constant start n) ∙ opposite (pos n))) in
-    same_differs start (negated (constant n)) n 0 (omega arith) (same_sym (same_trans (same_plus (same_refl (pos n)) by) (same_equal back)))
-  where
-    opposite : (z : ℤ) → neg_ℤ z ≡ pos 0 -ℤ z
-    opposite z = omega (arith, ints)
-
-moved_pin : (start x n : ℕ) (t : Term) → n < addresses → Differs start t x 0 → Differs start (minus t (constant n)) ((x + n) % addresses) 0
-moved_pin start x n t small d =
-    let zero_is : Same (pos 0) (pos x +ℤ shift start t) = differs_same start t x 0 d in
-    let again : pos x +ℤ shift start t ≡ (pos x +ℤ pos n) +ℤ (shift start t -ℤ pos n) = omega (arith, ints) in
-    let by : Same (shift start (minus t (constant n))) (shift start t -ℤ pos n) = same_trans (shift_minus start t (constant n)) (same_minus (same_refl (shift start t)) (same_equal (shift_constant start n))) in
-    same_differs start (minus t (constant n)) ((x + n) % addresses) 0 (omega arith) (same_trans zero_is (same_trans (same_equal again) (same_plus (same_sym (modulo-same (pos (x + n)))) (same_sym by))))
+pub zero_pin : (start n : ℕ) → n < addresses → Differs start (number_pin n) n 0
+zero_pin start n small = opposite_differs start (constant n) n (constant_known start n small)
 
 module _ (order : Order) (start : ℕ) (packet : Packet) (facts : Facts) (f g : FlatState) (room : IsRoomy start) (flat : IsFlat f) (end : IsEnd start f.registers) (all : AllHold start (value_in order start packet f) (value_in order start packet g) facts) where
   pub pinned_is : (h : Holder) (t : Term) → pinned facts h ≡ Some t → Differs start t (value_in order start packet f (Some h)) 0
   pinned_is h t e = pinned_differs start (value_in order start packet f) (value_in order start packet g) facts h t all e
-
-  pub pin_is : (i : Insn) (t : Term) → HasEncoding i → pin_of facts i ≡ Some t → Differs start t (made_value order i f) 0
-  pin_is (Alu Mov W64 dst (Imm imm)) t enc e = subst (λ t. Differs start t (extended imm) 0) (same_Some (negated (constant (extended imm))) t e) (zero_pin start (extended imm) (modulo_below imm))
-  pin_is (Alu Mov W64 dst (FromReg src)) t enc e = pinned_is (Register src) t e
-  pin_is (Alu Add W64 dst (Imm imm)) t enc e =
-      let h = option_map_some (λ t. minus t (constant (extended imm))) (pinned facts (Register dst)) t e in
-      subst (λ t. Differs start t ((flat_register f dst + extended imm) % addresses) 0) h.2 (moved_pin start (flat_register f dst) (extended imm) h.0 (modulo_below imm) (pinned_is (Register dst) h.0 h.1))
-  pin_is (LoadImm64 dst value) t enc e = subst (λ t. Differs start t value 0) (same_Some (negated (constant value)) t e) (zero_pin start value enc)
-  pin_is (Load size dst src off) t enc e = option_and_then_some _ (slot_at size src off) t e (λ n en et.
-      let there = slot_loaded order start n size f src off room end enc (slot_access start n size src off en) in
-      subst (λ x. Differs start t x 0) (sym there) (pinned_is (Slot n) t et))
-  pin_is (Store size dst off src) t enc e = pinned_is (Register src) t e
-  pin_is (StoreImm size dst off imm) t enc e = subst (λ t. Differs start t (extended imm) 0) (same_Some (negated (constant (extended imm))) t e) (zero_pin start (extended imm) (modulo_below imm))
-  pin_is i t enc e = absurd (none-some _ e)
 
 -- ---- what holds behind a change
 

@@ -14,21 +14,24 @@ use Rattle.bpf_insn.specs.declared.instruction.Operand.{Operand}
 use Rattle.bpf_insn.specs.declared.instruction.Operand.TheVariants.{Imm, Reg as FromReg}
 use Rattle.bpf_insn.specs.declared.instruction.Width.TheVariants.{W64}
 use Rattle.bpf_insn.specs.declared.instruction.AluOp.TheVariants.{Add}
+use Rattle.bpf_insn.specs.declared.instruction.Cond.{Cond}
 use Rattle.bpf_insn.specs.declared.instruction.Cond.TheVariants.{Eq, Gt, Lt}
 use Rattle.bpf_insn.specs.declared.instruction.Insn.{Insn}
 use Rattle.bpf_insn.specs.declared.instruction.Insn.TheVariants.{Alu, JumpIf}
 use Rattle.bpf_semantics.specs.State.{State, start}
 use Rattle.bpf_semantics.specs.Blocks.{head_bytes}
-use Rattle.bpf_semantics.specs.Flat.{FlatState, IsAmong, addresses, frame_start, flat_register, flat_put, flat_next, flat_does}
+use Rattle.bpf_semantics.specs.Flat.{FlatState, addresses, frame_start, flat_register, flat_put, flat_next, flat_does}
 use Rattle.bpf_semantics.specs.declared.value.Value.TheVariants.{Number}
 use Rattle.bpf_semantics.proofs.FlatBase.{stands as stands_in}
 use Rattle.bpf_semantics.proofs.NumberLemmas.{modulo_below}
 use Rattle.bpf_semantics.proofs.FlatArith.{same_refl, same_sym, same_trans, same_plus, same_equal, modulo-same}
 use Rattle.std.proofs.lemmas.Int.{ints}
 use Rattle.bpf_semantics.proofs.StateLemmas.{encoding_at, option_map_some}
-use Rattle.bpf_kept.specs.Far.{middle, bytes_before, near, wide}
+use Rattle.bpf_kept.specs.Far.{bytes_before, near, wide}
 use Rattle.bpf_kept.specs.Zero.{zero_start, zero_after}
 use Rattle.bpf_kept.specs.Meaning.{counted, turns_to, turns_in_call, most_for_one}
+use Rattle.bpf_kept.specs.declared.reach.GuardLimit.{GuardLimit}
+use Rattle.bpf_kept.specs.declared.reach.GuardLimit.TheVariants.{Most, Least}
 use Rattle.bpf_kept.specs.declared.notes.Holder.{Holder}
 use Rattle.bpf_kept.specs.declared.notes.Holder.TheVariants.{Register}
 use Rattle.bpf_kept.specs.declared.notes.TurnsLeft.{TurnsLeft}
@@ -39,7 +42,7 @@ use Rattle.bpf_kept.specs.declared.notes.Change.TheVariants.{Kept, Made}
 use Rattle.bpf_kept.specs.Terms.{Packet, Facts, Values, Differs, DiffersBy, shift, Holds, AllHold, value_in}
 use Rattle.bpf_kept.specs.Rules.{of_number, Known, same_register, is_register, is_same, pinned, holds_behind, are_told}
 use Rattle.bpf_kept.specs.Counters.{Counts, AllCount, counts_behind, all_count_behind, has_turn}
-use Rattle.bpf_kept.specs.Guards.{Front, has_end, is_reached, register_reached, number_reached, guarded, is_tested_by, is_tested, is_added, guards_sum, passes, accesses_ahead, farthest_ahead}
+use Rattle.bpf_kept.specs.Guards.{Front, front_behind, guarded, is_tested_by, is_tested, is_added, guards_sum, is_limited, has_end, is_reached, register_reached, number_reached, end_reached, passes, accesses_ahead, farthest_ahead}
 use Rattle.bpf_kept.specs.Matching.{note_at, most_at_start, said, known_at, suits, arrives, made_in, makes, extra, adds, IsExtra}
 use Rattle.bpf_kept.proofs.HoldsLaw.{any_holds, all_of, held, register_is, register_now}
 use Rattle.bpf_kept.proofs.PutValue.{put_value, put_does}
@@ -49,10 +52,10 @@ use Rattle.bpf_kept.proofs.CountLaw.{Advances, stands_still, kept_counts, extra_
 use Rattle.bpf_kept.proofs.EdgeLaw.{settled}
 use Rattle.bpf_kept.proofs.StoreLaw.{register_same, at_same, kept_still, made_alone}
 use Rattle.bpf_kept.proofs.AheadLaw.{Inside, all_inside}
-use Rattle.bpf_kept.proofs.GuardLaw.{guard_passes}
+use Rattle.bpf_kept.proofs.GuardLaw.{IsWithin, guard_passes}
 use Rattle.bpf_kept.proofs.EndLaw.{end_is, end_passes}
-use Rattle.bpf_kept.proofs.Simulation.{IsGuard, IsEndGuard, IsLeastGuard, program, zero_plain, put_turns, guard_number, guard_is, guard_does, end_does, least_does, answers, test_falls, test_turns, does_there, steps_on, answers_same}
-use Rattle.bpf_kept.proofs.PacketLaw.{own_fits, within}
+use Rattle.bpf_kept.proofs.Simulation.{TestsNumber, greater_number, less_number, IsMostGuard, IsEndGuard, IsLeastGuard, program, zero_plain, put_turns, guard_number, guard_is, end_does, most_does, least_does, answers, test_falls, test_turns, does_there, steps_on, answers_same}
+use Rattle.bpf_kept.proofs.PacketLaw.{own_fits}
 use Rattle.bpf_kept.proofs.Setting.{Setting, packet_of}
 use Rattle.bpf_kept.proofs.Beside.{OldAt, NewAt, Arriving, new_next, made_before, old_next}
 
@@ -77,14 +80,11 @@ module _ (given : Setting) where
   short : length context < 2 ^ 32
   short = subst (λ n. n < 2 ^ 32) (sym long) matches.short
 
-  own_few : length own ≤ bounds.length
-  own_few = let fits = own_fits bounds.padded order own context own_is in subst (λ n. length own ≤ n) long (omega arith)
+  own_few : bytes_before bounds.padded + length own ≤ bounds.length
+  own_few = subst (λ n. bytes_before bounds.padded + length own ≤ n) long (own_fits bounds.padded order own context own_is)
 
   own_short : length own < 2 ^ 32
   own_short = let few = own_few in let s = matches.short in omega arith
-
-  own_within : (a : ℕ) → IsAmong (middle + bytes_before bounds.padded) (length own) a → IsAmong (2 ^ 63) bounds.length a
-  own_within a among = subst (λ n. IsAmong (2 ^ 63) n a) long (within bounds.padded order own context own_is a among)
 
   -- ---- extra instructions by themselves
 
@@ -143,17 +143,19 @@ module _ (given : Setting) where
 
   -- ---- guards
 
-  near_inside : (j : ℕ) (fn fw : FlatState) → OldAt given j fn fw → (r : Reg) → AllByRecursion (Inside (near bounds.padded) (length own) (flat_register fn r)) (accesses_ahead old r farthest_ahead fn.slot)
+  near_inside : (j : ℕ) (fn fw : FlatState) → OldAt given j fn fw → (r : Reg)
+      → AllByRecursion (Inside (near bounds.padded) (length own) bounds.untouched r (flat_register fn r)) (accesses_ahead old r farthest_ahead fn.slot)
   near_inside j fn fw o r = all_inside (near bounds.padded) old old_valid own bounds v k near_ends r farthest_ahead j fn o.near_run o.near_before o.near_outer o.near_state
 
-  wide_inside : (j : ℕ) (fn fw : FlatState) → OldAt given j fn fw → (r : Reg) → AllByRecursion (Inside (wide bounds.padded) (length own) (flat_register fw r)) (accesses_ahead old r farthest_ahead fn.slot)
+  wide_inside : (j : ℕ) (fn fw : FlatState) → OldAt given j fn fw → (r : Reg)
+      → AllByRecursion (Inside (wide bounds.padded) (length own) bounds.untouched r (flat_register fw r)) (accesses_ahead old r farthest_ahead fn.slot)
   wide_inside j fn fw o r =
-      subst (λ slot. AllByRecursion (Inside (wide bounds.padded) (length own) (flat_register fw r)) (accesses_ahead old r farthest_ahead slot)) o.slots_same
+      subst (λ slot. AllByRecursion (Inside (wide bounds.padded) (length own) bounds.untouched r (flat_register fw r)) (accesses_ahead old r farthest_ahead slot)) o.slots_same
       (all_inside (wide bounds.padded) old old_valid own bounds v l wide_ends r farthest_ahead j fw o.wide_run o.wide_before o.wide_outer o.wide_state)
 
   -- in front of which old instruction
   abbrev pub front_at : ℕ → Front
-  front_at slot = record { old = old; slot = slot; length = bounds.length }
+  front_at slot = record { old = old; slot = slot; bounds = bounds }
 
   -- what is known of the register at both placements
   abbrev pub Known_at : (fn fw gn gw : FlatState) (fact : Fact) → Type 0
@@ -164,8 +166,8 @@ module _ (given : Setting) where
   both_known fn fw gn gw (fact ∷ facts) p q = ((p.0, q.0), both_known fn fw gn gw facts p.1 q.1)
 
   -- what is tested, where the guard's fact is of a register
-  abbrev pub IsLimited : (j : ℕ) (gn gw : FlatState) (dst : Reg) (limit : ℕ) → Type 0
-  IsLimited j gn gw dst limit = (flat_register gn dst ≤ limit) × (flat_register gw dst ≤ limit)
+  abbrev pub AreWithin : (gn gw : FlatState) (dst : Reg) (limit : GuardLimit) → Type 0
+  AreWithin gn gw dst limit = IsWithin limit (flat_register gn dst) × IsWithin limit (flat_register gw dst)
 
   -- the number that is tested
   pub record Tested (s : State) (gn gw : FlatState) (dst : Reg) : Type 0 where
@@ -174,11 +176,12 @@ module _ (given : Setting) where
     pub in_wide : flat_register gw dst ≡ x
     pub small : x < addresses
 
-  tested_there : (known : Known) (j n : ℕ) (s : State) (fn fw gn gw : FlatState) (dst : Reg) (src : Operand) (off : ℤ) → NewAt given known j n s fn fw gn gw → insn_at js s.top.slot ≡ Some (JumpIf Gt W64 dst src off) → Tested s gn gw dst
-  tested_there known j n s fn fw gn gw dst src off at there =
-      let m : Insn = JumpIf Gt W64 dst src off in
-      let y = steps_on order js new_valid context bytes short never n s m at.run there (test_turns m Gt W64 dst src off refl) in
-      let number = guard_number order s y.0 dst src off (does_there order js new_valid context bytes short never s y.0 m there y.1) in
+  tested_there : (known : Known) (j n : ℕ) (s : State) (fn fw gn gw : FlatState) (cond : Cond) (dst : Reg) (src : Operand) (off : ℤ) → TestsNumber cond
+      → NewAt given known j n s fn fw gn gw → insn_at js s.top.slot ≡ Some (JumpIf cond W64 dst src off) → Tested s gn gw dst
+  tested_there known j n s fn fw gn gw cond dst src off tests at there =
+      let m : Insn = JumpIf cond W64 dst src off in
+      let y = steps_on order js new_valid context bytes short never n s m at.run there (test_turns m cond W64 dst src off refl) in
+      let number = guard_number order s y.0 cond dst src off tests (does_there order js new_valid context bytes short never s y.0 m there y.1) in
       let in_near : flat_register gn dst ≡ number.0 = stands_in at.near_fits dst (Number number.0) number.1 in
       record { x = number.0; in_near = in_near; in_wide = stands_in at.wide_fits dst (Number number.0) number.1; small = subst (λ z. z < addresses) in_near (at.near_at.new_flat.numbers (register_number dst)) }
 
@@ -192,9 +195,14 @@ module _ (given : Setting) where
       subst (λ y. Differs start t ((a + y) % addresses) x) (sym same)
       (same_differs start t ((a + x) % addresses) x small (same_trans (same_equal (sym left)) (same_trans sum (same_trans (same_equal right) (same_plus (same_sym (modulo-same (pos (a + x)))) (same_refl (shift start t)))))))
 
-  sum_limited : (known : Known) (j n : ℕ) (s : State) (fn fw gn gw : FlatState) (to r dst : Reg) (limit : ℕ) (t : Term) → limit < addresses → OldAt given j fn fw → NewAt given known j n s fn fw gn gw → Tested s gn gw dst → insn_at is fn.slot ≡ Some (Alu Add W64 to (FromReg r)) → same_register r dst ≡ true → is_same known.facts dst ≡ true
-      → pinned known.facts (Register to) ≡ Some t → is_tested_by (front_at (fn.slot + 1)) limit t to ≡ true → IsLimited j gn gw dst limit
-  sum_limited known j n s fn fw gn gw to r dst limit t most o at number here er same et tested =
+  passed_by : (gn gw : FlatState) (dst : Reg) (limit : GuardLimit) (s : State) (number : Tested s gn gw dst) → IsWithin limit number.x → AreWithin gn gw dst limit
+  passed_by gn gw dst limit s number within = (subst (IsWithin limit) (sym number.in_near) within, subst (IsWithin limit) (sym number.in_wide) within)
+
+  sum_limited : (known : Known) (j n : ℕ) (s : State) (fn fw gn gw : FlatState) (to r dst : Reg) (limit : GuardLimit) (t : Term) → OldAt given j fn fw
+      → NewAt given known j n s fn fw gn gw → Tested s gn gw dst → insn_at is fn.slot ≡ Some (Alu Add W64 to (FromReg r)) → same_register r dst ≡ true
+      → is_same known.facts dst ≡ true
+      → pinned known.facts (Register to) ≡ Some t → is_tested_by (front_behind (front_at fn.slot)) limit t to ≡ true → AreWithin gn gw dst limit
+  sum_limited known j n s fn fw gn gw to r dst limit t o at number here er same et tested =
       let i : Insn = Alu Add W64 to (FromReg r) in
       let hn : FlatState = flat_put to (put_value order i fn) (flat_next i fn) in
       let hw : FlatState = flat_put to (put_value order i fw) (flat_next i fw) in
@@ -207,55 +215,66 @@ module _ (given : Setting) where
       let p' = sum_pin wide_own (flat_register fw to) x (flat_register fw r) t number.small in_old' (pinned_is order wide_own packet known.facts fw gw at.wide_at.room at.wide_at.flat at.wide_at.pointers.0 at.wide_at.all (Register to) t et) in
       let now : flat_register hn to ≡ put_value order i fn = register_now (flat_next i fn) to (put_value order i fn) at.near_at.flat.eleven in
       let now' : flat_register hw to ≡ put_value order i fw = register_now (flat_next i fw) to (put_value order i fw) at.wide_at.flat.eleven in
-      let le : x ≤ limit = guard_passes bounds.padded packet old bounds.length limit (fn.slot + 1) x hn hw matches.short own_few own_within most number.small o'.near_state.flat o'.wide_state.flat (near_inside (suc j) hn hw o') (wide_inside (suc j) hn hw o') order (record { of = Some (Register dst); base = Some (Register to); by = Some t })
-      (subst (λ z. Differs near_own t z x) (sym now) p) (subst (λ z. Differs wide_own t z x) (sym now') p') tested in
-      (subst (λ z. z ≤ limit) (sym number.in_near) le, subst (λ z. z ≤ limit) (sym number.in_wide) le)
+      passed_by gn gw dst limit s number (guard_passes bounds packet old (fn.slot + 1) x hn hw matches.short own_few number.small o'.near_state.flat o'.wide_state.flat (near_inside (suc j) hn hw o') (wide_inside (suc j) hn hw o') order limit (record { of = Some (Register dst); base = Some (Register to); by = Some t })
+      (subst (λ z. Differs near_own t z x) (sym now) p) (subst (λ z. Differs wide_own t z x) (sym now') p') tested)
 
   -- what a guard tests is within its limit
-  limited : (known : Known) (j n : ℕ) (s : State) (fn fw gn gw : FlatState) (dst : Reg) (limit : ℕ) → limit < addresses → OldAt given j fn fw → NewAt given known j n s fn fw gn gw → Tested s gn gw dst → (list_any (guarded (front_at fn.slot) dst limit) known.facts || guards_sum (front_at fn.slot) known.facts dst limit) ≡ true → IsLimited j gn gw dst limit
+  limited : (known : Known) (j n : ℕ) (s : State) (fn fw gn gw : FlatState) (dst : Reg) (limit : GuardLimit) → OldAt given j fn fw
+      → NewAt given known j n s fn fw gn gw → Tested s gn gw dst → is_limited (front_at fn.slot) known.facts dst limit ≡ true → AreWithin gn gw dst limit
   unfolding guards_sum
-  limited known j n s fn fw gn gw dst limit most o at number tested = elim (or_cases (list_any (guarded (front_at fn.slot) dst limit) known.facts) (guards_sum (front_at fn.slot) known.facts dst limit) tested) [
+  limited known j n s fn fw gn gw dst limit o at number tested = elim (or_cases (list_any (guarded (front_at fn.slot) dst limit) known.facts) (guards_sum (front_at fn.slot) known.facts dst limit) tested) [
     | inl itself ↦ (let fact = any_holds (guarded (front_at fn.slot) dst limit) (λ fact. Known_at fn fw gn gw fact) known.facts itself (both_known fn fw gn gw known.facts at.near_at.all at.wide_at.all) in
         let c = and_parts (is_register dst fact.0.of) (is_tested (front_at fn.slot) limit fact.0) fact.1 in
-        let le : number.x ≤ limit = guard_passes bounds.padded packet old bounds.length limit fn.slot number.x fn fw matches.short own_few own_within most number.small o.near_state.flat o.wide_state.flat (near_inside j fn fw o) (wide_inside j fn fw o) order fact.0
+        passed_by gn gw dst limit s number (guard_passes bounds packet old fn.slot number.x fn fw matches.short own_few number.small o.near_state.flat o.wide_state.flat (near_inside j fn fw o) (wide_inside j fn fw o) order limit fact.0
         (subst (λ z. DiffersBy near_own fact.0.by (value_in order near_own packet fn fact.0.base) z) (held (value_in order near_own packet gn) (Register dst) fact.0.of c.0 ∙ number.in_near) fact.2.0)
-        (subst (λ z. DiffersBy wide_own fact.0.by (value_in order wide_own packet fw fact.0.base) z) (held (value_in order wide_own packet gw) (Register dst) fact.0.of c.0 ∙ number.in_wide) fact.2.1) c.1 in
-        (subst (λ z. z ≤ limit) (sym number.in_near) le, subst (λ z. z ≤ limit) (sym number.in_wide) le))
+        (subst (λ z. DiffersBy wide_own fact.0.by (value_in order wide_own packet fw fact.0.base) z) (held (value_in order wide_own packet gw) (Register dst) fact.0.of c.0 ∙ number.in_wide) fact.2.1) c.1))
     | inr sum ↦ by_insn (insn_at is fn.slot) refl sum
   ]
     where
-      by_pin : (to r : Reg) → insn_at is fn.slot ≡ Some (Alu Add W64 to (FromReg r)) → same_register r dst ≡ true → is_same known.facts dst ≡ true → (p : Option Term) → pinned known.facts (Register to) ≡ p → option_map_or (λ t. is_tested_by (front_at (fn.slot + 1)) limit t to) p false ≡ true → IsLimited j gn gw dst limit
+      by_pin : (to r : Reg) → insn_at is fn.slot ≡ Some (Alu Add W64 to (FromReg r)) → same_register r dst ≡ true → is_same known.facts dst ≡ true
+          → (p : Option Term) → pinned known.facts (Register to) ≡ p
+          → option_map_or (λ t. is_tested_by (front_behind (front_at fn.slot)) limit t to) p false ≡ true → AreWithin gn gw dst limit
       by_pin to r here er same None ep h = absurd (false≢true h)
-      by_pin to r here er same (Some t) ep h = sum_limited known j n s fn fw gn gw to r dst limit t most o at number here er same ep h
+      by_pin to r here er same (Some t) ep h = sum_limited known j n s fn fw gn gw to r dst limit t o at number here er same ep h
 
-      by_sum : (i : Insn) → insn_at is fn.slot ≡ Some i → is_added (front_at fn.slot) known.facts dst limit i ≡ true → IsLimited j gn gw dst limit
+      by_sum : (i : Insn) → insn_at is fn.slot ≡ Some i → is_added (front_at fn.slot) known.facts dst limit i ≡ true → AreWithin gn gw dst limit
       by_sum (Alu Add W64 to (FromReg r)) here h =
-          let a = and_parts (same_register r dst) (is_same known.facts dst && option_map_or (λ t. is_tested_by (front_at (fn.slot + 1)) limit t to) (pinned known.facts (Register to)) false) h in
-          let b = and_parts (is_same known.facts dst) (option_map_or (λ t. is_tested_by (front_at (fn.slot + 1)) limit t to) (pinned known.facts (Register to)) false) a.1 in
+          let a = and_parts (same_register r dst) (is_same known.facts dst && option_map_or (λ t. is_tested_by (front_behind (front_at fn.slot)) limit t to) (pinned known.facts (Register to)) false) h in
+          let b = and_parts (is_same known.facts dst) (option_map_or (λ t. is_tested_by (front_behind (front_at fn.slot)) limit t to) (pinned known.facts (Register to)) false) a.1 in
           by_pin to r here a.0 b.0 (pinned known.facts (Register to)) refl b.1
       by_sum i here h = absurd (false≢true h)
 
-      by_insn : (o : Option Insn) → insn_at is fn.slot ≡ o → option_map_or (is_added (front_at fn.slot) known.facts dst limit) o false ≡ true → IsLimited j gn gw dst limit
+      by_insn : (o : Option Insn) → insn_at is fn.slot ≡ o → option_map_or (is_added (front_at fn.slot) known.facts dst limit) o false ≡ true → AreWithin gn gw dst limit
       by_insn None eo h = absurd (false≢true h)
       by_insn (Some i) eo h = by_sum i eo h
 
-  guard_goes : (known : Known) (j n : ℕ) (s : State) (fn fw gn gw : FlatState) (dst : Reg) (imm off : ℤ) → known.turns ≡ bounds.turns → OldAt given j fn fw → NewAt given known j n s fn fw gn gw → insn_at js s.top.slot ≡ Some (JumpIf Gt W64 dst (Imm imm) off)
-      → (list_any (guarded (front_at fn.slot) dst (extended imm)) known.facts || guards_sum (front_at fn.slot) known.facts dst (extended imm)) ≡ true → Extended known Kept j n (JumpIf Gt W64 dst (Imm imm) off) s fn fw
-  guard_goes known j n s fn fw gn gw dst imm off turns o at there tested =
-      let number = tested_there known j n s fn fw gn gw dst (Imm imm) off at there in
-      let le = limited known j n s fn fw gn gw dst (extended imm) (modulo_below imm) o at number tested in
-      passed_extra known j n s fn fw gn gw (JumpIf Gt W64 dst (Imm imm) off) turns at there (guard_does order dst imm off gn le.0) (guard_does order dst imm off gw le.1)
+  most_goes : (known : Known) (j n : ℕ) (s : State) (fn fw gn gw : FlatState) (dst : Reg) (imm off : ℤ) → known.turns ≡ bounds.turns → OldAt given j fn fw
+      → NewAt given known j n s fn fw gn gw → insn_at js s.top.slot ≡ Some (JumpIf Gt W64 dst (Imm imm) off)
+      → is_limited (front_at fn.slot) known.facts dst (Most (extended imm)) ≡ true → Extended known Kept j n (JumpIf Gt W64 dst (Imm imm) off) s fn fw
+  most_goes known j n s fn fw gn gw dst imm off turns o at there tested =
+      let number = tested_there known j n s fn fw gn gw Gt dst (Imm imm) off greater_number at there in
+      let le = limited known j n s fn fw gn gw dst (Most (extended imm)) o at number tested in
+      passed_extra known j n s fn fw gn gw (JumpIf Gt W64 dst (Imm imm) off) turns at there (most_does order dst imm off gn le.0) (most_does order dst imm off gw le.1)
+
+  low_goes : (known : Known) (j n : ℕ) (s : State) (fn fw gn gw : FlatState) (dst : Reg) (imm off : ℤ) → known.turns ≡ bounds.turns → OldAt given j fn fw
+      → NewAt given known j n s fn fw gn gw → insn_at js s.top.slot ≡ Some (JumpIf Lt W64 dst (Imm imm) off)
+      → is_limited (front_at fn.slot) known.facts dst (Least (extended imm)) ≡ true → Extended known Kept j n (JumpIf Lt W64 dst (Imm imm) off) s fn fw
+  low_goes known j n s fn fw gn gw dst imm off turns o at there tested =
+      let number = tested_there known j n s fn fw gn gw Lt dst (Imm imm) off less_number at there in
+      let le = limited known j n s fn fw gn gw dst (Least (extended imm)) o at number tested in
+      passed_extra known j n s fn fw gn gw (JumpIf Lt W64 dst (Imm imm) off) turns at there (least_does order dst imm off gn le.0) (least_does order dst imm off gw le.1)
 
   -- ---- guards by the packet's end
 
   -- what a register has isn't behind that
-  end_goes : (known : Known) (j n : ℕ) (s : State) (fn fw gn gw : FlatState) (dst src : Reg) (off : ℤ) → known.turns ≡ bounds.turns → OldAt given j fn fw → NewAt given known j n s fn fw gn gw → insn_at js s.top.slot ≡ Some (JumpIf Gt W64 dst (FromReg src) off)
+  end_goes : (known : Known) (j n : ℕ) (s : State) (fn fw gn gw : FlatState) (dst src : Reg) (off : ℤ) → known.turns ≡ bounds.turns → OldAt given j fn fw
+      → NewAt given known j n s fn fw gn gw → insn_at js s.top.slot ≡ Some (JumpIf Gt W64 dst (FromReg src) off)
       → has_end known.facts src ≡ true → list_any (register_reached (front_at fn.slot) dst) known.facts ≡ true → Extended known Kept j n (JumpIf Gt W64 dst (FromReg src) off) s fn fw
   end_goes known j n s fn fw gn gw dst src off turns o at there ends reached =
-      let number = tested_there known j n s fn fw gn gw dst (FromReg src) off at there in
+      let number = tested_there known j n s fn fw gn gw Gt dst (FromReg src) off greater_number at there in
       let fact = any_holds (register_reached (front_at fn.slot) dst) (λ fact. Known_at fn fw gn gw fact) known.facts reached (both_known fn fw gn gw known.facts at.near_at.all at.wide_at.all) in
       let c = and_parts (is_register dst fact.0.of) (is_reached (front_at fn.slot) fact.0) fact.1 in
-      let le : number.x ≤ length own + head_bytes = end_passes bounds.padded packet old bounds.length fn.slot number.x fn fw own_short number.small o.near_state.flat o.wide_state.flat (near_inside j fn fw o) (wide_inside j fn fw o) order fact.0
+      let le : number.x ≤ length own + head_bytes = end_passes bounds packet old fn.slot number.x fn fw matches.short own_few number.small o.near_state.flat o.wide_state.flat (near_inside j fn fw o) (wide_inside j fn fw o) order fact.0
       (subst (λ z. DiffersBy near_own fact.0.by (value_in order near_own packet fn fact.0.base) z) (held (value_in order near_own packet gn) (Register dst) fact.0.of c.0 ∙ number.in_near) fact.2.0)
       (subst (λ z. DiffersBy wide_own fact.0.by (value_in order wide_own packet fw fact.0.base) z) (held (value_in order wide_own packet gw) (Register dst) fact.0.of c.0 ∙ number.in_wide) fact.2.1) c.1 in
       let near_end = end_is order near_own packet known.facts fn gn src own_short at.near_at.all ends in
@@ -265,21 +284,44 @@ module _ (given : Setting) where
       passed_extra known j n s fn fw gn gw (JumpIf Gt W64 dst (FromReg src) off) turns at there (end_does order dst src off gn (omega arith)) (end_does order dst src off gw (omega arith))
 
   -- a constant isn't
-  least_goes : (known : Known) (j n : ℕ) (s : State) (fn fw gn gw : FlatState) (dst : Reg) (imm off : ℤ) → known.turns ≡ bounds.turns → OldAt given j fn fw → NewAt given known j n s fn fw gn gw → insn_at js s.top.slot ≡ Some (JumpIf Lt W64 dst (Imm imm) off)
-      → has_end known.facts dst ≡ true → list_any (number_reached (front_at fn.slot) (extended imm)) known.facts ≡ true → Extended known Kept j n (JumpIf Lt W64 dst (Imm imm) off) s fn fw
-  least_goes known j n s fn fw gn gw dst imm off turns o at there ends reached =
-      let fact = any_holds (number_reached (front_at fn.slot) (extended imm)) (λ fact. Known_at fn fw gn gw fact) known.facts reached (both_known fn fw gn gw known.facts at.near_at.all at.wide_at.all) in
+  fixed_goes : (known : Known) (j n : ℕ) (s : State) (fn fw gn gw : FlatState) (dst : Reg) (imm off : ℤ) → known.turns ≡ bounds.turns → OldAt given j fn fw
+      → NewAt given known j n s fn fw gn gw → insn_at js s.top.slot ≡ Some (JumpIf Lt W64 dst (Imm imm) off)
+      → end_reached (front_at fn.slot) known.facts dst (extended imm) ≡ true → Extended known Kept j n (JumpIf Lt W64 dst (Imm imm) off) s fn fw
+  fixed_goes known j n s fn fw gn gw dst imm off turns o at there tested =
+      let c = and_parts (has_end known.facts dst) (list_any (number_reached (front_at fn.slot) (extended imm)) known.facts) tested in
+      let fact = any_holds (number_reached (front_at fn.slot) (extended imm)) (λ fact. Known_at fn fw gn gw fact) known.facts c.1 (both_known fn fw gn gw known.facts at.near_at.all at.wide_at.all) in
       let le = by_number fact.0 fact.2 (of_number (extended imm) fact.0) refl fact.1 in
-      let near_end = end_is order near_own packet known.facts fn gn dst own_short at.near_at.all ends in
-      let wide_end = end_is order wide_own packet known.facts fw gw dst own_short at.wide_at.all ends in
+      let near_end = end_is order near_own packet known.facts fn gn dst own_short at.near_at.all c.0 in
+      let wide_end = end_is order wide_own packet known.facts fw gw dst own_short at.wide_at.all c.0 in
       passed_extra known j n s fn fw gn gw (JumpIf Lt W64 dst (Imm imm) off) turns at there (least_does order dst imm off gn (omega arith)) (least_does order dst imm off gw (omega arith))
     where
       by_number : (fact : Fact) → Known_at fn fw gn gw fact → (b : Option Fact) → of_number (extended imm) fact ≡ b → option_map_or (is_reached (front_at fn.slot)) b false ≡ true → extended imm ≤ length own + head_bytes
       by_number fact h None eb r = absurd (false≢true r)
       by_number fact h (Some b) eb r =
-          end_passes bounds.padded packet old bounds.length fn.slot (extended imm) fn fw own_short (modulo_below imm) o.near_state.flat o.wide_state.flat (near_inside j fn fw o) (wide_inside j fn fw o) order b
+          end_passes bounds packet old fn.slot (extended imm) fn fw matches.short own_few (modulo_below imm) o.near_state.flat o.wide_state.flat (near_inside j fn fw o) (wide_inside j fn fw o) order b
           (of_number_is near_own (value_in order near_own packet fn) (value_in order near_own packet gn) (extended imm) fact b refl (modulo_below imm) h.0 eb)
           (of_number_is wide_own (value_in order wide_own packet fw) (value_in order wide_own packet gw) (extended imm) fact b refl (modulo_below imm) h.1 eb) r
+
+  -- ---- guards of either kind
+
+  least_goes : (known : Known) (j n : ℕ) (s : State) (fn fw gn gw : FlatState) (dst : Reg) (imm off : ℤ) → known.turns ≡ bounds.turns → OldAt given j fn fw
+      → NewAt given known j n s fn fw gn gw → insn_at js s.top.slot ≡ Some (JumpIf Lt W64 dst (Imm imm) off)
+      → (end_reached (front_at fn.slot) known.facts dst (extended imm) || is_limited (front_at fn.slot) known.facts dst (Least (extended imm))) ≡ true → Extended known Kept j n (JumpIf Lt W64 dst (Imm imm) off) s fn fw
+  least_goes known j n s fn fw gn gw dst imm off turns o at there tested = elim (or_cases (end_reached (front_at fn.slot) known.facts dst (extended imm)) (is_limited (front_at fn.slot) known.facts dst (Least (extended imm))) tested) [
+    | inl fixed ↦ fixed_goes known j n s fn fw gn gw dst imm off turns o at there fixed
+    | inr low ↦ low_goes known j n s fn fw gn gw dst imm off turns o at there low
+  ]
+
+  guard_goes : (known : Known) (j n : ℕ) (s : State) (fn fw gn gw : FlatState) (m : Insn) → known.turns ≡ bounds.turns → OldAt given j fn fw
+      → NewAt given known j n s fn fw gn gw → insn_at js s.top.slot ≡ Some m → passes (front_at fn.slot) known.facts m ≡ true
+      → Extended known Kept j n m s fn fw
+  guard_goes known j n s fn fw gn gw m turns o at there e = by_kind (guard_is (front_at fn.slot) known.facts m e)
+    where
+      by_kind : IsMostGuard (front_at fn.slot) known.facts m ⊎ (IsEndGuard (front_at fn.slot) known.facts m ⊎ IsLeastGuard (front_at fn.slot) known.facts m)
+          → Extended known Kept j n m s fn fw
+      by_kind (inl g) = subst (λ m. Extended known Kept j n m s fn fw) (sym g.is) (most_goes known j n s fn fw gn gw g.dst g.imm g.off turns o at (there ∙ ap Some g.is) g.tested)
+      by_kind (inr (inl g)) = subst (λ m. Extended known Kept j n m s fn fw) (sym g.is) (end_goes known j n s fn fw gn gw g.dst g.src g.off turns o at (there ∙ ap Some g.is) g.ends g.reached)
+      by_kind (inr (inr g)) = subst (λ m. Extended known Kept j n m s fn fw) (sym g.is) (least_goes known j n s fn fw gn gw g.dst g.imm g.off turns o at (there ∙ ap Some g.is) g.tested)
 
   -- ---- counters
 
@@ -348,14 +390,9 @@ module _ (given : Setting) where
   unfolding extra
   one_extra known change j n s fn fw gn gw m turns o at there e = by_pass (passes (front_at fn.slot) known.facts m || has_turn known.counters fn.slot m) refl e
     where
-      by_guard : IsGuard (front_at fn.slot) known.facts m ⊎ (IsEndGuard (front_at fn.slot) known.facts m ⊎ IsLeastGuard (front_at fn.slot) known.facts m) → Extended known Kept j n m s fn fw
-      by_guard (inl g) = subst (λ m. Extended known Kept j n m s fn fw) (sym g.is) (guard_goes known j n s fn fw gn gw g.dst g.imm g.off turns o at (there ∙ ap Some g.is) g.tested)
-      by_guard (inr (inl g)) = subst (λ m. Extended known Kept j n m s fn fw) (sym g.is) (end_goes known j n s fn fw gn gw g.dst g.src g.off turns o at (there ∙ ap Some g.is) g.ends g.reached)
-      by_guard (inr (inr g)) = subst (λ m. Extended known Kept j n m s fn fw) (sym g.is) (least_goes known j n s fn fw gn gw g.dst g.imm g.off turns o at (there ∙ ap Some g.is) g.ends g.reached)
-
       by_pass : (b : Bool) → (passes (front_at fn.slot) known.facts m || has_turn known.counters fn.slot m) ≡ b → cond b (Some Kept) (makes m) ≡ Some change → Extended known change j n m s fn fw
       by_pass true eb h = subst (λ change. Extended known change j n m s fn fw) (same_Some Kept change h) (elim (or_cases (passes (front_at fn.slot) known.facts m) (has_turn known.counters fn.slot m) eb) [
-        | inl guard ↦ by_guard (guard_is (front_at fn.slot) known.facts m guard)
+        | inl guard ↦ guard_goes known j n s fn fw gn gw m turns o at there guard
         | inr turn ↦ (let t = test_is known.turns (made_before given j) (value_in order near_own packet gn) fn.slot known.counters m at.counted turn in
             subst (λ m. Extended known Kept j n m s fn fw) (sym t.is) (turn_goes known j n s fn fw gn gw t.dst t.off turns o at (there ∙ ap Some t.is) (subst (λ k. k ≤ flat_register gn t.dst + made_before given j fn.slot) turns t.counts)))
       ])

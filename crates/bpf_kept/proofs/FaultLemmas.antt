@@ -34,11 +34,11 @@ behind_lengths c old new notes bounds (Err Length) within h = absurd h
 
 -- the start, with what is left alone of the frame
 pub begins_is : (new : Instructions) (notes : Notes) (bounds : Bounds) (left : ℕ) (a b : Bool) → left ≡ left_alone new bounds.untouched → IsTrue a ↔ (bounds.padded ≡ true → Cuts new bounds.length)
-    → b ≡ arrives notes (start_for bounds.padded bounds.turns left) Kept None 0 (most_at_start - start_slot bounds.padded) (start_slot bounds.padded) → IsTrue (a && b) ↔ Starts new notes bounds
+    → b ≡ arrives notes (start_for bounds.padded bounds.length bounds.turns left) Kept None 0 (most_at_start - start_slot bounds.padded) (start_slot bounds.padded) → IsTrue (a && b) ↔ Starts new notes bounds
 unfolding known_at_start starts
 begins_is new notes bounds left a b alone cuts is =
-    let same : b ≡ arrives notes (start_for bounds.padded bounds.turns left_there) Kept None 0 (most_at_start - start_slot bounds.padded) (start_slot bounds.padded) =
-    is ∙ ap (λ left. arrives notes (start_for bounds.padded bounds.turns left) Kept None 0 (most_at_start - start_slot bounds.padded) (start_slot bounds.padded)) alone in (
+    let same : b ≡ arrives notes (start_for bounds.padded bounds.length bounds.turns left_there) Kept None 0 (most_at_start - start_slot bounds.padded) (start_slot bounds.padded) =
+    is ∙ ap (λ left. arrives notes (start_for bounds.padded bounds.length bounds.turns left) Kept None 0 (most_at_start - start_slot bounds.padded) (start_slot bounds.padded)) alone in (
       λ h. let p = and_parts a b h in (cuts.0 p.0, sym same ∙ p.1),
       λ s. both a b (cuts.1 s.0) (same ∙ s.1),
     )

@@ -1,8 +1,8 @@
 -- Each instruction of the old program is followed by one of the new one's, to the end.
 use Rattle.std.proofs.Common.{◌≡◌, ℕ, zero, suc, ◌+◌, ◌*◌, ◌^◌, ◌<◌, ◌≤◌, ◌⊎◌, inl, inr, refl, sym, ap, ◌∙◌, subst, arith, Bool, true, false, length, Option, Some, None, cond}
-use Rattle.std.specs.Prelude.{ℤ, ◌↔◌, IsTrue, ◌&&◌, ◌||◌, option_and_then, option_map}
+use Rattle.std.specs.Prelude.{ℤ, ◌↔◌, IsTrue, not, ◌&&◌, ◌||◌, option_and_then, option_map}
 use Rattle.std.specs.Option.{option_map_or, option_or}
-use Rattle.std.proofs.lemmas.Bool.{and_parts, or_cases, cases_order, false≢true}
+use Rattle.std.proofs.lemmas.Bool.{and_parts, or_cases, cond-true, cond-false, cases_order, false≢true}
 use Rattle.std.proofs.lemmas.Option.{none-some, same_Some, option_and_then_some}
 use Rattle.bpf_insn.specs.Arithmetic.{jumps}
 use Rattle.bpf_insn.specs.Image.{HasEncoding}
@@ -31,10 +31,11 @@ use Rattle.bpf_kept.specs.declared.notes.Change.{Change}
 use Rattle.bpf_kept.specs.declared.notes.Change.TheVariants.{Kept}
 use Rattle.bpf_kept.specs.Terms.{Packet, Facts, value_in, zero_term, frame_offset}
 use Rattle.bpf_kept.specs.Rules.{Known, same_register, is_same, put_into, loads_alike, is_framed, turned_test, are_offsets, are, by_order, undirected, is_jump, is_kept, keeps, put_by, pin_of, put, puts, puts_slot, stores_alike, reached, stores, paired}
-use Rattle.bpf_kept.specs.Matching.{most_extras, most_at_start, facts_at, known_at, arrives, led, falls, leads_to, leads, goes, stands, IsBody, IsEither, StandsForExit}
+use Rattle.bpf_kept.specs.Ways.{surely_jumps, surely_falls}
+use Rattle.bpf_kept.specs.Matching.{most_extras, most_at_start, facts_at, known_at, arrives, led, may_fall, may_lead, falls, leads_to, leads, goes, stands, IsBody, IsEither, StandsForExit}
 use Rattle.bpf_kept.proofs.HoldsLaw.{register_is}
 use Rattle.bpf_kept.proofs.PutLaw.{AtOnce, plain_is, put_both}
-use Rattle.bpf_kept.proofs.TestLaw.{same_test, order_test}
+use Rattle.bpf_kept.proofs.TestLaw.{same_test, order_test, always_jumps, never_jumps}
 use Rattle.bpf_kept.proofs.CountLaw.{kept_counts}
 use Rattle.bpf_kept.proofs.AheadLaw.{earlier, onward, goes_on, ends_here}
 use Rattle.bpf_kept.proofs.StoreLaw.{Paired, register_same, at_same, kept_there, both_put, slots_put, stores_there}
@@ -65,6 +66,16 @@ store_again : (i moved : Insn) → is_store i ≡ true → undirected moved ≡ 
 store_again i moved e same =
     let there : is_store moved ≡ true = sym (undirected_store moved) ∙ ap is_store same ∙ undirected_store i ∙ e in
     sym (store_plain moved there) ∙ same ∙ store_plain i e
+
+-- what jumps without a test leads there
+jump_leads : (facts : Facts) (i : Insn) (slot : ℕ) → is_jump i ≡ true → may_lead facts slot i ≡ led slot i
+jump_leads facts (Ja off) slot e = refl
+jump_leads facts (JaLong off) slot e = refl
+jump_leads facts i slot e = absurd (false≢true e)
+
+only_false : (b : Bool) → (b ≡ true → ⊥) → b ≡ false
+only_false true h = absurd (h refl)
+only_false false h = refl
 
 module _ (given : Setting) where
   open given use {order, is, js, notes, bounds, old_valid, new_valid, matches, own, own_is, context, bytes, long, never, v, k, l, near_ends, wide_ends}
@@ -149,8 +160,9 @@ module _ (given : Setting) where
     new_is : led new_slot moved ≡ Some new_to
     goes : arrives notes known Kept (Some slot) to most_extras new_to ≡ true
 
-  led_there : (known : Known) (i moved : Insn) (slot new_slot to : ℕ) → led slot i ≡ Some to → leads notes known Kept slot new_slot i moved ≡ true → Led known i moved slot new_slot
-  led_there known i moved slot new_slot to e h = by_new (led new_slot moved) refl (ap (λ o. option_map_or (leads_to notes known Kept slot new_slot moved) o true) (sym e) ∙ h)
+  led_there : (known : Known) (i moved : Insn) (slot new_slot to : ℕ) → led slot i ≡ Some to → may_lead known.facts slot i ≡ led slot i
+      → leads notes known Kept slot new_slot i moved ≡ true → Led known i moved slot new_slot
+  led_there known i moved slot new_slot to e may h = by_new (led new_slot moved) refl (ap (λ o. option_map_or (leads_to notes known Kept slot new_slot moved) o true) (sym (may ∙ e)) ∙ h)
     where
       by_new : (o : Option ℕ) → led new_slot moved ≡ o → option_map_or (arrives notes known Kept (Some slot) to most_extras) o false ≡ true → Led known i moved slot new_slot
       by_new None eo h = absurd (false≢true h)
@@ -163,7 +175,7 @@ module _ (given : Setting) where
       let other = jump_turns i jumps_is in
       let g = goes_on (near bounds.padded) old old_valid own bounds v k near_ends j q.fn i o.near_run o.near_before at.here other in
       let to = jump_back (near bounds.padded) order i q.fn g.0 jumps_is (near_does given q.fn g.0 i at.here g.1) in
-      let lead = led_there (known q) i moved q.fn.slot q.state.top.slot to.0 to.1 goes in
+      let lead = led_there (known q) i moved q.fn.slot q.state.top.slot to.0 to.1 (jump_leads (known q).facts i q.fn.slot jumps_is) goes in
       by_moves j i moved at lead.to lead.new_to other (jump_does order i q.fn lead.to jumps_is lead.to_is) (jump_does order i q.fw lead.to jumps_is (ap (λ z. led z i) o.slots_same ∙ lead.to_is))
       (jump_does order moved q.gn lead.new_to new_jumps (ap (λ z. led z moved) q.new_at.near_fits.slot_is ∙ lead.new_is)) (jump_does order moved q.gw lead.new_to new_jumps (ap (λ z. led z moved) q.new_at.wide_fits.slot_is ∙ lead.new_is)) lead.goes
 
@@ -195,6 +207,18 @@ module _ (given : Setting) where
       parts : (falls notes (known q) Kept q.fn.slot q.state.top.slot i moved ≡ true) × (leads notes (known q) Kept q.fn.slot q.state.top.slot i moved ≡ true)
       parts = and_parts (falls notes (known q) Kept q.fn.slot q.state.top.slot i moved) (leads notes (known q) Kept q.fn.slot q.state.top.slot i moved) goes_is
 
+      -- the way that the test goes isn't one that it never goes
+      may_jump : jumps width cond (flat_register q.fn dst) (flat_operand q.fn src) ≡ true → may_lead (known q).facts q.fn.slot i ≡ led q.fn.slot i
+      may_jump on =
+          cond-false (surely_falls (known q).facts i) None (led q.fn.slot i)
+          (only_false (surely_falls (known q).facts i) (λ e. false≢true (sym (never_jumps order (near_own given) packet (known q) q.fn q.gn q.new_at.near_at cond width dst src off e) ∙ on)))
+
+      goes_behind : jumps width cond (flat_register q.fn dst) (flat_operand q.fn src) ≡ false
+          → arrives notes (known q) Kept (Some q.fn.slot) (q.fn.slot + 1) most_extras (q.state.top.slot + 1) ≡ true
+      goes_behind on =
+          let never : surely_jumps (known q).facts i ≡ false = only_false (surely_jumps (known q).facts i) (λ e. false≢true (sym on ∙ always_jumps order (near_own given) packet (known q) q.fn q.gn q.new_at.near_at cond width dst src off e)) in
+          sym (cond-true (may_fall (known q).facts i) (arrives notes (known q) Kept (Some q.fn.slot) (q.fn.slot + 1) most_extras (q.state.top.slot + 1)) true (ap not never)) ∙ parts.0
+
       by_way : (b : Bool) → jumps width cond (flat_register q.fn dst) (flat_operand q.fn src) ≡ b → jumps width cond (flat_register q.fw dst) (flat_operand q.fw src) ≡ b
           → jumps width other (flat_register q.gn dst) (flat_operand q.gn src) ≡ b → jumps width other (flat_register q.gw dst) (flat_operand q.gw src) ≡ b → Ready given (suc j)
       by_way true on ow dn dw =
@@ -202,7 +226,7 @@ module _ (given : Setting) where
           let g = goes_on (near bounds.padded) old old_valid own bounds v k near_ends j q.fn i o.near_run o.near_before at.here turns in
           let jumped = test_jumps_back order cond width dst src off q.fn g.0 on (test_back (near bounds.padded) order i cond width dst src off q.fn g.0 refl (near_does given q.fn g.0 i at.here g.1)) in
           let to = option_map_some (λ slot. flat_at slot q.fn) (target q.fn.slot off) g.0 jumped in
-          let lead = led_there (known q) i moved q.fn.slot q.state.top.slot to.0 to.1 parts.1 in
+          let lead = led_there (known q) i moved q.fn.slot q.state.top.slot to.0 to.1 (may_jump on) parts.1 in
           by_moves j i moved at lead.to lead.new_to turns
           (test_jumps order cond width dst src off q.fn lead.to on lead.to_is) (test_jumps order cond width dst src off q.fw lead.to ow (ap (λ z. target z off) o.slots_same ∙ lead.to_is))
           (test_jumps order other width dst src new_off q.gn lead.new_to dn (ap (λ z. target z new_off) q.new_at.near_fits.slot_is ∙ lead.new_is)) (test_jumps order other width dst src new_off q.gw lead.new_to dw (ap (λ z. target z new_off) q.new_at.wide_fits.slot_is ∙ lead.new_is))
@@ -211,7 +235,7 @@ module _ (given : Setting) where
           by_moves j i moved at (q.fn.slot + 1) (q.state.top.slot + 1) turns
           (test_falls order cond width dst src off q.fn on) (test_falls order cond width dst src off q.fw ow ∙ ap (λ z. Some (flat_at (z + 1) q.fw)) q.old_at.slots_same)
           (test_falls order other width dst src new_off q.gn dn ∙ ap (λ z. Some (flat_at (z + 1) q.gn)) q.new_at.near_fits.slot_is) (test_falls order other width dst src new_off q.gw dw ∙ ap (λ z. Some (flat_at (z + 1) q.gw)) q.new_at.wide_fits.slot_is)
-          parts.0
+          (goes_behind on)
 
   -- ---- the end
 
@@ -339,6 +363,7 @@ module _ (given : Setting) where
 
       put_falls : (i : Insn) (r : Reg) → put_into i ≡ Some r → (change : Change) → falls notes (known q) change q.fn.slot q.state.top.slot i moved ≡ true → arrives notes (known q) change (Some q.fn.slot) (q.fn.slot + slot_count i) most_extras (q.state.top.slot + slot_count moved) ≡ true
       put_falls (Ja off) r e change h = absurd (none-some _ e)
+      put_falls (JumpIf c width dst src off) r e change h = absurd (none-some _ e)
       put_falls (JaLong off) r e change h = absurd (none-some _ e)
       put_falls Exit r e change h = absurd (none-some _ e)
       put_falls i r e change h = h

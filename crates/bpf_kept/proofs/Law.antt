@@ -32,7 +32,8 @@ module _ (given : Setting) where
   open given use {order, is, js, notes, bounds, old_valid, new_valid, matches, own, own_is, context, bytes, long, never, v, k, l, near_ends, wide_ends}
 
   -- what is known at the start
-  start_behind : (own : ℕ) (f g : FlatState) → IsHigh own → IsFlat g → IsEnd own f.registers → IsEnd own g.registers → IsCommon own (packet_of given) [] f g → AreFirst own (packet_of given) bounds.padded f g
+  start_behind : (own : ℕ) (f g : FlatState) → IsHigh own → IsFlat g → IsEnd own f.registers → IsEnd own g.registers → IsCommon own (packet_of given) [] f g
+      → AreFirst own (packet_of given) bounds.padded bounds.length f g
       → Behind order own (packet_of given) (known_at_start (program order js) bounds) Kept f g
   unfolding known_at_start
   start_behind own f g high flat end new_end common at =
@@ -42,7 +43,7 @@ module _ (given : Setting) where
         flat = at.flat;
         new_flat = flat;
         pointers = (end, new_end);
-        holds = λ want e. kept_hold own (start_facts bounds.padded) high (value_in order own (packet_of given) f) (value_in order own (packet_of given) g) want refl refl (start_holds order own (packet_of given) bounds.padded f g at) e;
+        holds = λ want e. kept_hold own (start_facts bounds.padded bounds.length) high (value_in order own (packet_of given) f) (value_in order own (packet_of given) g) want refl refl (start_holds order own (packet_of given) bounds.padded bounds.length f g at) e;
         common = λ a small seen out. common a small seen (λ apart. out apart.0 apart.1 apart.2 apart.3);
       }
 

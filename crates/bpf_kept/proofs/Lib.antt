@@ -6,6 +6,7 @@ mod FrameLaw
 mod PutValue
 mod PutLaw
 mod ExtraLaw
+mod PinLaw
 mod CountLaw
 mod EdgeLaw
 mod TestLaw

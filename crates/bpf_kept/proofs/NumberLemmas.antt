@@ -27,14 +27,14 @@ end_fits off n fits small =
     let high = h.1 in
     fits_128 (off +ℤ pos n) (omega (arith, ints)) (omega (arith, ints))
 
-pub moved_fits : (size : ℕ) (z : ℤ) → size < 2 ^ 32 → FitsSigned w64 z → FitsSigned w128 (pos size +ℤ z)
+pub moved_fits : (size : ℕ) (z : ℤ) → size < 2 ^ 64 → FitsSigned w64 z → FitsSigned w128 (pos size +ℤ z)
 moved_fits size z small fits =
     let h = near_64 z fits in
     let low = h.0 in
     let high = h.1 in
     fits_128 (pos size +ℤ z) (omega (arith, ints)) (omega (arith, ints))
 
-pub needed_fits : (size limit : ℕ) (z : ℤ) → size < 2 ^ 32 → limit < 2 ^ 64 → FitsSigned w64 z → FitsSigned w128 ((pos size +ℤ z) -ℤ pos limit)
+pub needed_fits : (size limit : ℕ) (z : ℤ) → size < 2 ^ 64 → limit < 2 ^ 64 → FitsSigned w64 z → FitsSigned w128 ((pos size +ℤ z) -ℤ pos limit)
 needed_fits size limit z small most fits =
     let h = near_64 z fits in
     let low = h.0 in

@@ -1,11 +1,10 @@
 -- A packet lies in its block, behind the head: as many bytes as that tells, or all that there is room for.
-use Rattle.std.proofs.Common.{◌≡◌, ℕ, zero, suc, ◌+◌, ◌-◌, ◌^◌, ◌<◌, ◌≤◌, refl, sym, ap, ◌∙◌, subst, arith, Bool, true, false, List, [], ◌∷◌, length}
+use Rattle.std.proofs.Common.{◌≡◌, ℕ, zero, suc, ◌+◌, ◌-◌, ◌<◌, ◌≤◌, refl, sym, ap, ◌∙◌, subst, arith, Bool, true, false, List, [], ◌∷◌, length}
 use Rattle.std.specs.Prelude.{take, drop, slice_index}
 use Rattle.bpf_insn.specs.Laws.{AreBytes}
 use Rattle.bpf_insn.specs.declared.order.Order.{Order}
 use Rattle.bpf_semantics.specs.Blocks.{head_bytes, told_length, IsBlock}
-use Rattle.bpf_semantics.specs.Flat.{IsAmong}
-use Rattle.bpf_kept.specs.Far.{middle, bytes_before}
+use Rattle.bpf_kept.specs.Far.{bytes_before}
 use Rattle.bpf_kept.specs.Meaning.{AreGiven}
 
 -- ---- lists
@@ -63,13 +62,6 @@ own_fits true order own context given =
     let b = dropped_exactly head_bytes context given.has_head in
     let e : length own ≡ length (take (told_length order context) (drop head_bytes context)) = ap length given.packet_is in
     omega arith
-
-pub within : (padded : Bool) (order : Order) (own context : List ℕ) → AreGiven padded order own context → (a : ℕ) → IsAmong (middle + bytes_before padded) (length own) a → IsAmong (2 ^ 63) (length context) a
-within padded order own context given a among =
-    let fits = own_fits padded order own context given in
-    let low = among.0 in
-    let high = among.1 in
-    (omega arith, omega arith)
 
 -- it is bytes, no more than the new one's
 pub given_is : (padded : Bool) (order : Order) (own context : List ℕ) → AreBytes context → AreGiven padded order own context → AreBytes own × (length own ≤ length context)

@@ -33,9 +33,10 @@ use Rattle.bpf_semantics.proofs.RunLaw.{runs_keep_states}
 use Rattle.bpf_semantics.proofs.SlotLaw.{step_keeps_context}
 use Rattle.bpf_semantics.proofs.StateLemmas.{exit_is, left_is, value_fits, operand_value_fits, option_map_some}
 use Rattle.bpf_kept.specs.Zero.{zero_does}
+use Rattle.bpf_kept.specs.declared.reach.GuardLimit.TheVariants.{Most, Least}
 use Rattle.bpf_kept.specs.Terms.{Facts}
 use Rattle.bpf_kept.specs.Rules.{put_into, undirected, is_jump}
-use Rattle.bpf_kept.specs.Guards.{Front, guarded, guards_sum, has_end, register_reached, number_reached, passes}
+use Rattle.bpf_kept.specs.Guards.{Front, is_limited, has_end, register_reached, end_reached, passes}
 use Rattle.bpf_kept.specs.Meaning.{most_for_one}
 use Rattle.bpf_kept.specs.Matching.{most_extras, most_at_start, led}
 use Rattle.bpf_kept.proofs.PutValue.{put_value}
@@ -69,23 +70,32 @@ no_waiting place (w ∷ ws) [] h e = absurd h
 no_waiting place (w ∷ ws) (r ∷ rs) h e = let bad : suc (length rs) ≡ 0 = ap length e in absurd (omega arith)
 
 -- what a guard tests is a number, or the machine would be stuck
-tests_number : (a b : Value) (taken : Bool) → test_of_values W64 Gt a b ≡ Some taken → (x : ℕ) × (a ≡ Number x)
-tests_number (Number x) b taken e = (x, refl)
-tests_number (Pointer region off) (Number y) taken e = absurd (none-some _ e)
-tests_number (Pointer region off) (Pointer other at) taken e = absurd (none-some _ e)
+abbrev pub TestsNumber : Cond → Type 0
+TestsNumber cond = (a b : Value) (taken : Bool) → test_of_values W64 cond a b ≡ Some taken → (x : ℕ) × (a ≡ Number x)
 
-pub guard_number : (order : Order) (s t : State) (dst : Reg) (src : Operand) (off : ℤ) → does order (JumpIf Gt W64 dst src off) s ≡ Some t → (x : ℕ) × (register s dst ≡ Some (Number x))
+pub greater_number : TestsNumber Gt
+greater_number (Number x) b taken e = (x, refl)
+greater_number (Pointer region off) (Number y) taken e = absurd (none-some _ e)
+greater_number (Pointer region off) (Pointer other at) taken e = absurd (none-some _ e)
+
+pub less_number : TestsNumber Lt
+less_number (Number x) b taken e = (x, refl)
+less_number (Pointer region off) (Number y) taken e = absurd (none-some _ e)
+less_number (Pointer region off) (Pointer other at) taken e = absurd (none-some _ e)
+
+pub guard_number : (order : Order) (s t : State) (cond : Cond) (dst : Reg) (src : Operand) (off : ℤ) → TestsNumber cond → does order (JumpIf cond W64 dst src off) s ≡ Some t → (x : ℕ) × (register s dst ≡ Some (Number x))
 unfolding does
-guard_number order s t dst src off e =
-    option_and_then_some _ (register s dst) t e (λ a ea e1. option_and_then_some _ (operand s src) t e1 (λ b eb e2. option_and_then_some _ (test_of_values W64 Gt a b) t e2 (λ taken et e3.
-    let n = tests_number a b taken et in (n.0, ea ∙ ap Some n.1))))
+guard_number order s t cond dst src off tests e =
+    option_and_then_some _ (register s dst) t e (λ a ea e1. option_and_then_some _ (operand s src) t e1 (λ b eb e2. option_and_then_some _ (test_of_values W64 cond a b) t e2 (λ taken et e3.
+    let n = tests a b taken et in (n.0, ea ∙ ap Some n.1))))
 
-pub record IsGuard (front : Front) (facts : Facts) (m : Insn) : Type 0 where
+-- by a constant, that nothing greater passes
+pub record IsMostGuard (front : Front) (facts : Facts) (m : Insn) : Type 0 where
   pub dst : Reg
   pub imm : ℤ
   pub off : ℤ
   pub is : m ≡ JumpIf Gt W64 dst (Imm imm) off
-  pub tested : (list_any (guarded front dst (extended imm)) facts || guards_sum front facts dst (extended imm)) ≡ true
+  pub tested : is_limited front facts dst (Most (extended imm)) ≡ true
 
 -- by the packet's end
 pub record IsEndGuard (front : Front) (facts : Facts) (m : Insn) : Type 0 where
@@ -96,24 +106,21 @@ pub record IsEndGuard (front : Front) (facts : Facts) (m : Insn) : Type 0 where
   pub ends : has_end facts src ≡ true
   pub reached : list_any (register_reached front dst) facts ≡ true
 
--- of the packet's end
+-- by a constant, that nothing less passes; or of the packet's end
 pub record IsLeastGuard (front : Front) (facts : Facts) (m : Insn) : Type 0 where
   pub dst : Reg
   pub imm : ℤ
   pub off : ℤ
   pub is : m ≡ JumpIf Lt W64 dst (Imm imm) off
-  pub ends : has_end facts dst ≡ true
-  pub reached : list_any (number_reached front (extended imm)) facts ≡ true
+  pub tested : (end_reached front facts dst (extended imm) || is_limited front facts dst (Least (extended imm))) ≡ true
 
-pub guard_is : (front : Front) (facts : Facts) (m : Insn) → passes front facts m ≡ true → IsGuard front facts m ⊎ (IsEndGuard front facts m ⊎ IsLeastGuard front facts m)
+pub guard_is : (front : Front) (facts : Facts) (m : Insn) → passes front facts m ≡ true → IsMostGuard front facts m ⊎ (IsEndGuard front facts m ⊎ IsLeastGuard front facts m)
 unfolding passes
 guard_is front facts (JumpIf Gt W64 dst (Imm imm) off) e = inl (record { dst = dst; imm = imm; off = off; is = refl; tested = e })
 guard_is front facts (JumpIf Gt W64 dst (FromReg src) off) e =
     let c = and_parts (has_end facts src) (list_any (register_reached front dst) facts) e in
     inr (inl (record { dst = dst; src = src; off = off; is = refl; ends = c.0; reached = c.1 }))
-guard_is front facts (JumpIf Lt W64 dst (Imm imm) off) e =
-    let c = and_parts (has_end facts dst) (list_any (number_reached front (extended imm)) facts) e in
-    inr (inr (record { dst = dst; imm = imm; off = off; is = refl; ends = c.0; reached = c.1 }))
+guard_is front facts (JumpIf Lt W64 dst (Imm imm) off) e = inr (inr (record { dst = dst; imm = imm; off = off; is = refl; tested = e }))
 guard_is front facts m e = absurd (false≢true e)
 
 pub end_does : (order : Order) (dst src : Reg) (off : ℤ) (g : FlatState) → flat_register g dst ≤ flat_register g src → flat_does order (JumpIf Gt W64 dst (FromReg src) off) g ≡ Some (flat_next (JumpIf Gt W64 dst (FromReg src) off) g)
@@ -124,9 +131,9 @@ pub least_does : (order : Order) (dst : Reg) (imm off : ℤ) (g : FlatState) →
 unfolding flat_does
 least_does order dst imm off g le = cond-false (ltb (flat_register g dst) (extended imm)) (flat_jump g off) (Some (flat_next (JumpIf Lt W64 dst (Imm imm) off) g)) (le-ltb (flat_register g dst) (extended imm) le)
 
-pub guard_does : (order : Order) (dst : Reg) (imm off : ℤ) (g : FlatState) → flat_register g dst ≤ extended imm → flat_does order (JumpIf Gt W64 dst (Imm imm) off) g ≡ Some (flat_next (JumpIf Gt W64 dst (Imm imm) off) g)
+pub most_does : (order : Order) (dst : Reg) (imm off : ℤ) (g : FlatState) → flat_register g dst ≤ extended imm → flat_does order (JumpIf Gt W64 dst (Imm imm) off) g ≡ Some (flat_next (JumpIf Gt W64 dst (Imm imm) off) g)
 unfolding flat_does
-guard_does order dst imm off g le = cond-false (ltb (extended imm) (flat_register g dst)) (flat_jump g off) (Some (flat_next (JumpIf Gt W64 dst (Imm imm) off) g)) (le-ltb (extended imm) (flat_register g dst) le)
+most_does order dst imm off g le = cond-false (ltb (extended imm) (flat_register g dst)) (flat_jump g off) (Some (flat_next (JumpIf Gt W64 dst (Imm imm) off) g)) (le-ltb (extended imm) (flat_register g dst) le)
 
 -- what an exact test answers
 pub record Answers (s : State) (cond : Cond) (width : Width) (dst : Reg) (src : Operand) : Type 0 where

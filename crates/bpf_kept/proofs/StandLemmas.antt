@@ -51,15 +51,15 @@ module _ (old new : Instructions) (notes : Notes) (bounds : Bounds) (slot : ℕ)
   no_extra left e = (λ h. absurd (false≢true h), λ b. absurd (none-some b.moved (sym e ∙ b.moved_is)))
 
   pub extra_is : (alone left : ℕ) (moved : Insn) (good : Bool) → alone ≡ left_alone new bounds.untouched → insn_at new.list slot ≡ Some moved
-      → good ≡ adds notes (record { old = old; slot = note.old; length = bounds.length }) (known_for bounds.turns alone note) left slot moved
+      → good ≡ adds notes (record { old = old; slot = note.old; bounds = bounds }) (known_for bounds.turns alone note) left slot moved
       → IsTrue good ↔ IsExtra old new notes bounds slot note left
   extra_is alone left moved good alone_is moved_is is =
-      let here : good ≡ adds notes (record { old = old; slot = note.old; length = bounds.length }) (known_at new bounds note) left slot moved =
-      is ∙ ap (λ k. adds notes (record { old = old; slot = note.old; length = bounds.length }) k left slot moved) (known_is alone alone_is) in (
+      let here : good ≡ adds notes (record { old = old; slot = note.old; bounds = bounds }) (known_at new bounds note) left slot moved =
+      is ∙ ap (λ k. adds notes (record { old = old; slot = note.old; bounds = bounds }) k left slot moved) (known_is alone alone_is) in (
         λ h. record { moved = moved; moved_is = moved_is; good = sym here ∙ h },
         λ b.
             let same_moved : b.moved ≡ moved = same_Some _ _ (sym b.moved_is ∙ moved_is) in
-            here ∙ ap (λ i. adds notes (record { old = old; slot = note.old; length = bounds.length }) (known_at new bounds note) left slot i) (sym same_moved) ∙ b.good,
+            here ∙ ap (λ i. adds notes (record { old = old; slot = note.old; bounds = bounds }) (known_at new bounds note) left slot i) (sym same_moved) ∙ b.good,
       )
 
   -- ---- what is noted

@@ -28,15 +28,16 @@ use Rattle.bpf_kept.specs.Far.{middle, bytes_before, near, wide}
 use Rattle.bpf_kept.specs.Zero.{zero_memory, zero_start, IsZeroState}
 use Rattle.bpf_kept.specs.Meaning.{AreGiven}
 use Rattle.bpf_kept.specs.declared.notes.Holder.TheVariants.{Register, Length}
-use Rattle.bpf_kept.specs.Terms.{Packet, IsSeen, IsCommon, Differs, Holds, AllHold, value_in, frame_slots, slot_number, shift, constant, negated, context_offset}
+use Rattle.bpf_kept.specs.Terms.{Packet, IsSeen, IsCommon, Differs, Holds, AllHold, value_in, frame_slots, slot_number, shift, constant, negated, context_offset, number_pin}
 use Rattle.bpf_kept.specs.Slots.{slot_facts}
 use Rattle.bpf_kept.specs.Rules.{Known, by_itself}
-use Rattle.bpf_kept.specs.Matching.{is_zero_slot, same_slot, start_facts, loads_length, skips_cut, cuts_length, Cuts, start_slot}
+use Rattle.bpf_kept.specs.Matching.{is_zero_slot, same_slot, length_facts, start_facts, loads_length, skips_cut, cuts_length, Cuts, start_slot}
 use Rattle.bpf_kept.proofs.FarLaw.{far_is_placement}
 use Rattle.bpf_kept.proofs.ZeroLaw.{zero_start_fits, start_memory}
 use Rattle.bpf_kept.proofs.HoldsLaw.{IsHigh, all_both, plain_shift}
 use Rattle.bpf_kept.proofs.FrameLaw.{IsRoomy, bytes_alike}
 use Rattle.bpf_kept.proofs.TermLaw.{shift_constant}
+use Rattle.bpf_kept.proofs.ExtraLaw.{constant_known, zero_pin}
 use Rattle.bpf_kept.proofs.EdgeLaw.{slot_facts_hold, slot_below, numbers_equal}
 use Rattle.bpf_kept.proofs.Isolated.{AreAlone, starts_alone}
 use Rattle.bpf_kept.proofs.Simulation.{program, test_jumps, test_falls}
@@ -103,19 +104,31 @@ slots_hold order own packet f g room flat clear clear' =
 
 -- ---- all that is known at the start
 
-pub record AreFirst (own : ℕ) (packet : Packet) (padded : Bool) (f g : FlatState) : Type 0 where
+pub record AreFirst (own : ℕ) (packet : Packet) (padded : Bool) (len : ℕ) (f g : FlatState) : Type 0 where
   pub room : IsRoomy own
   pub flat : IsFlat f
   pub first : flat_register f R1 ≡ 2 ^ 63 + bytes_before padded
   pub new_first : flat_register g R1 ≡ 2 ^ 63
   pub length_is : flat_register g R2 ≡ packet.length
   pub short : packet.length < addresses
+  pub whole : padded ≡ false → packet.length ≡ len
   pub others : (r : Reg) → (register_number r == 1) ≡ false → flat_register g r ≡ flat_register f r
   pub clear : IsClear own f
   pub new_clear : IsClear own g
 
-pub start_holds : (order : Order) (own : ℕ) (packet : Packet) (padded : Bool) (f g : FlatState) → AreFirst own packet padded f g → AllHold own (value_in order own packet f) (value_in order own packet g) (start_facts padded)
-start_holds order own packet padded f g at = (
+-- r2 is the length
+length_holds : (order : Order) (own : ℕ) (packet : Packet) (padded : Bool) (len : ℕ) (f g : FlatState) → (padded ≡ false → flat_register f R2 ≡ len)
+    → (padded ≡ false → flat_register g R2 ≡ len) → (padded ≡ false → len < addresses)
+    → AllHold own (value_in order own packet f) (value_in order own packet g) (length_facts padded len)
+length_holds order own packet true len f g e e' small = tt
+length_holds order own packet false len f g e e' small = (
+  subst (λ x. Differs own (number_pin len) x 0) (sym (e refl)) (zero_pin own len (small refl)),
+  (subst (λ y. Differs own (constant len) 0 y) (sym (e' refl)) (constant_known own len (small refl)), tt),
+)
+
+pub start_holds : (order : Order) (own : ℕ) (packet : Packet) (padded : Bool) (len : ℕ) (f g : FlatState) → AreFirst own packet padded len f g
+    → AllHold own (value_in order own packet f) (value_in order own packet g) (start_facts padded len)
+start_holds order own packet padded len f g at = (
   is_middle own (flat_register g R1) at.new_first,
   (
     none_by_first padded own (flat_register f R1) at.first,
@@ -125,7 +138,7 @@ start_holds order own packet padded f g at = (
         numbers_equal own packet.length (flat_register g R2) at.short at.length_is,
         (
           same R0 refl,
-          (same R2 refl, (same R3 refl, (same R4 refl, (same R5 refl, (same R6 refl, (same R7 refl, (same R8 refl, (same R9 refl, (same R10 refl, slots_hold order own packet f g at.room at.flat at.clear at.new_clear))))))))),
+          (same R2 refl, (same R3 refl, (same R4 refl, (same R5 refl, (same R6 refl, (same R7 refl, (same R8 refl, (same R9 refl, (same R10 refl, rest))))))))),
         ),
       ),
     ),
@@ -134,6 +147,14 @@ start_holds order own packet padded f g at = (
   where
     same : (r : Reg) → (register_number r == 1) ≡ false → Holds own (value_in order own packet f) (value_in order own packet g) (by_itself (Register r))
     same r other = numbers_equal own (flat_register f r) (flat_register g r) (at.flat.numbers (register_number r)) (at.others r other)
+
+    new_length : padded ≡ false → flat_register g R2 ≡ len
+    new_length e = at.length_is ∙ at.whole e
+
+    rest : AllHold own (value_in order own packet f) (value_in order own packet g) (length_facts padded len ++ (slot_facts is_zero_slot (λ n. true) frame_slots ++ slot_facts same_slot (λ n. true) frame_slots))
+    rest =
+        all_both (Holds own (value_in order own packet f) (value_in order own packet g)) (length_facts padded len) (slot_facts is_zero_slot (λ n. true) frame_slots ++ slot_facts same_slot (λ n. true) frame_slots)
+        (length_holds order own packet padded len f g (λ e. sym (at.others R2 refl) ∙ new_length e) new_length (λ e. subst (λ n. n < addresses) (at.whole e) at.short)) (slots_hold order own packet f g at.room at.flat at.clear at.new_clear)
 
 -- ---- the memory
 
@@ -344,7 +365,13 @@ module _ (given : Setting) where
   others_same place old slot e R9 other = refl
   others_same place old slot e R10 other = e
 
-  pub near_first : (slot : ℕ) → AreFirst (frame_start (near false) 0) (packet_of given) bounds.padded near_start (cut (near false) (length own) slot)
+  -- the packet is the whole context, unless that is a block
+  is_whole : (padded : Bool) → AreGiven padded order own context → padded ≡ false → length own ≡ bounds.length
+  is_whole false given e = ap length given ∙ long
+  is_whole true given e = absurd (false≢true (sym e))
+
+  pub near_first : (slot : ℕ)
+      → AreFirst (frame_start (near false) 0) (packet_of given) bounds.padded bounds.length near_start (cut (near false) (length own) slot)
   near_first slot =
       record {
         room = near_room;
@@ -353,12 +380,14 @@ module _ (given : Setting) where
         new_first = refl;
         length_is = refl;
         short = let s = own_short in omega arith;
+        whole = is_whole bounds.padded own_is;
         others = others_same (near false) (near bounds.padded) slot refl;
         clear = λ a low high. memory_zero (near bounds.padded) own a (behind_first bounds.padded a (near_clear a low high));
         new_clear = λ a low high. memory_zero (near false) context a (near_clear a low high);
       }
 
-  pub wide_first : (slot : ℕ) → AreFirst (frame_start (wide false) 0) (packet_of given) bounds.padded wide_start (cut (wide false) (length own) slot)
+  pub wide_first : (slot : ℕ)
+      → AreFirst (frame_start (wide false) 0) (packet_of given) bounds.padded bounds.length wide_start (cut (wide false) (length own) slot)
   wide_first slot =
       record {
         room = wide_room;
@@ -367,6 +396,7 @@ module _ (given : Setting) where
         new_first = refl;
         length_is = refl;
         short = let s = own_short in omega arith;
+        whole = is_whole bounds.padded own_is;
         others = others_same (wide false) (wide bounds.padded) slot refl;
         clear = λ a low high. memory_zero (wide bounds.padded) own a (behind_first bounds.padded a (wide_clear a low high));
         new_clear = λ a low high. memory_zero (wide false) context a (wide_clear a low high);

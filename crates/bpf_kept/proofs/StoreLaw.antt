@@ -36,7 +36,8 @@ use Rattle.bpf_kept.proofs.ZeroLaw.{flat_moved, does_keeps}
 use Rattle.bpf_kept.proofs.FrameLaw.{IsEnd, IsRoomy, Goes, reach_is, slot_access, slot_address, slot_now, slot_elsewhere, byte_elsewhere, byte_kept, clear_kept}
 use Rattle.bpf_kept.proofs.PutValue.{put_value, put_does}
 use Rattle.bpf_kept.proofs.PutLaw.{AtOnce, PutBoth, end_left, access_is, address_same, size_is, register_differs}
-use Rattle.bpf_kept.proofs.ExtraLaw.{made_value, made_known, pin_is, kept_hold, put_hold, made_hold, stored_hold}
+use Rattle.bpf_kept.proofs.ExtraLaw.{made_value, made_known, kept_hold, put_hold, made_hold, stored_hold}
+use Rattle.bpf_kept.proofs.PinLaw.{pin_is}
 use Rattle.bpf_kept.proofs.EdgeLaw.{Behind, numbers_equal}
 
 -- what both lead to

@@ -123,6 +123,15 @@ negation_differs own s a x d =
     same_differs own (negated s) (modulo (pos 0 -ℤ pos a) addresses) (modulo (pos 0 -ℤ pos x) addresses) (modulo_below (pos 0 -ℤ pos x))
     (same_trans (modulo-same (pos 0 -ℤ pos x)) (same_trans both (same_trans (same_equal again) (same_plus (same_sym (modulo-same (pos 0 -ℤ pos a))) (same_sym (shift_neg own s))))))
 
+-- what is known of a number by 0 is known of 0 by the number
+pub opposite_differs : (own : ℕ) (t : Term) (x : ℕ) → Differs own t 0 x → Differs own (negated t) x 0
+opposite_differs own t x d =
+    let both : Same (pos x +ℤ shift own (negated t)) ((pos 0 +ℤ shift own t) +ℤ neg_ℤ (shift own t)) = same_plus (differs_same own t 0 x d) (shift_neg own t) in
+    same_differs own (negated t) x 0 (omega arith) (same_sym (same_trans both (same_equal (none_left (shift own t)))))
+  where
+    none_left : (z : ℤ) → (pos 0 +ℤ z) +ℤ neg_ℤ z ≡ pos 0
+    none_left z = omega (arith, ints)
+
 -- ---- products by constants
 
 times_more : (a : ℤ) (n : ℕ) → a *ℤ pos (suc n) ≡ a *ℤ pos n +ℤ a

@@ -7,6 +7,7 @@ use Rattle.std.specs.Option.{option_map_or}
 use Rattle.std.proofs.lemmas.Bool.{and_parts, or_cases, eqb-true, cases_lt, lt-ltb, le-ltb, le-leb, lt-leb, false≢true}
 use Rattle.std.proofs.lemmas.Bool.Decides.{Decides-eqb}
 use Rattle.std.proofs.lemmas.Int.{ints}
+use Rattle.std.proofs.lemmas.Option.{option_and_then_some}
 use Rattle.bpf_insn.specs.Arithmetic.{modulo, compare, jumps, low}
 use Rattle.bpf_insn.specs.Effects.{operand_register}
 use Rattle.bpf_insn.specs.Instruction.{register_number}
@@ -21,13 +22,16 @@ use Rattle.bpf_insn.specs.declared.instruction.Cond.TheVariants.{Eq, Gt, Ge, Ne,
 use Rattle.bpf_insn.specs.declared.instruction.Insn.TheVariants.{JumpIf}
 use Rattle.bpf_semantics.specs.Flat.{FlatState, addresses, flat_register, flat_operand}
 use Rattle.bpf_semantics.proofs.FlatArith.{Same, modulo_same, same_refl, same_sym, same_trans, same_minus, same_equal, modulo_of_small, same_answer}
+use Rattle.bpf_semantics.proofs.StateLemmas.{option_map_some}
 use Rattle.bpf_kept.specs.Far.{middle}
 use Rattle.bpf_kept.specs.declared.notes.Term.{Term}
 use Rattle.bpf_kept.specs.Terms.{Packet, Facts, Differs, AreLow, shift}
-use Rattle.bpf_kept.specs.Rules.{Known, own, is_same, is_low, reads_low, reads_same, turned_test, same_term, is_offset, are_offsets, are, by_equality, is_kept}
+use Rattle.bpf_kept.specs.Rules.{Known, own, is_same, is_low, reads_low, reads_same, turned_test, same_term, is_offset, are_offsets, are, by_equality, is_kept, old_number}
+use Rattle.bpf_kept.specs.Ways.{answer, surely_jumps, surely_falls}
 use Rattle.bpf_kept.proofs.TermLaw.{differs_same}
 use Rattle.bpf_kept.proofs.HoldsLaw.{plain_shift}
 use Rattle.bpf_kept.proofs.PutLaw.{AtOnce, register_differs, reads_all_same, reads_all_low}
+use Rattle.bpf_kept.proofs.PinLaw.{old_number_is}
 
 -- ---- pointers into the context, in order
 
@@ -159,6 +163,35 @@ module _ (order : Order) (start : ℕ) (packet : Packet) (known : Known) (f g : 
     | inl same ↦ by_reads cond width dst src same
     | inr equal ↦ equality_there cond width dst src off equal
   ]
+
+  -- which way the old one surely goes
+  answer_is : (cond : Cond) (width : Width) (dst : Reg) (src : Operand) (off : ℤ) (b : Bool) → answer facts (JumpIf cond width dst src off) ≡ Some b
+      → jumps width cond (flat_register f dst) (flat_operand f src) ≡ b
+  answer_is cond width dst src off b e = option_and_then_some _ (old_number facts (FromReg dst)) b e (λ a ea e1.
+      let h = option_map_some (jumps width cond a) (old_number facts src) b e1 in
+      ap₂ (λ a b. jumps width cond a b) (number (FromReg dst) a ea) (number src h.0 h.1) ∙ h.2)
+    where
+      number : (src : Operand) (n : ℕ) → old_number facts src ≡ Some n → flat_operand f src ≡ n
+      number src n e = old_number_is order start packet facts f g at.room at.flat at.pointers.0 at.all src n e
+
+  pub always_jumps : (cond : Cond) (width : Width) (dst : Reg) (src : Operand) (off : ℤ) → surely_jumps facts (JumpIf cond width dst src off) ≡ true
+      → jumps width cond (flat_register f dst) (flat_operand f src) ≡ true
+  always_jumps cond width dst src off e = by_answer (answer facts (JumpIf cond width dst src off)) refl e
+    where
+      by_answer : (o : Option Bool) → answer facts (JumpIf cond width dst src off) ≡ o → option_map_or (λ taken. taken) o false ≡ true
+          → jumps width cond (flat_register f dst) (flat_operand f src) ≡ true
+      by_answer None eo h = absurd (false≢true h)
+      by_answer (Some b) eo h = answer_is cond width dst src off b eo ∙ h
+
+  pub never_jumps : (cond : Cond) (width : Width) (dst : Reg) (src : Operand) (off : ℤ) → surely_falls facts (JumpIf cond width dst src off) ≡ true
+      → jumps width cond (flat_register f dst) (flat_operand f src) ≡ false
+  never_jumps cond width dst src off e = by_answer (answer facts (JumpIf cond width dst src off)) refl e
+    where
+      by_answer : (o : Option Bool) → answer facts (JumpIf cond width dst src off) ≡ o → option_map_or not o false ≡ true
+          → jumps width cond (flat_register f dst) (flat_operand f src) ≡ false
+      by_answer None eo h = absurd (false≢true h)
+      by_answer (Some true) eo h = absurd (false≢true h)
+      by_answer (Some false) eo h = answer_is cond width dst src off false eo
 
   -- one for the other
   pub order_test : (cond other : Cond) (dst src : Reg) → turned_test cond other ≡ true → are are_offsets facts dst src ≡ true → jumps W64 other (flat_register g dst) (flat_register g src) ≡ jumps W64 cond (flat_register f dst) (flat_register f src)

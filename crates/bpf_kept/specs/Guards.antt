@@ -1,10 +1,10 @@
 -- Guards: extra tests that never lead to their trap where the old program's run goes on to its end. Nothing here speaks of runs.
-use Rattle.std.specs.Prelude.{ℕ, zero, suc, ◌+◌, ◌%◌, ◌==◌, ℤ, pos, ◌+ℤ◌, ◌-ℤ◌, int_le, Bool, false, not, ◌&&◌, ◌||◌, List, [], ◌∷◌, ◌++◌, if◌then◌else◌}
+use Rattle.std.specs.Prelude.{ℕ, zero, suc, ◌+◌, ◌%◌, ◌==◌, pos, ◌+ℤ◌, ◌-ℤ◌, int_le, Bool, false, not, ◌&&◌, ◌||◌, List, [], ◌∷◌, ◌++◌, Option, Some, None, if◌then◌else◌}
 use Rattle.std.specs.Int.{cast_signed, w64}
 use Rattle.std.specs.List.{list_any}
 use Rattle.std.specs.Option.{option_map_or}
 use Rattle.bpf_insn.specs.Arithmetic.{extended}
-use Rattle.bpf_insn.specs.Effects.{Access, access_of, register_written}
+use Rattle.bpf_insn.specs.Effects.{Access, access_of, register_written, is_frame_pointer}
 use Rattle.bpf_insn.specs.Limits.{frame_bytes}
 use Rattle.bpf_insn.specs.Instruction.{Instructions, register_number, byte_count, slot_count, insn_at, is_straight}
 use Rattle.bpf_insn.specs.declared.instruction.Reg.{Reg}
@@ -16,13 +16,17 @@ use Rattle.bpf_insn.specs.declared.instruction.Insn.{Insn}
 use Rattle.bpf_insn.specs.declared.instruction.Insn.TheVariants.{Alu, JumpIf}
 use Rattle.bpf_semantics.specs.Blocks.{head_bytes}
 use Rattle.bpf_semantics.specs.Flat.{addresses}
-use Rattle.bpf_kept.specs.Far.{middle}
+use Rattle.bpf_kept.specs.Far.{middle, bytes_before}
+use Rattle.bpf_kept.specs.Meaning.{Bounds}
 use Rattle.bpf_kept.specs.Terms.{Facts}
 use Rattle.bpf_kept.specs.Rules.{same_register, is_holder, is_register, is_same, pinned, of_number}
 use Rattle.bpf_kept.specs.declared.notes.Holder.{Holder}
 use Rattle.bpf_kept.specs.declared.notes.Holder.TheVariants.{Register, Slot, Length}
 use Rattle.bpf_kept.specs.declared.notes.Term.{Term}
 use Rattle.bpf_kept.specs.declared.notes.Fact.{Fact}
+use Rattle.bpf_kept.specs.declared.reach.GuardReach.{GuardReach}
+use Rattle.bpf_kept.specs.declared.reach.GuardLimit.{GuardLimit}
+use Rattle.bpf_kept.specs.declared.reach.GuardLimit.TheVariants.{Most, Least}
 use Rattle.bpf_kept.specs.declared.notes.Need.{Need}
 use Rattle.bpf_kept.specs.declared.notes.Need.TheVariants.{Below, Above}
 
@@ -46,13 +50,29 @@ accesses_ahead old r (suc n) slot = option_map_or (λ i. accesses_by r i ++ (if 
 abbrev pub farthest_ahead : ℕ
 farthest_ahead = 33
 
+-- ---- which bytes accesses go to, by a pointer: what is tested is its offset, moved
+
+-- into the context, in blocks behind the head
+abbrev pub in_context : Bounds → Term → GuardReach
+in_context bounds t = record { first = bytes_before bounds.padded; end = bounds.length; moved = cast_signed w64 ((t.moved + middle) % addresses) }
+
+-- into the frame: by another register than r10 above the lowest bytes, which are left to r10
+abbrev pub first_in_frame : Bounds → Reg → ℕ
+first_in_frame bounds r = if is_frame_pointer r then 0 else bounds.untouched
+
+abbrev pub in_frame : Bounds → Term → Reg → GuardReach
+in_frame bounds t r = record { first = first_in_frame bounds r; end = frame_bytes; moved = cast_signed w64 (t.moved % addresses) }
+
+abbrev pub reach_of : Bounds → Term → Reg → Option GuardReach
+reach_of bounds t r = if t.frames == 0 then Some (in_context bounds t) else if t.frames == 1 then Some (in_frame bounds t r) else None
+
 -- ---- the guard's rule
 
--- In front of which old instruction it stands, and how many bytes a context has.
+-- In front of which old instruction it stands, and of which runs it is said that it passes.
 pub record Front : Type 0 where
   pub old : Instructions
   pub slot : ℕ
-  pub length : ℕ
+  pub bounds : Bounds
 
 abbrev pub is_met : Need → Access → Bool
 is_met (Below offset) a = int_le a.offset offset
@@ -61,36 +81,49 @@ is_met (Above offset) a = int_le offset (a.offset +ℤ pos (byte_count a.size))
 unfoldable pub is_ahead : Instructions → Reg → ℕ → Need → Bool
 is_ahead old r slot need = list_any (is_met need) (accesses_ahead old r farthest_ahead slot)
 
--- An access by the pointer begins at or below what the guard tests, so that this isn't below 0; and one ends so far on that the guard's limit isn't
--- passed. Both lie in a region of so many bytes.
-abbrev pub are_accessed : Front → ℕ → ℕ → ℤ → Reg → Bool
-are_accessed front length limit moved r = is_ahead front.old r front.slot (Below moved) && is_ahead front.old r front.slot (Above ((pos length +ℤ moved) -ℤ pos limit))
+-- What is tested is no less than a number: an access by the pointer begins so low.
+abbrev pub begins_low : Front → Reg → GuardReach → ℕ → Bool
+begins_low front r reach least = is_ahead front.old r front.slot (Below ((pos reach.first +ℤ reach.moved) -ℤ pos least))
 
--- what is tested is the offset of a pointer into the context, or into the frame, moved
-abbrev pub is_tested_by : Front → ℕ → Term → Reg → Bool
-is_tested_by front limit t r =
-    (t.frames == 0 && are_accessed front front.length limit (cast_signed w64 ((t.moved + middle) % addresses)) r)
-    || (t.frames == 1 && are_accessed front frame_bytes limit (cast_signed w64 (t.moved % addresses)) r)
+-- It is no greater than one: an access ends so far on.
+abbrev pub ends_high : Front → Reg → GuardReach → ℕ → Bool
+ends_high front r reach most = is_ahead front.old r front.slot (Above ((pos reach.end +ℤ reach.moved) -ℤ pos most))
 
-abbrev pub is_tested_in : Front → ℕ → Term → Holder → Bool
+-- What passes for being no greater isn't below 0, either: that would wrap.
+abbrev pub is_within : Front → GuardLimit → Reg → GuardReach → Bool
+is_within front (Least n) r reach = begins_low front r reach n
+is_within front (Most n) r reach = begins_low front r reach 0 && ends_high front r reach n
+
+abbrev pub is_tested_by : Front → GuardLimit → Term → Reg → Bool
+is_tested_by front limit t r = option_map_or (is_within front limit r) (reach_of front.bounds t r) false
+
+abbrev pub is_tested_in : Front → GuardLimit → Term → Holder → Bool
 is_tested_in front limit t (Register r) = is_tested_by front limit t r
 is_tested_in front limit t h = false
 
-abbrev pub is_tested : Front → ℕ → Fact → Bool
+abbrev pub is_tested : Front → GuardLimit → Fact → Bool
 is_tested front limit fact = option_map_or (λ t. option_map_or (is_tested_in front limit t) fact.base false) fact.by false
 
-abbrev pub guarded : Front → Reg → ℕ → Fact → Bool
+abbrev pub guarded : Front → Reg → GuardLimit → Fact → Bool
 guarded front dst limit fact = is_register dst fact.of && is_tested front limit fact
+
+-- in front of the instruction behind one of one slot
+abbrev pub front_behind : Front → Front
+front_behind front = record { old = front.old; slot = front.slot + 1; bounds = front.bounds }
 
 -- A number is tested, and then the old program adds it to a pointer whose address is known. So the number is the pointer behind the sum, moved. Of a
 -- pointer that an index has moved before, the number alone says nothing.
-abbrev pub is_added : Front → Facts → Reg → ℕ → Insn → Bool
+abbrev pub is_added : Front → Facts → Reg → GuardLimit → Insn → Bool
 is_added front facts dst limit (Alu Add W64 to (FromReg r)) =
-    same_register r dst && (is_same facts dst && option_map_or (λ t. is_tested_by (record { old = front.old; slot = front.slot + 1; length = front.length }) limit t to) (pinned facts (Register to)) false)
+    same_register r dst && (is_same facts dst && option_map_or (λ t. is_tested_by (front_behind front) limit t to) (pinned facts (Register to)) false)
 is_added front facts dst limit i = false
 
-unfoldable pub guards_sum : Front → Facts → Reg → ℕ → Bool
+unfoldable pub guards_sum : Front → Facts → Reg → GuardLimit → Bool
 guards_sum front facts dst limit = option_map_or (is_added front facts dst limit) (insn_at front.old.list front.slot) false
+
+-- what a register has is within the limit
+abbrev pub is_limited : Front → Facts → Reg → GuardLimit → Bool
+is_limited front facts dst limit = list_any (guarded front dst limit) facts || guards_sum front facts dst limit
 
 -- ---- guards by where the packet ends, which the new program keeps as an offset into the block
 
@@ -104,12 +137,13 @@ is_end r fact = is_register r fact.of && (is_holder Length fact.base && option_m
 unfoldable pub has_end : Facts → Reg → Bool
 has_end facts r = list_any (is_end r) facts
 
--- The offset of a pointer, moved, isn't behind that end: an access by the pointer begins there or below, and one ends there or behind.
-abbrev pub is_reached_by : Front → ℤ → Reg → Bool
-is_reached_by front moved r = is_ahead front.old r front.slot (Below moved) && is_ahead front.old r front.slot (Above moved)
+-- The offset of a pointer, moved, isn't behind that end: an access by the pointer ends there or behind, and one begins so low that the number isn't
+-- below 0.
+abbrev pub is_reached_by : Front → Reg → GuardReach → Bool
+is_reached_by front r reach = begins_low front r reach 0 && is_ahead front.old r front.slot (Above reach.moved)
 
 abbrev pub is_reached_in : Front → Term → Holder → Bool
-is_reached_in front t (Register r) = t.frames == 0 && is_reached_by front (cast_signed w64 ((t.moved + middle) % addresses)) r
+is_reached_in front t (Register r) = t.frames == 0 && is_reached_by front r (in_context front.bounds t)
 is_reached_in front t h = false
 
 abbrev pub is_reached : Front → Fact → Bool
@@ -122,8 +156,12 @@ register_reached front dst fact = is_register dst fact.of && is_reached front fa
 abbrev pub number_reached : Front → ℕ → Fact → Bool
 number_reached front n fact = option_map_or (is_reached front) (of_number n fact) false
 
+-- a constant isn't behind the end that a register has
+abbrev pub end_reached : Front → Facts → Reg → ℕ → Bool
+end_reached front facts dst n = has_end facts dst && list_any (number_reached front n) facts
+
 unfoldable pub passes : Front → Facts → Insn → Bool
-passes front facts (JumpIf Gt W64 dst (Imm imm) off) = list_any (guarded front dst (extended imm)) facts || guards_sum front facts dst (extended imm)
+passes front facts (JumpIf Gt W64 dst (Imm imm) off) = is_limited front facts dst (Most (extended imm))
 passes front facts (JumpIf Gt W64 dst (FromReg src) off) = has_end facts src && list_any (register_reached front dst) facts
-passes front facts (JumpIf Lt W64 dst (Imm imm) off) = has_end facts dst && list_any (number_reached front (extended imm)) facts
+passes front facts (JumpIf Lt W64 dst (Imm imm) off) = end_reached front facts dst (extended imm) || is_limited front facts dst (Least (extended imm))
 passes front facts i = false

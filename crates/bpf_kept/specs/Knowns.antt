@@ -29,5 +29,5 @@ first_facts padded =
 abbrev pub known_for : ℕ → ℕ → Note → Known
 known_for turns left note = record { facts = facts_at note; apart = note.apart; counters = note.counters; turns = turns; left = left }
 
-abbrev pub start_for : Bool → ℕ → ℕ → Known
-start_for padded turns left = record { facts = start_facts padded; apart = []; counters = []; turns = turns; left = left }
+abbrev pub start_for : Bool → ℕ → ℕ → ℕ → Known
+start_for padded length turns left = record { facts = start_facts padded length; apart = []; counters = []; turns = turns; left = left }

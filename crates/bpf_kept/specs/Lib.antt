@@ -15,6 +15,8 @@ pub mod Terms
 pub mod Slots
 -- what instructions make of that
 pub mod Rules
+-- which way tests surely go
+pub mod Ways
 -- counters of turns
 pub mod Counters
 -- guards

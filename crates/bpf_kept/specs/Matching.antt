@@ -24,9 +24,10 @@ use Rattle.bpf_kept.specs.declared.notes.Note.{Note}
 use Rattle.bpf_kept.specs.declared.notes.Change.{Change}
 use Rattle.bpf_kept.specs.declared.notes.Change.TheVariants.{Kept, Made}
 use Rattle.bpf_kept.specs.Meaning.{Bounds}
-use Rattle.bpf_kept.specs.Terms.{Facts, is_noted, frame_slots, constant, zero_term, context_offset, negated}
+use Rattle.bpf_kept.specs.Terms.{Facts, is_noted, frame_slots, constant, zero_term, context_offset, frame_end, negated, number_pin}
 use Rattle.bpf_kept.specs.Slots.{slot_facts, slot_at}
-use Rattle.bpf_kept.specs.Rules.{Known, put_into, undirected, paired, holds_behind, by_itself, are_told}
+use Rattle.bpf_kept.specs.Rules.{Known, put_into, undirected, paired, holds_behind, by_itself, are_told, pin_fact, known_number}
+use Rattle.bpf_kept.specs.Ways.{surely_jumps, surely_falls}
 use Rattle.bpf_kept.specs.Counters.{all_count_behind, has_turn}
 use Rattle.bpf_kept.specs.Guards.{Front, passes}
 
@@ -60,9 +61,13 @@ same_slot n = by_itself (Slot n)
 abbrev pub said : Note → Facts
 said note = note.facts ++ slot_facts is_zero_slot (is_noted note.zeros) frame_slots
 
--- and r10 is the same in both, and each slot that isn't noted as another one
+-- in both r10 is where the frame ends, since neither writes it
+abbrev pub end_facts : Facts
+end_facts = by_itself (Register R10) ∷ pin_fact (Register R10) (negated frame_end) ∷ known_number (Some (Register R10)) frame_end ∷ []
+
+-- what a note says; r10; and that each slot is the same in both which isn't noted as another one
 unfoldable pub facts_at : Note → Facts
-facts_at note = said note ++ by_itself (Register R10) ∷ slot_facts same_slot (λ n. not (is_noted note.apart n)) frame_slots
+facts_at note = said note ++ (end_facts ++ slot_facts same_slot (λ n. not (is_noted note.apart n)) frame_slots)
 
 -- The instruction may put where the frame ends, or begins, into a register or the frame.
 abbrev pub hands_frame : Insn → Bool
@@ -97,16 +102,25 @@ arrives notes known change step slot most new_slot = option_map_or (suits known 
 abbrev pub led : ℕ → Insn → Option ℕ
 led slot i = distance i >>= target slot
 
+-- the next one may follow, unless a test always jumps
+abbrev pub may_fall : Facts → Insn → Bool
+may_fall facts i = goes_on i && not (surely_jumps facts i)
+
+-- where it may jump, unless it is a test that never does
+abbrev pub may_lead : Facts → ℕ → Insn → Option ℕ
+may_lead facts slot i = if surely_falls facts i then None else led slot i
+
 -- the next one stands behind it, if it may follow
 abbrev pub falls : Notes → Known → Change → ℕ → ℕ → Insn → Insn → Bool
-falls notes known change slot new_slot i moved = if goes_on i then arrives notes known change (Some slot) (slot + slot_count i) most_extras (new_slot + slot_count moved) else true
+falls notes known change slot new_slot i moved =
+    if may_fall known.facts i then arrives notes known change (Some slot) (slot + slot_count i) most_extras (new_slot + slot_count moved) else true
 
--- where the old one leads, the new one leads
+-- Where the old one leads, the new one leads. On a way that the old one never goes, it may lead anywhere.
 abbrev pub leads_to : Notes → Known → Change → ℕ → ℕ → Insn → ℕ → Bool
 leads_to notes known change slot new_slot moved to = option_map_or (arrives notes known change (Some slot) to most_extras) (led new_slot moved) false
 
 abbrev pub leads : Notes → Known → Change → ℕ → ℕ → Insn → Insn → Bool
-leads notes known change slot new_slot i moved = option_map_or (leads_to notes known change slot new_slot moved) (led slot i) true
+leads notes known change slot new_slot i moved = option_map_or (leads_to notes known change slot new_slot moved) (may_lead known.facts slot i) true
 
 abbrev pub goes : Notes → Known → ℕ → ℕ → Insn → Insn → Change → Bool
 goes notes known slot new_slot i moved change = falls notes known change slot new_slot i moved && leads notes known change slot new_slot i moved
@@ -147,7 +161,7 @@ pub record IsBody (old new : Instructions) (notes : Notes) (bounds : Bounds) (sl
 pub record IsExtra (old new : Instructions) (notes : Notes) (bounds : Bounds) (slot : ℕ) (note : Note) (left : ℕ) : Type 0 where
   pub moved : Insn
   pub moved_is : insn_at new.list slot ≡ Some moved
-  pub good : adds notes (record { old = old; slot = note.old; length = bounds.length }) (known_at new bounds note) left slot moved ≡ true
+  pub good : adds notes (record { old = old; slot = note.old; bounds = bounds }) (known_at new bounds note) left slot moved ≡ true
 
 -- by how many extra instructions stand from here on
 abbrev pub IsEither : Instructions → Instructions → Notes → Bounds → ℕ → Note → ℕ → Type 0
@@ -183,17 +197,22 @@ abbrev pub start_slot : Bool → ℕ
 start_slot false = 0
 start_slot true = 3
 
+-- r2 is the length, which is known unless contexts are blocks
+abbrev pub length_facts : Bool → ℕ → Facts
+length_facts true length = []
+length_facts false length = pin_fact (Register R2) (number_pin length) ∷ known_number (Some (Register R2)) (constant length) ∷ []
+
 -- r1 is where the context begins, in blocks a head before the packet; r2 is the packet's length; all else is the same in both, and the frame is 0
-abbrev pub start_facts : Bool → Facts
-start_facts padded =
+abbrev pub start_facts : Bool → ℕ → Facts
+start_facts padded length =
     record { of = Some (Register R1); base = None; by = Some context_offset } ∷ record { of = None; base = Some (Register R1); by = Some (constant (middle - bytes_before padded)) }
     ∷ record { of = Some (Register R1); base = Some (Register R1); by = Some (negated (constant (bytes_before padded))) } ∷ record { of = Some (Register R2); base = Some Length; by = Some zero_term }
     ∷ by_itself (Register R0) ∷ by_itself (Register R2) ∷ by_itself (Register R3) ∷ by_itself (Register R4) ∷ by_itself (Register R5)
     ∷ by_itself (Register R6) ∷ by_itself (Register R7) ∷ by_itself (Register R8) ∷ by_itself (Register R9) ∷ by_itself (Register R10)
-    ∷ slot_facts is_zero_slot (λ n. true) frame_slots ++ slot_facts same_slot (λ n. true) frame_slots
+    ∷ length_facts padded length ++ (slot_facts is_zero_slot (λ n. true) frame_slots ++ slot_facts same_slot (λ n. true) frame_slots)
 
 unfoldable pub known_at_start : Instructions → Bounds → Known
-known_at_start new bounds = record { facts = start_facts bounds.padded; apart = []; counters = []; turns = bounds.turns; left = left_alone new bounds.untouched }
+known_at_start new bounds = record { facts = start_facts bounds.padded bounds.length; apart = []; counters = []; turns = bounds.turns; left = left_alone new bounds.untouched }
 
 unfoldable pub starts : Notes → Instructions → Bounds → Bool
 starts notes new bounds = arrives notes (known_at_start new bounds) Kept None 0 (most_at_start - start_slot bounds.padded) (start_slot bounds.padded)

@@ -4,7 +4,7 @@ use Rattle.std.specs.List.{find, list_all, list_any}
 use Rattle.std.specs.Option.{is_some, option_map_or, option_or}
 use Rattle.std.specs.Ordering.{int_eq}
 use Rattle.bpf_insn.specs.Options.{◌>>=◌}
-use Rattle.bpf_insn.specs.Arithmetic.{extended}
+use Rattle.bpf_insn.specs.Arithmetic.{alu, extended, sign_extend}
 use Rattle.bpf_insn.specs.Effects.{registers_read, is_frame_pointer}
 use Rattle.bpf_insn.specs.Limits.{frame_bytes}
 use Rattle.bpf_insn.specs.Instruction.{register_number, byte_count}
@@ -30,7 +30,7 @@ use Rattle.bpf_kept.specs.declared.notes.Fact.{Fact}
 use Rattle.bpf_kept.specs.declared.notes.TurnsLeft.{TurnsLeft}
 use Rattle.bpf_kept.specs.declared.notes.Change.{Change}
 use Rattle.bpf_kept.specs.declared.notes.Change.TheVariants.{Kept, Put, Stored, Made}
-use Rattle.bpf_kept.specs.Terms.{Facts, is_noted, frame_slots, constant, zero_term, frame_offset, frame_end, plus, minus, negated, times}
+use Rattle.bpf_kept.specs.Terms.{Facts, is_noted, frame_slots, constant, zero_term, frame_offset, frame_end, plus, minus, negated, number_pin, pinned_number, times}
 use Rattle.bpf_kept.specs.Slots.{each_slot, slot_at, misses, reaches, is_clear}
 
 -- What is known in front of an instruction: facts; which slots of the frame may differ; what counts turns, where the old program may come to an
@@ -206,6 +206,29 @@ is_pin h fact = is_none fact.of && (is_holder h fact.base && is_some fact.by)
 unfoldable pub pinned : Facts → Holder → Option Term
 pinned facts h = find (is_pin h) facts >>= λ fact. fact.by
 
+-- the fact that says so
+abbrev pub pin_fact : Holder → Term → Fact
+pin_fact h t = record { of = None; base = Some h; by = Some t }
+
+-- what makes 0 with an operand
+abbrev pub operand_pin : Facts → Operand → Option Term
+operand_pin facts (Imm imm) = Some (number_pin (extended imm))
+operand_pin facts (FromReg r) = pinned facts (Register r)
+
+-- which number it is in the old program, if it is one wherever frames lie
+abbrev pub old_number : Facts → Operand → Option ℕ
+old_number facts src = operand_pin facts src >>= pinned_number
+
+-- What an instruction puts or stores: what the machine makes of such numbers. A byte swap isn't told, since it depends on the order of bytes.
+abbrev pub old_result : Facts → Insn → Option ℕ
+old_result facts (Alu Mov width dst src) = option_map (alu width Mov 0) (old_number facts src)
+old_result facts (Alu op width dst src) = old_number facts (FromReg dst) >>= λ a. option_map (alu width op a) (old_number facts src)
+old_result facts (Neg width dst) = option_map (alu width Sub 0) (old_number facts (FromReg dst))
+old_result facts (MovSx width bits dst src) = option_map (sign_extend bits width) (old_number facts (FromReg src))
+old_result facts (LoadImm64 dst value) = Some value
+old_result facts (StoreImm size dst off imm) = Some (extended imm)
+old_result facts i = None
+
 -- and what the new program has is one number: with a term, by 0
 abbrev pub is_number : Holder → Fact → Bool
 is_number h fact = is_holder h fact.of && (is_none fact.base && is_some fact.by)
@@ -323,16 +346,18 @@ abbrev pub put_by : Known → Bool → Insn → Insn → Option (Option Term)
 put_by known true i moved = option_or (option_map Some (result_term known i)) (low_result known.facts i)
 put_by known false i moved = if loads_alike known i moved then Some (Some zero_term) else if is_framed i moved then Some (Some frame_offset) else None
 
--- and so is what it puts or stores
+-- of two terms
+abbrev pub both : (Term → Term → Term) → Option Term → Option Term → Option Term
+both combine a b = a >>= λ a. option_map (combine a) b
+
+-- what makes 0 with what the old program puts or stores: moves, sums and differences are those of terms, all else is by numbers
 abbrev pub pin_of : Facts → Insn → Option Term
-pin_of facts (Alu Mov W64 dst (Imm imm)) = Some (negated (constant (extended imm)))
-pin_of facts (Alu Mov W64 dst (FromReg src)) = pinned facts (Register src)
-pin_of facts (Alu Add W64 dst (Imm imm)) = option_map (λ t. minus t (constant (extended imm))) (pinned facts (Register dst))
-pin_of facts (LoadImm64 dst value) = Some (negated (constant value))
+pin_of facts (Alu Mov W64 dst src) = operand_pin facts src
+pin_of facts (Alu Add W64 dst src) = both plus (pinned facts (Register dst)) (operand_pin facts src)
+pin_of facts (Alu Sub W64 dst src) = both minus (pinned facts (Register dst)) (operand_pin facts src)
 pin_of facts (Load size dst src off) = slot_at size src off >>= λ n. pinned facts (Slot n)
 pin_of facts (Store size dst off src) = pinned facts (Register src)
-pin_of facts (StoreImm size dst off imm) = Some (negated (constant (extended imm)))
-pin_of facts i = None
+pin_of facts i = option_map number_pin (old_result facts i)
 
 abbrev pub put : Holder → Option Term → Option Term → Change
 put h pin by = Put (record { of = Some h; base = Some h; by = by }) pin
@@ -363,9 +388,6 @@ sum_base a b want = (is_none a && is_base b want) || (is_none b && is_base a wan
 
 abbrev pub difference_base : Option Holder → Option Holder → Option Holder → Bool
 difference_base a b want = (is_none b && is_base a want) || (is_base a b && is_none want)
-
-abbrev pub both : (Term → Term → Term) → Option Term → Option Term → Option Term
-both combine a b = a >>= λ a. option_map (combine a) b
 
 abbrev pub is_known : Option Term → Option Term → Bool
 is_known by want = option_map_or (λ t. is_enough (Some t) want) by false

@@ -1,5 +1,5 @@
 -- Terms: how far what the new program has is from what the old one has.
-use Rattle.std.specs.Prelude.{◌≡◌, ℕ, ◌+◌, ◌-◌, ◌*◌, ◌%◌, ◌^◌, ◌<◌, ◌⊎◌, nat_lt, ℤ, pos, ◌+ℤ◌, ◌-ℤ◌, Bool, true, false, List, get_or, Option, Some, None, if◌then◌else◌}
+use Rattle.std.specs.Prelude.{◌≡◌, ℕ, ◌+◌, ◌-◌, ◌*◌, ◌%◌, ◌^◌, ◌<◌, ◌==◌, ◌⊎◌, nat_lt, ℤ, pos, ◌+ℤ◌, ◌-ℤ◌, Bool, true, false, List, get_or, Option, Some, None, if◌then◌else◌}
 use Rattle.std.specs.List.{AllByRecursion}
 use Rattle.bpf_insn.specs.Arithmetic.{modulo}
 use Rattle.bpf_insn.specs.Limits.{frame_bytes}
@@ -113,6 +113,14 @@ negated a = record { frames = opposite a.frames; moved = opposite a.moved }
 
 abbrev pub minus : Term → Term → Term
 minus a b = plus a (negated b)
+
+-- what makes 0 with a number
+abbrev pub number_pin : ℕ → Term
+number_pin n = negated (constant n)
+
+-- the number that makes 0 with a term, if it is one wherever frames lie
+abbrev pub pinned_number : Term → Option ℕ
+pinned_number t = if t.frames == 0 then Some (opposite t.moved) else None
 
 abbrev pub times : ℕ → Term → Term
 times n a = record { frames = (a.frames * n) % addresses; moved = (a.moved * n) % addresses }

@@ -3,13 +3,10 @@
 ghost use Rattle.std.specs.Prelude.{◌≡◌, ◌==◌, ◌&&◌, ◌+◌, ◌%◌, Some, None, if◌then◌else◌};
 ghost use Rattle.std.specs.List.{list_any};
 ghost use Rattle.bpf_insn.specs.Arithmetic.{extended};
-ghost use Rattle.bpf_insn.specs.declared.instruction.Insn.TheVariants.{Alu, Load, LoadSx, Store, StoreImm};
-ghost use Rattle.bpf_insn.specs.declared.instruction.AluOp.TheVariants.{Add};
-ghost use Rattle.bpf_insn.specs.declared.instruction.Width.TheVariants.{W64};
-ghost use Rattle.bpf_insn.specs.declared.instruction.Operand.TheVariants.{Imm};
+ghost use Rattle.bpf_insn.specs.declared.instruction.Insn.TheVariants.{Load, LoadSx, Store, StoreImm};
 ghost use Rattle.bpf_insn.specs.declared.instruction.Reg.{Reg};
 ghost use Rattle.bpf_semantics.specs.Flat.{addresses};
-ghost use Rattle.bpf_kept.specs.Rules.{is_address, same_size, is_folded, same_address, goes_alike, loads_alike, stores_alike, reached, pin_of, put, stored_by, puts_slot, stores};
+ghost use Rattle.bpf_kept.specs.Rules.{is_address, same_size, is_folded, same_address, goes_alike, loads_alike, stores_alike, reached, put, stored_by, puts_slot, stores};
 ghost use Rattle.bpf_kept.specs.Knowns.{known_of};
 
 use crate::commons::is_common;
@@ -17,8 +14,8 @@ use crate::facts::{is_low, is_register, is_same, numbered, own, pinned, same_reg
 use crate::known::KnownHere;
 use crate::notes::{Change, Fact, Holder, Term};
 use crate::slots::{Displaced, reaches, slot_at};
-use crate::terms::{constant, minus, negated, zero};
-use bpf_insn::{AluOp, Insn, Operand, Reg, Size, Width, extended};
+use crate::terms::{number_pin, zero};
+use bpf_insn::{Insn, Reg, Size, extended};
 
 // ---- one address
 
@@ -255,65 +252,6 @@ fn reached(left: u32, insn: &Insn, moved: &Insn) -> Option<Change>
     }
 }
 
-// ---- numbers by themselves
-
-/// What makes 0 with the sum of what a register has by itself and a constant.
-fn pin_of_sum(facts: &[Fact], dst: Reg, imm: i32) -> Option<Term>
-    ensures { result ≡ pin_of facts.now (Alu Add W64 dst (Imm imm)) }
-{
-    let t = pinned(facts, Holder::Register(dst))?;
-    Some(minus(t, constant(extended(imm))))
-}
-
-/// What makes 0 with what a slot has by itself.
-fn pin_of_slot(facts: &[Fact], size: Size, from: Displaced) -> Option<Term>
-    ensures { (dst : Reg) → result ≡ pin_of facts.now (Load size dst from.base from.off) }
-{
-    let n = slot_at(size, from)?;
-    pinned(facts, Holder::Slot(n))
-}
-
-/// What makes 0 with the result of an operation.
-fn pin_of_alu(facts: &[Fact], op: AluOp, width: Width, dst: Reg, src: Operand) -> Option<Term>
-    ensures { result ≡ pin_of facts.now (Alu op width dst src) }
-{
-    match op {
-        AluOp::Mov => match (width, src) {
-            (Width::W64, Operand::Imm(imm)) => Some(negated(constant(extended(imm)))),
-            (Width::W64, Operand::Reg(r)) => pinned(facts, Holder::Register(r)),
-            (Width::W32, _) => None,
-        },
-        AluOp::Add => match (width, src) {
-            (Width::W64, Operand::Imm(imm)) => pin_of_sum(facts, dst, imm),
-            (Width::W64, Operand::Reg(_r)) => None,
-            (Width::W32, _) => None,
-        },
-        AluOp::Sub | AluOp::Mul | AluOp::Div | AluOp::SDiv | AluOp::Mod | AluOp::SMod => None,
-        AluOp::Or | AluOp::And | AluOp::Xor | AluOp::Lsh | AluOp::Rsh | AluOp::Arsh => None,
-    }
-}
-
-/// What makes 0 with what an instruction puts or stores, if that is known by itself.
-pub fn pin_of(facts: &[Fact], insn: &Insn) -> Option<Term>
-    ensures { result ≡ pin_of facts.now insn.now }
-{
-    match *insn {
-        Insn::Alu {
-            op,
-            width,
-            dst,
-            src,
-        } => pin_of_alu(facts, op, width, dst, src),
-        Insn::LoadImm64 { value, .. } => Some(negated(constant(value))),
-        Insn::Load { size, src, off, .. } => pin_of_slot(facts, size, Displaced { base: src, off }),
-        Insn::Store { src, .. } => pinned(facts, Holder::Register(src)),
-        Insn::StoreImm { imm, .. } => Some(negated(constant(extended(imm)))),
-        Insn::Neg { .. } | Insn::MovSx { .. } | Insn::End { .. } | Insn::LoadSx { .. } => None,
-        Insn::Atomic { .. } | Insn::Ja { .. } | Insn::JaLong { .. } => None,
-        Insn::JumpIf { .. } | Insn::CallLocal { .. } | Insn::Exit => None,
-    }
-}
-
 // ---- stores to a slot
 
 /// That a register or slot differs so from the old program's, and what the old one has there by itself.
@@ -355,7 +293,7 @@ fn puts_constant(facts: &[Fact], size: Size, to: Displaced, imm: i32) -> Option<
     ensures { result ≡ puts_slot facts.now (StoreImm size to.base to.off imm) }
 {
     let n = slot_at(size, to)?;
-    let pin = negated(constant(extended(imm)));
+    let pin = number_pin(extended(imm));
     Some(put(Holder::Slot(n), Some(pin), Some(zero())))
 }
 

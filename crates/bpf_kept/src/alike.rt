@@ -4,10 +4,11 @@ ghost use Rattle.std.specs.Prelude.{◌≡◌, ◌↔◌, IsTrue};
 ghost use Rattle.bpf_kept.specs.Rules.{is_framed, turned_test, same_term, are_offsets, are, by_equality, by_order, undirected, is_jump, is_kept, keeps, put_by, puts, paired};
 ghost use Rattle.bpf_kept.specs.Knowns.{known_of};
 
-use crate::accesses::{loads_alike, pin_of, put, stores};
+use crate::accesses::{loads_alike, put, stores};
 use crate::facts::{is_same, own, same_register};
 use crate::known::KnownHere;
 use crate::notes::{Change, Fact, Holder, Term};
+use crate::pins::pin_of;
 use crate::results::{low_result, put_into, reads_same, result_term};
 use crate::terms::{are_offsets, frame_offset, same_term, zero};
 use bpf_insn::{AluOp, Cond, FRAME_BYTES, Insn, Operand, Reg, Width};

@@ -1,7 +1,7 @@
 //! Facts: which give which, and what they say of a register or of a slot of the frame.
 
 ghost use Rattle.std.specs.Prelude.{◌≡◌};
-ghost use Rattle.bpf_kept.specs.Rules.{same_register, same_holder, is_holder, is_register, is_base, gives, is_own, own_in, own, is_same, is_low_fact, is_low, is_pin, pinned, is_number, numbered, stays, by_itself, known_number};
+ghost use Rattle.bpf_kept.specs.Rules.{same_register, same_holder, is_holder, is_register, is_base, gives, is_own, own_in, own, is_same, is_low_fact, is_low, is_pin, pinned, pin_fact, is_number, numbered, stays, by_itself, known_number};
 
 use crate::notes::{Fact, Holder, Term};
 use crate::terms::{is_enough, is_zero, zero};
@@ -157,6 +157,17 @@ pub fn pinned(facts: &[Fact], h: Holder) -> Option<Term>
     match facts.iter().find(|fact| is_pin(h, **fact)) {
         Some(fact) => fact.by,
         None => None,
+    }
+}
+
+/// That what the old program has in a register or slot and a term are 0.
+pub fn pin_fact(h: Holder, t: Term) -> Fact
+    ensures { result ≡ pin_fact h t }
+{
+    Fact {
+        of: None,
+        base: Some(h),
+        by: Some(t),
     }
 }
 

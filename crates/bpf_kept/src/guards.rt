@@ -1,38 +1,37 @@
 //! Guards: extra tests that never lead to their trap, since an access of the old program surely follows.
 
-ghost use Rattle.std.specs.Prelude.{◌≡◌, ◌==◌, ◌+◌, ◌%◌, ◌<◌, ◌&&◌, ◌||◌, ℤ, pos, ◌+ℤ◌, ◌-ℤ◌, false};
+ghost use Rattle.std.specs.Prelude.{◌≡◌, ◌==◌, ◌<◌, ◌&&◌, ◌||◌, ℤ, pos, ◌+ℤ◌, ◌-ℤ◌, false};
 ghost use Rattle.std.specs.Option.{option_map_or};
 ghost use Rattle.bpf_insn.specs.Arithmetic.{extended};
 ghost use Rattle.bpf_insn.specs.Effects.{register_written};
 ghost use Rattle.bpf_insn.specs.Instruction.{byte_count, register_number};
-ghost use Rattle.std.specs.Int.{cast_signed, w64};
 ghost use Rattle.std.specs.List.{list_any};
-ghost use Rattle.bpf_semantics.specs.Flat.{addresses};
-ghost use Rattle.bpf_kept.specs.Far.{middle};
 ghost use Rattle.bpf_kept.specs.Fronts.{front};
-ghost use Rattle.bpf_kept.specs.Guards.{if_by, accesses_by, is_passed, is_met, is_ahead, are_accessed, is_tested_by, is_tested, guarded, is_added, guards_sum, is_end_term, is_end, has_end, is_reached_by, is_reached, register_reached, number_reached, passes};
+ghost use Rattle.bpf_kept.specs.Guards.{if_by, accesses_by, is_passed, is_met, is_ahead, begins_low, ends_high, is_within, is_tested_by, is_tested, guarded, front_behind, is_added, guards_sum, is_limited, is_end_term, is_end, has_end, is_reached_by, is_reached, register_reached, number_reached, end_reached, passes};
 ghost use Rattle.bpf_kept.specs.Rules.{pinned};
+ghost use Rattle.bpf_kept.specs.declared.reach.GuardLimit.TheVariants.{Least};
 ghost use Rattle.bpf_kept.specs.declared.notes.Holder.TheVariants.{Register};
 ghost use Rattle.bpf_insn.specs.declared.instruction.Width.TheVariants.{W64};
 ghost use Rattle.bpf_insn.specs.declared.instruction.Insn.TheVariants.{JumpIf};
 ghost use Rattle.bpf_insn.specs.Limits.{max_slots};
 
+use crate::bounds::RunBounds;
 use crate::code::insn_at;
 use crate::facts::{is_holder, is_register, is_same, pinned, same_register};
 use crate::made::of_number;
 use crate::notes::{Fact, Holder, Need, Term};
-use crate::terms::MIDDLE;
-use bpf_insn::{Access, AluOp, Code, Cond, FRAME_BYTES, Insn, Operand, Reg, Size, Width, extended};
+use crate::reach::{GuardLimit, GuardReach, in_context, reach_of};
+use bpf_insn::{Access, AluOp, Code, Cond, Insn, Operand, Reg, Size, Width, extended};
 use bpf_semantics::HEAD_BYTES;
 
 /// How many instructions are looked at.
 const FARTHEST_AHEAD: u32 = 33;
 
-/// In front of which old instruction a guard stands, and how many bytes a context has.
+/// In front of which old instruction a guard stands, and of which runs it is said that it passes.
 #[derive(Clone, Copy)]
 pub struct GuardSite {
     pub slot: u32,
-    pub length: u32,
+    pub bounds: RunBounds,
 }
 
 // ---- accesses that surely follow
@@ -49,7 +48,7 @@ fn is_met(need: Need, access: Access) -> bool
     ensures { result ≡ is_met need access }
 {
     match need {
-        Need::Below { offset } => i64::from(access.off) <= offset,
+        Need::Below { offset } => i128::from(access.off) <= offset,
         Need::Above { offset } => offset <= end_of(access.off, access.size),
     }
 }
@@ -113,69 +112,64 @@ fn is_ahead<C: Code>(old: &C, slot: u32, r: Reg, need: Need) -> bool
 
 // ---- the rule
 
-/// Where an access has to end, so that a number passes that is moved so from its offset.
-fn needed_end(size: u32, moved: i64, limit: u64) -> i128
-    ensures { result ≡ ((pos size +ℤ moved) -ℤ pos limit) }
+/// Where an access has to begin or to end, so that what is tested is so far from a byte that it goes to.
+fn needed(byte: u64, moved: i64, limit: u64) -> i128
+    ensures { result ≡ ((pos byte +ℤ moved) -ℤ pos limit) }
 {
-    i128::from(size) + i128::from(moved) - i128::from(limit)
+    i128::from(byte) + i128::from(moved) - i128::from(limit)
 }
 
-/// What a guard tests: a number by how much a pointer's offset is moved, in a region of so many bytes, and the greatest that passes.
-#[derive(Clone, Copy)]
-struct Tested {
-    size: u32,
-    limit: u64,
-    moved: i64,
-}
-
-/// Whether accesses follow that keep the number within the limit.
-fn are_accessed<C: Code>(old: &C, site: GuardSite, tested: Tested, r: Reg) -> bool
-    ensures { result ≡ are_accessed (front (C.program old.now) site.slot site.length) tested.size tested.limit tested.moved r }
+/// Whether an access follows that begins so low that what is tested is no less than a number.
+fn begins_low<C: Code>(old: &C, site: GuardSite, r: Reg, reach: GuardReach, least: u64) -> bool
+    ensures { result ≡ begins_low (front (C.program old.now) site) r reach least }
 {
-    let below = Need::Below {
-        offset: tested.moved,
+    let low = Need::Below {
+        offset: needed(reach.first, reach.moved, least),
     };
-    let above = Need::Above {
-        offset: needed_end(tested.size, tested.moved, tested.limit),
+    is_ahead(old, site.slot, r, low)
+}
+
+/// Whether an access follows that ends so far on that what is tested is no greater than a number.
+fn ends_high<C: Code>(old: &C, site: GuardSite, r: Reg, reach: GuardReach, most: u64) -> bool
+    ensures { result ≡ ends_high (front (C.program old.now) site) r reach most }
+{
+    let high = Need::Above {
+        offset: needed(reach.end, reach.moved, most),
     };
-    is_ahead(old, site.slot, r, below) && is_ahead(old, site.slot, r, above)
+    is_ahead(old, site.slot, r, high)
 }
 
-/// An offset into the context, with its sign.
-fn of_context(moved: u64) -> i64
-    ensures { result ≡ cast_signed w64 ((moved + middle) % addresses) }
+/// Whether accesses follow that keep what is tested within the limit.
+fn is_within<C: Code>(
+    old: &C,
+    site: GuardSite,
+    limit: GuardLimit,
+    r: Reg,
+    reach: GuardReach,
+) -> bool
+    ensures { result ≡ is_within (front (C.program old.now) site) limit r reach }
 {
-    moved.wrapping_add(MIDDLE).cast_signed()
-}
-
-/// An offset into the frame, with its sign.
-fn of_frame(moved: u64) -> i64
-    ensures { result ≡ cast_signed w64 (moved % addresses) }
-{
-    moved.cast_signed()
+    match limit {
+        GuardLimit::Most { most } => {
+            begins_low(old, site, r, reach, 0) && ends_high(old, site, r, reach, most)
+        }
+        GuardLimit::Least { least } => begins_low(old, site, r, reach, least),
+    }
 }
 
 /// Whether a number passes that is so far from a pointer of the old program.
-fn is_tested_by<C: Code>(old: &C, site: GuardSite, limit: u64, t: Term, r: Reg) -> bool
-    ensures { result ≡ is_tested_by (front (C.program old.now) site.slot site.length) limit t r }
+fn is_tested_by<C: Code>(old: &C, site: GuardSite, limit: GuardLimit, t: Term, r: Reg) -> bool
+    ensures { result ≡ is_tested_by (front (C.program old.now) site) limit t r }
 {
-    let context = Tested {
-        size: site.length,
-        limit,
-        moved: of_context(t.moved),
-    };
-    let frame = Tested {
-        size: FRAME_BYTES as u32,
-        limit,
-        moved: of_frame(t.moved),
-    };
-    (t.frames == 0 && are_accessed(old, site, context, r))
-        || (t.frames == 1 && are_accessed(old, site, frame, r))
+    match reach_of(site.bounds, t, r) {
+        Some(reach) => is_within(old, site, limit, r, reach),
+        None => false,
+    }
 }
 
 /// Whether a number passes of which a fact is known.
-fn is_tested<C: Code>(old: &C, site: GuardSite, limit: u64, fact: Fact) -> bool
-    ensures { result ≡ is_tested (front (C.program old.now) site.slot site.length) limit fact }
+fn is_tested<C: Code>(old: &C, site: GuardSite, limit: GuardLimit, fact: Fact) -> bool
+    ensures { result ≡ is_tested (front (C.program old.now) site) limit fact }
 {
     match (fact.by, fact.base) {
         (Some(t), Some(Holder::Register(r))) => is_tested_by(old, site, limit, t, r),
@@ -183,37 +177,41 @@ fn is_tested<C: Code>(old: &C, site: GuardSite, limit: u64, fact: Fact) -> bool
     }
 }
 
-/// Whether a register passes by a fact of it.
-fn guarded<C: Code>(old: &C, site: GuardSite, dst: Reg, limit: u64, fact: Fact) -> bool
-    ensures { result ≡ guarded (front (C.program old.now) site.slot site.length) dst limit fact }
-{
-    is_register(dst, fact.of) && is_tested(old, site, limit, fact)
-}
-
-/// A register, and the greatest number of it that passes.
+/// A register, and which numbers of it pass.
 #[derive(Clone, Copy)]
 struct TestedRegister {
     dst: Reg,
-    limit: u64,
+    limit: GuardLimit,
 }
 
-/// Whether a register is known to be no greater than what passes.
-fn is_below<C: Code>(old: &C, site: GuardSite, facts: &[Fact], tested: TestedRegister) -> bool
-    ensures { result ≡ list_any (guarded (front (C.program old.now) site.slot site.length) tested.dst tested.limit) facts.now }
+/// Whether a register passes by a fact of it.
+fn guarded<C: Code>(old: &C, site: GuardSite, tested: TestedRegister, fact: Fact) -> bool
+    ensures { result ≡ guarded (front (C.program old.now) site) tested.dst tested.limit fact }
 {
-    facts
-        .iter()
-        .any(|fact| guarded(old, site, tested.dst, tested.limit, *fact))
+    is_register(tested.dst, fact.of) && is_tested(old, site, tested.limit, fact)
+}
+
+/// Whether a register is known to be within what passes.
+fn guards_itself<C: Code>(old: &C, site: GuardSite, facts: &[Fact], tested: TestedRegister) -> bool
+    ensures { result ≡ list_any (guarded (front (C.program old.now) site) tested.dst tested.limit) facts.now }
+{
+    facts.iter().any(|fact| guarded(old, site, tested, *fact))
 }
 
 /// Whether the sum of a pointer, whose address is known, and a number passes.
-fn is_sum_tested<C: Code>(old: &C, site: GuardSite, facts: &[Fact], limit: u64, to: Reg) -> bool
+fn is_sum_tested<C: Code>(
+    old: &C,
+    site: GuardSite,
+    facts: &[Fact],
+    limit: GuardLimit,
+    to: Reg,
+) -> bool
     requires { site.slot < max_slots }
-    ensures { result ≡ option_map_or (λ t. is_tested_by (front (C.program old.now) (site.slot + 1) site.length) limit t to) (pinned facts.now (Register to)) false }
+    ensures { result ≡ option_map_or (λ t. is_tested_by (front_behind (front (C.program old.now) site)) limit t to) (pinned facts.now (Register to)) false }
 {
     let behind = GuardSite {
         slot: site.slot + 1,
-        length: site.length,
+        bounds: site.bounds,
     };
     match pinned(facts, Holder::Register(to)) {
         Some(t) => is_tested_by(old, behind, limit, t, to),
@@ -230,7 +228,7 @@ fn is_added<C: Code>(
     insn: &Insn,
 ) -> bool
     requires { site.slot < max_slots }
-    ensures { result ≡ is_added (front (C.program old.now) site.slot site.length) facts.now tested.dst tested.limit insn.now }
+    ensures { result ≡ is_added (front (C.program old.now) site) facts.now tested.dst tested.limit insn.now }
 {
     let Insn::Alu {
         op: AluOp::Add,
@@ -249,12 +247,26 @@ fn is_added<C: Code>(
 /// Whether the old instruction that the guard stands in front of does.
 #[tactic(auto, unfolding(crate::specs::Guards::guards_sum))]
 fn guards_sum<C: Code>(old: &C, site: GuardSite, facts: &[Fact], tested: TestedRegister) -> bool
-    ensures { result ≡ guards_sum (front (C.program old.now) site.slot site.length) facts.now tested.dst tested.limit }
+    ensures { result ≡ guards_sum (front (C.program old.now) site) facts.now tested.dst tested.limit }
 {
     match insn_at(old, site.slot) {
         Some(insn) => is_added(old, site, facts, tested, &insn),
         None => false,
     }
+}
+
+/// Whether a register passes, by itself or behind the sum.
+fn is_limited<C: Code>(
+    old: &C,
+    site: GuardSite,
+    facts: &[Fact],
+    dst: Reg,
+    limit: GuardLimit,
+) -> bool
+    ensures { result ≡ is_limited (front (C.program old.now) site) facts.now dst limit }
+{
+    let tested = TestedRegister { dst, limit };
+    guards_itself(old, site, facts, tested) || guards_sum(old, site, facts, tested)
 }
 
 // ---- by where the packet ends
@@ -286,24 +298,23 @@ fn has_end(facts: &[Fact], r: Reg) -> bool
     facts.iter().any(|fact| is_end(r, *fact))
 }
 
-/// Whether accesses follow that keep the offset of a pointer, moved so, from being behind that end.
-fn is_reached_by<C: Code>(old: &C, site: GuardSite, moved: i64, r: Reg) -> bool
-    ensures { result ≡ is_reached_by (front (C.program old.now) site.slot site.length) moved r }
+/// Whether accesses follow that keep the offset of a pointer, moved, from being behind that end.
+fn is_reached_by<C: Code>(old: &C, site: GuardSite, r: Reg, reach: GuardReach) -> bool
+    ensures { result ≡ is_reached_by (front (C.program old.now) site) r reach }
 {
-    let begins = Need::Below { offset: moved };
     let ends = Need::Above {
-        offset: i128::from(moved),
+        offset: i128::from(reach.moved),
     };
-    is_ahead(old, site.slot, r, begins) && is_ahead(old, site.slot, r, ends)
+    begins_low(old, site, r, reach, 0) && is_ahead(old, site.slot, r, ends)
 }
 
 /// Whether a number isn't behind it of which a fact is known.
 fn is_reached<C: Code>(old: &C, site: GuardSite, fact: Fact) -> bool
-    ensures { result ≡ is_reached (front (C.program old.now) site.slot site.length) fact }
+    ensures { result ≡ is_reached (front (C.program old.now) site) fact }
 {
     match (fact.by, fact.base) {
         (Some(t), Some(Holder::Register(r))) => {
-            t.frames == 0 && is_reached_by(old, site, of_context(t.moved), r)
+            t.frames == 0 && is_reached_by(old, site, r, in_context(site.bounds, t))
         }
         _ => false,
     }
@@ -311,14 +322,14 @@ fn is_reached<C: Code>(old: &C, site: GuardSite, fact: Fact) -> bool
 
 /// Whether a register isn't, by a fact of it.
 fn register_reached<C: Code>(old: &C, site: GuardSite, dst: Reg, fact: Fact) -> bool
-    ensures { result ≡ register_reached (front (C.program old.now) site.slot site.length) dst fact }
+    ensures { result ≡ register_reached (front (C.program old.now) site) dst fact }
 {
     is_register(dst, fact.of) && is_reached(old, site, fact)
 }
 
 /// Whether a constant isn't, by what 0 is.
 fn number_reached<C: Code>(old: &C, site: GuardSite, n: u64, fact: Fact) -> bool
-    ensures { result ≡ number_reached (front (C.program old.now) site.slot site.length) n fact }
+    ensures { result ≡ number_reached (front (C.program old.now) site) n fact }
 {
     match of_number(n, fact) {
         Some(fact) => is_reached(old, site, fact),
@@ -328,7 +339,7 @@ fn number_reached<C: Code>(old: &C, site: GuardSite, n: u64, fact: Fact) -> bool
 
 /// Whether a register isn't, by one of some facts.
 fn is_register_reached<C: Code>(old: &C, site: GuardSite, facts: &[Fact], dst: Reg) -> bool
-    ensures { result ≡ list_any (register_reached (front (C.program old.now) site.slot site.length) dst) facts.now }
+    ensures { result ≡ list_any (register_reached (front (C.program old.now) site) dst) facts.now }
 {
     facts
         .iter()
@@ -337,21 +348,21 @@ fn is_register_reached<C: Code>(old: &C, site: GuardSite, facts: &[Fact], dst: R
 
 /// Whether a constant isn't, by one of some facts.
 fn is_number_reached<C: Code>(old: &C, site: GuardSite, facts: &[Fact], n: u64) -> bool
-    ensures { result ≡ list_any (number_reached (front (C.program old.now) site.slot site.length) n) facts.now }
+    ensures { result ≡ list_any (number_reached (front (C.program old.now) site) n) facts.now }
 {
     facts.iter().any(|fact| number_reached(old, site, n, *fact))
 }
 
 /// Whether a register passes that is tested against that end.
 fn passes_end<C: Code>(old: &C, site: GuardSite, facts: &[Fact], dst: Reg, end: Reg) -> bool
-    ensures { result ≡ (has_end facts.now end && list_any (register_reached (front (C.program old.now) site.slot site.length) dst) facts.now) }
+    ensures { result ≡ (has_end facts.now end && list_any (register_reached (front (C.program old.now) site) dst) facts.now) }
 {
     has_end(facts, end) && is_register_reached(old, site, facts, dst)
 }
 
 /// Whether that end passes, which is tested against a constant.
 fn passes_least<C: Code>(old: &C, site: GuardSite, facts: &[Fact], end: Reg, least: u64) -> bool
-    ensures { result ≡ (has_end facts.now end && list_any (number_reached (front (C.program old.now) site.slot site.length) least) facts.now) }
+    ensures { result ≡ end_reached (front (C.program old.now) site) facts.now end least }
 {
     has_end(facts, end) && is_number_reached(old, site, facts, least)
 }
@@ -366,23 +377,28 @@ struct WideTest {
     src: Operand,
 }
 
-/// Whether a register passes that is tested against a constant.
-fn passes_limit<C: Code>(old: &C, site: GuardSite, facts: &[Fact], dst: Reg, limit: u64) -> bool
-    ensures { result ≡ (list_any (guarded (front (C.program old.now) site.slot site.length) dst limit) facts.now || guards_sum (front (C.program old.now) site.slot site.length) facts.now dst limit) }
+/// Whether a register passes that is tested for being less than a constant.
+fn passes_lower<C: Code>(old: &C, site: GuardSite, facts: &[Fact], dst: Reg, least: u64) -> bool
+    ensures { result ≡ (end_reached (front (C.program old.now) site) facts.now dst least || is_limited (front (C.program old.now) site) facts.now dst (Least least)) }
 {
-    let tested = TestedRegister { dst, limit };
-    is_below(old, site, facts, tested) || guards_sum(old, site, facts, tested)
+    passes_least(old, site, facts, dst, least)
+        || is_limited(old, site, facts, dst, GuardLimit::Least { least })
 }
 
 /// Whether a test is a guard that passes.
 #[tactic(auto, unfolding(crate::specs::Guards::passes))]
 fn passes_test<C: Code>(old: &C, site: GuardSite, facts: &[Fact], test: WideTest) -> bool
-    ensures { (off : ℤ) → result ≡ passes (front (C.program old.now) site.slot site.length) facts.now (JumpIf test.cond W64 test.dst test.src off) }
+    ensures { (off : ℤ) → result ≡ passes (front (C.program old.now) site) facts.now (JumpIf test.cond W64 test.dst test.src off) }
 {
     match (test.cond, test.src) {
-        (Cond::Gt, Operand::Imm(imm)) => passes_limit(old, site, facts, test.dst, extended(imm)),
+        (Cond::Gt, Operand::Imm(imm)) => {
+            let limit = GuardLimit::Most {
+                most: extended(imm),
+            };
+            is_limited(old, site, facts, test.dst, limit)
+        }
         (Cond::Gt, Operand::Reg(end)) => passes_end(old, site, facts, test.dst, end),
-        (Cond::Lt, Operand::Imm(imm)) => passes_least(old, site, facts, test.dst, extended(imm)),
+        (Cond::Lt, Operand::Imm(imm)) => passes_lower(old, site, facts, test.dst, extended(imm)),
         _ => false,
     }
 }
@@ -390,7 +406,7 @@ fn passes_test<C: Code>(old: &C, site: GuardSite, facts: &[Fact], test: WideTest
 /// Whether an instruction is a guard that passes.
 #[tactic(auto, unfolding(crate::specs::Guards::passes))]
 pub fn passes<C: Code>(old: &C, site: GuardSite, facts: &[Fact], insn: &Insn) -> bool
-    ensures { result ≡ passes (front (C.program old.now) site.slot site.length) facts.now insn.now }
+    ensures { result ≡ passes (front (C.program old.now) site) facts.now insn.now }
 {
     let Insn::JumpIf {
         cond,

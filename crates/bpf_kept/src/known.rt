@@ -7,18 +7,18 @@ ghost use Rattle.bpf_insn.specs.Instruction.{insn_at};
 ghost use Rattle.bpf_kept.specs.Far.{bytes_before};
 ghost use Rattle.bpf_kept.specs.Terms.{is_noted, frame_slots};
 ghost use Rattle.bpf_kept.specs.Slots.{slot_facts};
-ghost use Rattle.bpf_kept.specs.Matching.{is_zero_slot, same_slot, said, facts_at, hands_frame, left_alone, start_facts};
+ghost use Rattle.bpf_kept.specs.Matching.{is_zero_slot, same_slot, said, end_facts, facts_at, hands_frame, left_alone, length_facts, start_facts};
 ghost use Rattle.bpf_kept.specs.Knowns.{facts_in, first_facts};
 
-use crate::facts::by_itself;
+use crate::facts::{by_itself, known_number, pin_fact};
 use crate::notes::{Fact, Holder, Note, SLOTS, TurnsLeft};
 use crate::slots::is_noted;
-use crate::terms::{MIDDLE, constant, context_offset, negated, zero};
+use crate::terms::{MIDDLE, constant, context_offset, frame_end, negated, number_pin, zero};
 use bpf_insn::{Code, FRAME_BYTES, Insn, Operand, Reg};
 use bpf_semantics::HEAD_BYTES;
 
 /// How many facts hold at most in front of an instruction: those of the note, one for each slot of the frame that the old program has 0 in, one for
-/// each that is the same in both, and those of the start.
+/// each that is the same in both, and those of r10, or of the start.
 const MOST_FACTS: usize = 160;
 
 /// Facts, in order: so many of the first ones.
@@ -168,13 +168,36 @@ pub fn said(note: &Note) -> FactList
     facts
 }
 
+/// What holds of r10 all along: it is where the frame ends, in both.
+pub fn end_facts() -> [Fact; 3]
+    ensures { result ≡ end_facts }
+{
+    [
+        by_itself(Holder::Register(Reg::R10)),
+        pin_fact(Holder::Register(Reg::R10), negated(frame_end())),
+        known_number(Some(Holder::Register(Reg::R10)), frame_end()),
+    ]
+}
+
+/// Adds that.
+fn add_end(facts: &mut FactList)
+    requires { facts.old.count ≤ 96 }
+    ensures facts { facts_in facts.new ≡ facts_in facts.old ++ end_facts }
+    ensures count { facts.new.count ≡ facts.old.count + 3 }
+{
+    let [same, pin, number] = end_facts();
+    facts.push(same);
+    facts.push(pin);
+    facts.push(number);
+}
+
 /// What holds where it is noted.
 pub fn facts_at(note: &Note) -> FactList
     ensures facts { facts_in result ≡ facts_at note.now }
     ensures count { result.count ≤ 160 }
 {
     let mut facts = said(note);
-    facts.push(by_itself(Holder::Register(Reg::R10)));
+    add_end(&mut facts);
     add_same(&mut facts, &note.apart);
     facts
 }
@@ -182,7 +205,7 @@ pub fn facts_at(note: &Note) -> FactList
 // ---- the start
 
 /// How many bytes of a block lie before the packet; else there is none.
-fn bytes_before(padded: bool) -> u64
+pub fn bytes_before(padded: bool) -> u64
     ensures { result ≡ bytes_before padded }
 {
     if padded { u64::from(HEAD_BYTES) } else { 0 }
@@ -228,12 +251,27 @@ fn first_facts(padded: bool) -> [Fact; 14]
     ]
 }
 
+/// Adds that r2 is the length, which is known unless contexts are blocks.
+fn add_length(facts: &mut FactList, padded: bool, length: u32)
+    requires { facts.old.count < 32 }
+    ensures facts { facts_in facts.new ≡ facts_in facts.old ++ length_facts padded length }
+    ensures count { facts.new.count ≤ facts.old.count + 2 }
+{
+    let place = Holder::Register(Reg::R2);
+    let length = u64::from(length);
+    if !padded {
+        facts.push(pin_fact(place, number_pin(length)));
+        facts.push(known_number(Some(place), constant(length)));
+    }
+}
+
 /// What holds at the start: that, and the frame is 0 in both.
-pub fn start_facts(padded: bool) -> FactList
-    ensures facts { facts_in result ≡ start_facts padded }
+pub fn start_facts(padded: bool, length: u32) -> FactList
+    ensures facts { facts_in result ≡ start_facts padded length }
     ensures count { result.count ≤ 160 }
 {
     let mut facts = facts_of(&first_facts(padded));
+    add_length(&mut facts, padded, length);
     add_zeros(&mut facts, &[true; SLOTS]);
     add_same(&mut facts, &[]);
     facts

@@ -19,10 +19,13 @@ mod made;
 mod note_fault;
 mod notes;
 mod pass;
+mod pins;
+mod reach;
 mod results;
 mod slots;
 mod stands;
 mod terms;
+mod ways;
 
 pub use alike::{are_same, paired};
 pub use behind::{holds_behind, is_told};
@@ -30,7 +33,9 @@ pub use bounds::RunBounds;
 pub use counters::counts_behind;
 pub use facts::{gives, is_holder, known_number, same_holder};
 pub use guards::GuardSite;
-pub use known::{FactList, KnownHere, facts_at, is_zero_slot, left_alone, same_slot, start_facts};
+pub use known::{
+    FactList, KnownHere, end_facts, facts_at, is_zero_slot, left_alone, same_slot, start_facts,
+};
 pub use laws::{
     certified_keeps_flat_meaning, exact_runs_are_flat, far_is_placement, flat_meaning_is_exact,
     flat_meaning_is_far, matching_keeps_flat_meaning, near_and_wide_are_far,
@@ -43,3 +48,4 @@ pub use pass::{follows, follows_certified, start_slot};
 pub use slots::{Displaced, slot_at};
 pub use stands::extra;
 pub use terms::{constant, frame_end, minus, plus, zero};
+pub use ways::{may_fall, surely_falls};

@@ -83,7 +83,7 @@ pub enum Change {
 #[derive(Clone, Copy)]
 pub enum Need {
     /// It begins at this offset from the pointer or below.
-    Below { offset: i64 },
+    Below { offset: i128 },
     /// It ends at this one or above.
     Above { offset: i128 },
 }

@@ -76,9 +76,9 @@ fn most_at_start(padded: bool) -> u32
 
 /// Whether what is noted of the first slot asks for no more than what holds at the start.
 fn starts(notes: &[Option<Note>], bounds: RunBounds, left: u32) -> bool
-    ensures { result ≡ arrives notes.now (start_for bounds.padded bounds.turns left) Kept None 0 (most_at_start - start_slot bounds.padded) (start_slot bounds.padded) }
+    ensures { result ≡ arrives notes.now (start_for bounds.padded bounds.length bounds.turns left) Kept None 0 (most_at_start - start_slot bounds.padded) (start_slot bounds.padded) }
 {
-    let facts = start_facts(bounds.padded);
+    let facts = start_facts(bounds.padded, bounds.length);
     let known = KnownHere {
         facts: facts.as_slice(),
         apart: &[],

@@ -9,7 +9,7 @@ ghost use Rattle.bpf_kept.specs.Fronts.{front};
 ghost use Rattle.bpf_kept.specs.Knowns.{known_of, known_for};
 ghost use Rattle.bpf_kept.specs.Slots.{slot_at};
 ghost use Rattle.bpf_kept.specs.Shown.{bounds_of};
-ghost use Rattle.bpf_kept.specs.Matching.{left_alone, led, falls, leads, stands, made_in, makes, extra, adds, IsBody, IsExtra, HoldsAt};
+ghost use Rattle.bpf_kept.specs.Matching.{left_alone, led, may_lead, falls, leads, stands, made_in, makes, extra, adds, IsBody, IsExtra, HoldsAt};
 
 use crate::alike::{are_same, paired};
 use crate::bounds::RunBounds;
@@ -18,9 +18,10 @@ use crate::counters::has_turn;
 use crate::edges::{Arrival, arrives, note_at};
 use crate::guards::{GuardSite, passes};
 use crate::known::{KnownHere, facts_at};
-use crate::notes::{Change, Holder, Note};
+use crate::notes::{Change, Fact, Holder, Note};
 use crate::results::put_into;
 use crate::slots::{Displaced, slot_at};
+use crate::ways::{may_fall, surely_falls};
 use bpf_insn::{Code, Insn, Size, target};
 
 /// The greatest number of extra instructions in front of one.
@@ -44,13 +45,25 @@ fn led(slot: u32, insn: &Insn) -> Option<u32>
     target(slot, distance)
 }
 
+/// Where it may jump, unless it is a test that never does.
+fn may_lead(facts: &[Fact], slot: u32, insn: &Insn) -> Option<u32>
+    requires { slot ≤ max_slots }
+    ensures { result ≡ may_lead facts.now slot insn.now }
+{
+    if surely_falls(facts, insn) {
+        None
+    } else {
+        led(slot, insn)
+    }
+}
+
 /// Whether the next new instruction stands for the next old one, if that may follow.
 fn falls(notes: &[Option<Note>], known: &KnownHere<'_>, change: Change, pair: StandIn) -> bool
     requires old { pair.slot < max_slots }
     requires new { pair.new_slot < max_slots }
     ensures { result ≡ falls notes.now (known_of known.now) change pair.slot pair.new_slot pair.insn pair.moved }
 {
-    if !pair.insn.goes_on() {
+    if !may_fall(known.facts, &pair.insn) {
         return true;
     }
     let arrival = Arrival {
@@ -68,7 +81,7 @@ fn leads(notes: &[Option<Note>], known: &KnownHere<'_>, change: Change, pair: St
     requires new { pair.new_slot < max_slots }
     ensures { result ≡ leads notes.now (known_of known.now) change pair.slot pair.new_slot pair.insn pair.moved }
 {
-    let Some(slot) = led(pair.slot, &pair.insn) else {
+    let Some(slot) = may_lead(known.facts, pair.slot, &pair.insn) else {
         return true;
     };
     let Some(new_slot) = led(pair.new_slot, &pair.moved) else {
@@ -146,7 +159,7 @@ pub fn extra<O: Code>(
     known: &KnownHere<'_>,
     moved: &Insn,
 ) -> Option<Change>
-    ensures { result ≡ extra (front (O.program old.now) site.slot site.length) (known_of known.now) moved.now }
+    ensures { result ≡ extra (front (O.program old.now) site) (known_of known.now) moved.now }
 {
     if passes(old, site, known.facts, moved) || has_turn(known.counters, site.slot, moved) {
         Some(Change::Kept)
@@ -173,7 +186,7 @@ fn adds<O: Code>(
     moved: &Insn,
 ) -> bool
     requires { at.new_slot < max_slots }
-    ensures { result ≡ adds notes.now (front (O.program old.now) at.site.slot at.site.length) (known_of known.now) at.left at.new_slot moved.now }
+    ensures { result ≡ adds notes.now (front (O.program old.now) at.site) (known_of known.now) at.left at.new_slot moved.now }
 {
     match extra(old, at.site, known, moved) {
         Some(change) => {
@@ -246,7 +259,7 @@ fn is_body<O: Code, N: Code>(
 fn adds_at<O: Code>(old: &O, notes: &[Option<Note>], at: NewSlot, note: &Note, moved: &Insn) -> bool
     requires some { 0 < note.now.extras }
     requires below { at.slot < max_slots }
-    ensures { result ≡ adds notes.now (front (O.program old.now) note.now.old at.bounds.length) (known_for at.bounds.turns at.left note.now) (note.now.extras - 1) at.slot moved.now }
+    ensures { result ≡ adds notes.now (front (O.program old.now) (record { slot = note.now.old; bounds = at.bounds })) (known_for at.bounds.turns at.left note.now) (note.now.extras - 1) at.slot moved.now }
 {
     let facts = facts_at(note);
     let known = KnownHere {
@@ -258,7 +271,7 @@ fn adds_at<O: Code>(old: &O, notes: &[Option<Note>], at: NewSlot, note: &Note, m
     };
     let site = GuardSite {
         slot: note.old,
-        length: at.bounds.length,
+        bounds: at.bounds,
     };
     let extra_at = ExtraAt {
         site,

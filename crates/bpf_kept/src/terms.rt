@@ -1,7 +1,7 @@
 //! Arithmetic on terms, modulo 2^64.
 
 ghost use Rattle.std.specs.Prelude.{◌≡◌};
-ghost use Rattle.bpf_kept.specs.Terms.{constant, zero_term, context_offset, frame_offset, frame_end, plus, opposite, negated, minus, times};
+ghost use Rattle.bpf_kept.specs.Terms.{constant, zero_term, context_offset, frame_offset, frame_end, plus, opposite, negated, minus, number_pin, pinned_number, times};
 ghost use Rattle.bpf_kept.specs.Rules.{same_term, is_high, is_enough, is_zero, is_offset, are_offsets};
 
 use crate::notes::Term;
@@ -83,6 +83,24 @@ pub fn minus(a: Term, b: Term) -> Term
     ensures { result ≡ minus a b }
 {
     plus(a, negated(b))
+}
+
+/// What makes 0 with a number.
+pub fn number_pin(n: u64) -> Term
+    ensures { result ≡ number_pin n }
+{
+    negated(constant(n))
+}
+
+/// The number that makes 0 with it, if it is one wherever frames lie.
+pub fn pinned_number(t: Term) -> Option<u64>
+    ensures { result ≡ pinned_number t }
+{
+    if t.frames == 0 {
+        Some(opposite(t.moved))
+    } else {
+        None
+    }
 }
 
 /// What it adds, so often.

@@ -28,7 +28,7 @@ filter_texts =
     codes "it loads one of Linux's extensions, which a packet doesn't hold" ∷
     codes "the bytes end inside of an instruction: each has 8" ∷
     codes "out of memory" ∷
-    codes "the checker doesn't take the certificate that was made" ∷
+    codes "the program that was made isn't shown to keep the filter's answers" ∷
     []
 
 -- why a program isn't hardened or certified, H1 to H15

@@ -107,6 +107,7 @@ abbrev pub filter_at : FilterRefusal → At
 filter_at filters.Length = Nowhere
 filter_at (filters.Instruction at fault) = Instruction at
 filter_at filters.Memory = Nowhere
+filter_at filters.Unshown = Nowhere
 
 abbrev pub told_filter : FilterRefusal → Told
 told_filter r = told_at letters.Classic (filter_number r) (filter_at r)

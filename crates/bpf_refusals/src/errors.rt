@@ -38,7 +38,7 @@ impl Tells for TextError {
     }
 }
 
-/// B1 to B7, B9: instructions are no filter.
+/// B1 to B7, B9, B10: instructions are no filter, or no program is made of one.
 impl Tells for FilterRefusal {
     ghost use Rattle.bpf_refusals.specs.Told.{told_filter};
 
@@ -47,7 +47,7 @@ impl Tells for FilterRefusal {
     fn told(&self) -> Told {
         let at = match *self {
             FilterRefusal::Instruction { at, .. } => At::Instruction(u64::from(at)),
-            FilterRefusal::Length | FilterRefusal::Memory => At::Nowhere,
+            FilterRefusal::Length | FilterRefusal::Memory | FilterRefusal::Unshown => At::Nowhere,
         };
         Told::new(Letter::Classic, self.number(), at)
     }

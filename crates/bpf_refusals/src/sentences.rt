@@ -42,7 +42,7 @@ pub fn filter_sentence(number: u32) -> Option<&'static str>
         7 => Some("it loads one of Linux's extensions, which a packet doesn't hold"),
         8 => Some("the bytes end inside of an instruction: each has 8"),
         9 => Some("out of memory"),
-        10 => Some("the checker doesn't take the certificate that was made"),
+        10 => Some("the program that was made isn't shown to keep the filter's answers"),
         _ => None,
     }
 }

@@ -49,7 +49,7 @@ is_call : Insn → Bool
 is_call (CallLocal off) = true
 is_call i = false
 
-call_or_not : (i : Insn) → ((off : ℤ) × (i ≡ CallLocal off)) ⊎ ((off : ℤ) → i ≡ CallLocal off → ⊥)
+pub call_or_not : (i : Insn) → ((off : ℤ) × (i ≡ CallLocal off)) ⊎ ((off : ℤ) → i ≡ CallLocal off → ⊥)
 unfolding is_call
 call_or_not (CallLocal off) = inl (off, refl)
 call_or_not i = inr (λ off e. false≢true (ap is_call e))
@@ -280,7 +280,7 @@ module _ (p : Instructions) (c : CertificateView) (laws : Laws) (program : IsPro
   one_run m m' step = (m, refl, step)
 
   -- an instruction that is no CALL and no EXIT
-  step_advance : (m m' : machine.State) (budget spent : ℕ) (h : Here p c m budget spent) → ((off : ℤ) → h.insn ≡ CallLocal off → ⊥) → (h.insn ≡ Exit → ⊥) → Step p m m' → Advances p c m m' h.function budget spent
+  pub step_advance : (m m' : machine.State) (budget spent : ℕ) (h : Here p c m budget spent) → ((off : ℤ) → h.insn ≡ CallLocal off → ⊥) → (h.insn ≡ Exit → ⊥) → Step p m m' → Advances p c m m' h.function budget spent
   step_advance m m' budget spent h calls_not no_exit step = by_move (moves laws p c h.x h.insn h.arrival.state m m' (judged m budget spent h) calls_not no_exit step)
     where
       state : machine.IsState m'
@@ -313,9 +313,16 @@ module _ (p : Instructions) (c : CertificateView) (laws : Laws) (program : IsPro
   abbrev pub Callees : ℕ → Type 0
   Callees d = (m : machine.State) (budget : ℕ) (h : Here p c m budget 0) → h.function.depth < d → ReachesExit p c m h.function budget 0
 
-  call_advance : (m : machine.State) (budget spent : ℕ) (h : Here p c m budget spent) (off : ℤ) → h.insn ≡ CallLocal off → Callees h.function.depth → (m1 : machine.State) → Step p m m1 → (m' : machine.State) × Advances p c m m' h.function budget spent
+  -- A CALL leads to the callee's entry. From its EXIT in the same frame, in time, the caller goes on behind the CALL.
+  pub record Entered (m m1 : machine.State) (function : FunctionView) (budget spent : ℕ) : Type 0 where
+    pub callee_budget : ℕ
+    pub here : Here p c m1 callee_budget 0
+    pub deeper : here.function.depth < function.depth
+    pub back : (r : ReachesExit p c m1 here.function callee_budget 0) → (m' : machine.State) × Step p r.state m' × Advances p c m m' function budget spent
+
+  pub call_enters : (m : machine.State) (budget spent : ℕ) (h : Here p c m budget spent) (off : ℤ) → h.insn ≡ CallLocal off → (m1 : machine.State) → Step p m m1 → Entered m m1 h.function budget spent
   unfolding here_at_label
-  call_advance m budget spent h off e callees m1 step = (back.state, next_advance m back.state budget spent h (suc (suc r.steps)) (spent + 1 + most.0) (laws.step_keeps_states p r.state back.state program r.state_is back.step) to leads_back run (omega arith) in_time spends back.waiting_is)
+  call_enters m budget spent h off e m1 step = record { callee_budget = a.budget; here = at_entry; deeper = g.deeper; back = returned }
     where
       g : IsCallee m off h.function
       g = callee_of m budget spent h off e
@@ -358,22 +365,13 @@ module _ (p : Instructions) (c : CertificateView) (laws : Laws) (program : IsPro
       shallow : machine.depth m1 + g.callee_function.depth ≤ 8
       shallow = let d = ap length en.waiting in let less = g.deeper in let deep = h.shallow in omega arith
 
-      r : ReachesExit p c m1 g.callee_function a.budget 0
-      r = callees m1 a.budget (here_at_label m1 g.callee_function first.0 (callee_state h.arrival.state) h.x (ap (function_at c) there ∙ first.2) shallow l_is (laws.step_keeps_states p m m1 program h.state step) a) g.deeper
+      at_entry : Here p c m1 a.budget 0
+      at_entry = here_at_label m1 g.callee_function first.0 (callee_state h.arrival.state) h.x (ap (function_at c) there ∙ first.2) shallow l_is (laws.step_keeps_states p m m1 program h.state step) a
 
-      back : Leaves p r.state en.caller m.waiting
-      back = leaves p r.state en.caller m.waiting r.value r.at_exit (r.waiting_same ∙ en.waiting) r.value_is
-
-      leads_back : abstract.Leads p c.least c.most h.x (next_state p c m.top.slot h.insn h.arrival.state) back.state
-      leads_back =
+      leads_back : (r : ReachesExit p c m1 g.callee_function a.budget 0) (back : Leaves p r.state en.caller m.waiting) → abstract.Leads p c.least c.most h.x (next_state p c m.top.slot h.insn h.arrival.state) back.state
+      leads_back r back =
           subst (λ o. abstract.Leads p c.least c.most h.x o back.state) (sym (ap (λ i. next_state p c m.top.slot i h.arrival.state) e ∙ ap (option_and_then (λ g. caller_state g.ret h.arrival.state)) g.callee_is))
           (laws.leave_keeps p c.least c.most h.x off h.arrival.state m m1 r.state back.state g.callee_function.ret r.value (record { judged = j; enters = step; waits = r.waiting_same; length_within = r.context_is; at_exit = r.at_exit; gives = r.value_is; is_number = certificate.returns g.callee_function g.is_element; has = r.returns; leaves = back.step }))
-
-      run : Steps p (suc (suc r.steps)) m back.state
-      run = (r.state, first_step p r.steps m m1 r.state step r.run, back.step)
-
-      to : back.state.top.slot ≡ m.top.slot + slot_count h.insn
-      to = back.to ∙ en.caller_slot ∙ ap (λ i. m.top.slot + slot_count i) (sym e)
 
       -- the callee's greatest budget over the state at the CALL
       has : HasBounds h.arrival.state first.0.terms
@@ -391,8 +389,8 @@ module _ (p : Instructions) (c : CertificateView) (laws : Laws) (program : IsPro
       most : (n : ℕ) × (greatest.greatest ≡ pos n)
       most = let b = a.budget_is in let u = greatest.above in natural greatest.greatest (omega (arith, ints))
 
-      in_time : suc (suc r.steps) + spent ≤ spent + 1 + most.0
-      in_time = let t = r.in_time in let b = a.budget_is in let u = greatest.above in let n = most.1 in omega (arith, ints)
+      in_time : (r : ReachesExit p c m1 g.callee_function a.budget 0) → suc (suc r.steps) + spent ≤ spent + 1 + most.0
+      in_time r = let t = r.in_time in let b = a.budget_is in let u = greatest.above in let n = most.1 in omega (arith, ints)
 
       spends : cost_after c m.top.slot h.insn h.arrival ≡ Some (pos (spent + 1 + most.0))
       spends =
@@ -401,6 +399,22 @@ module _ (p : Instructions) (c : CertificateView) (laws : Laws) (program : IsPro
           ∙ ap (option_map (λ more. (pos spent +ℤ pos 1) +ℤ more))
           (ap (λ o. call_cost c o h.arrival.state) g.callee_is ∙ ap (option_and_then (λ l. greatest_budget (budget_of l) h.arrival.state)) first.1 ∙ greatest.is_there)
           ∙ ap Some (let n = most.1 in omega (arith, ints))
+
+      returned : (r : ReachesExit p c m1 g.callee_function a.budget 0) → (m' : machine.State) × Step p r.state m' × Advances p c m m' h.function budget spent
+      returned r =
+          let back : Leaves p r.state en.caller m.waiting = leaves p r.state en.caller m.waiting r.value r.at_exit (r.waiting_same ∙ en.waiting) r.value_is in
+          let run : Steps p (suc (suc r.steps)) m back.state = (r.state, first_step p r.steps m m1 r.state step r.run, back.step) in
+          let to : back.state.top.slot ≡ m.top.slot + slot_count h.insn = back.to ∙ en.caller_slot ∙ ap (λ i. m.top.slot + slot_count i) (sym e) in (
+            back.state,
+            back.step,
+            next_advance m back.state budget spent h (suc (suc r.steps)) (spent + 1 + most.0) (laws.step_keeps_states p r.state back.state program r.state_is back.step) to (leads_back r back) run (omega arith) (in_time r) spends back.waiting_is,
+          )
+
+  call_advance : (m : machine.State) (budget spent : ℕ) (h : Here p c m budget spent) (off : ℤ) → h.insn ≡ CallLocal off → Callees h.function.depth → (m1 : machine.State) → Step p m m1 → (m' : machine.State) × Advances p c m m' h.function budget spent
+  call_advance m budget spent h off e callees m1 step =
+      let entered = call_enters m budget spent h off e m1 step in
+      let b = entered.back (callees m1 entered.callee_budget entered.here entered.deeper) in
+      (b.0, b.2)
 
   -- ---- EXIT
 

@@ -47,6 +47,7 @@ mod Edges
 mod Frames
 mod Enter
 mod Safe
+mod Described
 mod SafetyLaw
 mod FlatRuns
 mod WellFormedLaw

@@ -25,7 +25,7 @@ is_exit : Insn → Bool
 is_exit Exit = true
 is_exit i = false
 
-exit_or_not : (i : Insn) → (i ≡ Exit) ⊎ (i ≡ Exit → ⊥)
+pub exit_or_not : (i : Insn) → (i ≡ Exit) ⊎ (i ≡ Exit → ⊥)
 unfolding is_exit
 exit_or_not Exit = inl refl
 exit_or_not i = inr (λ e. false≢true (ap is_exit e))
@@ -39,7 +39,7 @@ finish_exits : (p : Instructions) (m : machine.State) (i : Insn) (v : ℕ) → i
 unfolding finish_of
 finish_exits p m i v e f = only_exit m.waiting (machine.number_of_register m R0) i v (ap (λ o. option_and_then (λ j. result_of_exit m.waiting (machine.number_of_register m R0) j) o) (sym e) ∙ f)
 
-exit_finishes : (p : Instructions) (m : machine.State) (v : ℕ) → insn_at p.list m.top.slot ≡ Some Exit → m.waiting ≡ [] → machine.number_of_register m R0 ≡ Some v → Finish p m v
+pub exit_finishes : (p : Instructions) (m : machine.State) (v : ℕ) → insn_at p.list m.top.slot ≡ Some Exit → m.waiting ≡ [] → machine.number_of_register m R0 ≡ Some v → Finish p m v
 unfolding finish_of
 exit_finishes p m v e w r = ap (λ o. option_and_then (λ j. result_of_exit m.waiting (machine.number_of_register m R0) j) o) e ∙ ap (λ fs. result_of_exit fs (machine.number_of_register m R0) Exit) w ∙ r
 

@@ -1,6 +1,6 @@
 -- The promises of an accepted certificate, over the machine's definitions.
-use Rattle.std.specs.Prelude.{◌≡◌, ℕ, zero, suc, ◌+◌, ◌*◌, ◌≤◌, ◌<◌, ◌↔◌, ℤ, pos, ◌≤ℤ◌, List, length, take, slice_get, sum_by, Option, Some, None, option_and_then}
-use Rattle.bpf_insn.specs.Instruction.{Instructions, slots}
+use Rattle.std.specs.Prelude.{◌≡◌, ℕ, zero, suc, ◌+◌, ◌*◌, ◌≤◌, ◌<◌, ◌↔◌, ℤ, pos, ◌≤ℤ◌, List, length, take, slice_get, sum_by, Option, Some, None, option_and_then, Contains}
+use Rattle.bpf_insn.specs.Instruction.{Instructions, insn_at, slots}
 use Rattle.bpf_insn.specs.Image.{IsProgram}
 use Rattle.bpf_insn.specs.Laws.{AreBytes}
 use Rattle.bpf_semantics.specs.State as machine
@@ -10,7 +10,7 @@ use Rattle.bpf_semantics.specs.Run.{Steps, IsDone, IsFault, CanMake}
 use Rattle.bpf_semantics.specs.Flat.{Placement, FlatState, FlatStep, FlatFinish, FlatSteps}
 use Rattle.bpf_semantics.specs.Placement.{IsPlacement, IsFlatStart, StaysInside}
 use Rattle.bpf_state.specs.State.{AbstractState, IsAbstract}
-use Rattle.bpf_safety.specs.Describes.{LengthWithin}
+use Rattle.bpf_safety.specs.Describes.{Describes, LengthWithin}
 use Rattle.bpf_cert.specs.View.{CertificateView}
 use Rattle.bpf_cert.specs.Limits.{IsCertificate}
 use Rattle.bpf_safety.specs.Budget.{Budget, least_slack, Pays, HaveTagsOf}
@@ -49,6 +49,26 @@ SafeEnds = (p : Instructions) (least most bound fuel : ℕ) (context : List ℕ)
 -- what a certificate certifies is safe, for its range and within its steps
 abbrev pub CertifiedIsSafe : Type 0
 CertifiedIsSafe = (p : Instructions) (c : CertificateView) → IsProgram p.list → IsCertificate c → Certified p c → IsSafe p c.least c.most c.steps
+
+-- ---- what a certificate says of a slot describes each state of a run there
+
+-- The visit of the state's instruction has an arrival, and what is known there describes the state, in whatever frame it is.
+pub record IsDescribed (p : Instructions) (c : CertificateView) (m : machine.State) : Type 0 where
+  pub visit : Visit
+  pub is_visit : Contains (visits p c) visit
+  pub slot_is : visit.slot ≡ m.top.slot
+  pub insn_is : insn_at p.list m.top.slot ≡ Some visit.insn
+  pub arrival : Arrival
+  pub arrival_is : visit.arrival ≡ Some arrival
+  pub at_label : List ℕ
+  pub valid : IsAbstract arrival.state
+  pub described : Describes p.order c.least c.most at_label arrival.state m
+
+-- Each state that steps reach from the start on a context of an allowed length is described so.
+abbrev pub CertifiedDescribes : Type 0
+CertifiedDescribes =
+    (p : Instructions) (c : CertificateView) (context : List ℕ) (k : ℕ) (m : machine.State)
+    → IsProgram p.list → IsCertificate c → Certified p c → IsContext c.least c.most context → Steps p k (machine.start context) m → IsDescribed p c m
 
 -- ---- certificates that differ in their first line alone
 

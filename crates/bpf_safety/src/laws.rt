@@ -1,6 +1,6 @@
 //! Laws of the definitions, each as the contract of a function.
 
-ghost use Rattle.bpf_safety.specs.Theorems.{SlackIsLeast, CertifiedIsSafe, SafeHasNoFault, SafeEnds, ProgramIsFlatSafe, CertifiedIsFlatSafe, VersionIsFree, RangesInside, CertifiedWork, ComparisonsAreFew, VisitsAreAssigned};
+ghost use Rattle.bpf_safety.specs.Theorems.{SlackIsLeast, CertifiedIsSafe, CertifiedDescribes, SafeHasNoFault, SafeEnds, ProgramIsFlatSafe, CertifiedIsFlatSafe, VersionIsFree, RangesInside, CertifiedWork, ComparisonsAreFew, VisitsAreAssigned};
 
 use crate::sound::{
     branch_keeps, entails_describes, enter_keeps, leave_keeps, not_stuck_inside, start_describes,
@@ -21,6 +21,28 @@ pub fn slack_is_least()
 /// within the certificate's steps.
 pub fn certified_is_safe()
     ensures { CertifiedIsSafe }
+{
+    stuck_has_reason();
+    finish_is_last();
+    step_keeps_states();
+    start_is_state();
+    not_stuck_inside();
+    step_keeps();
+    branch_keeps();
+    waiting_frames_stay();
+    start_describes();
+    start_is_abstract();
+    tightened_describes();
+    entails_describes();
+    enter_keeps();
+    leave_keeps();
+    entails_includes();
+}
+
+/// On every context of a length in the certificate's range, each state that a run of a certified program comes to is described by what the certificate
+/// says of its slot, in every frame.
+pub fn certified_describes()
+    ensures { CertifiedDescribes }
 {
     stuck_has_reason();
     finish_is_last();

@@ -132,7 +132,7 @@ fn converted(alloc: Global, case: FilterCase<'_>) -> Result<Converted, NotConver
     };
     match convert(alloc, &filter, wanted) {
         Ok(converted) => Ok(converted),
-        Err(_) => Err(NotConverted::Memory),
+        Err(refusal) => Err(NotConverted::Filter(refusal)),
     }
 }
 
@@ -151,7 +151,9 @@ fn tell_stop(out: &mut impl Write, stop: NotConverted) -> io::Result<()> {
             let number = refusal.number();
             match refusal {
                 FilterRefusal::Instruction { at, .. } => write!(out, "B{number} at {at}"),
-                FilterRefusal::Length | FilterRefusal::Memory => write!(out, "B{number}"),
+                FilterRefusal::Length | FilterRefusal::Memory | FilterRefusal::Unshown => {
+                    write!(out, "B{number}")
+                }
             }
         }
     }

@@ -18,16 +18,12 @@ pub enum Silence {
 
 /// C11: no state reaches an instruction.
 pub fn tell_silence<W: Tell>(out: &mut W, silence: Silence) {
-    match silence {
-        Silence::Start => out.say("no state goes on here: no label stands at slot 0"),
-        Silence::Refused(slot) => {
-            write!(out, "no state goes on behind the refusal at slot {slot}");
-        }
-        Silence::Ends(slot) => write!(
-            out,
-            "no state goes on from slot {slot}, and no label stands here"
-        ),
-    }
+    let (from, slot, rest) = match silence {
+        Silence::Start => return out.say("no state goes on here: no label stands at slot 0"),
+        Silence::Refused(slot) => ("behind the refusal at slot", slot, ""),
+        Silence::Ends(slot) => ("from slot", slot, ", and no label stands here"),
+    };
+    write!(out, "no state goes on {from} {slot}{rest}");
 }
 
 /// C11: the last instruction can go on.

@@ -1,7 +1,9 @@
+use Rattle.std.proofs.Common.{◌≡◌, None, subst}
 use Rattle.bpf_answers.specs.declared.reply.Reply.TheVariants.{Each}
 use Rattle.bpf_answers.proofs.MadeLemmas.{on_failure}
 use Rattle.bpf_command.specs.declared.finding.Finding.TheVariants.{Given, Inferred, Hardened, Certified, Converted}
-use Rattle.bpf_command.proofs.ResponseLemmas.{answered, carried, silent, unprinted}
+use Rattle.bpf_command.specs.Conflicts.{conflict_of}
+use Rattle.bpf_command.proofs.ResponseLemmas.{answered, carried, fits, silent, unprinted}
 use Rattle.bpf_command.proofs.response.carry_out.Goals as goal
 
 pub returns-in-Groups : goal.returns-in-Groups
@@ -48,3 +50,6 @@ returns-in-Explain g c = rw c.in-Explain.is (carried (λ x. Given (Each x)) _ _ 
 
 pub returns-in-Migrate : goal.returns-in-Migrate
 returns-in-Migrate g c = rw c.in-Migrate.is (answered _ _ _ _ c.migrated.result c.finding_of-in-Migrate.result c.finding_of-in-Migrate.ensures.ok c.finding_of-in-Migrate.ensures.err c.migrated.ensures.ok c.migrated.ensures.err c.migrated.ensures.names)
+
+pub converted-requires : goal.converted-requires
+converted-requires g c = fits c.in-Convert.asked (subst (λ r. conflict_of r ≡ None) c.in-Convert.is c.requires)

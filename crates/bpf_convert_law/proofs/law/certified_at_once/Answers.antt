@@ -1,6 +1,0 @@
-use Rattle.bpf_convert_law.proofs.law.certified_at_once.Goals as goal
-use Rattle.bpf_convert_law.proofs.LawLemmas.{certified}
-
--- src/law.rt:6:1
-pub returns : goal.returns
-returns c = certified

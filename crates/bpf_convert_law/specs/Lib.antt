@@ -1,2 +1,0 @@
--- the certificate of a converted filter has no flaw
-pub mod Accepted
