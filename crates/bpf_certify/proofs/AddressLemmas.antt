@@ -1,5 +1,5 @@
 -- What notes on plain addresses show of a hardened program, on the machine with tags, too.
-use Rattle.std.proofs.Common.{◌≡◌, ℕ, zero, suc, ◌+◌, ◌≤◌, Bool, true, false, List, Option, Some, None, refl, sym, ap, ◌∙◌, subst, arith}
+use Rattle.std.proofs.Common.{◌≡◌, ℕ, zero, suc, ◌+◌, ◌≤◌, Bool, true, false, List, Option, Some, None, inl, refl, sym, ap, ◌∙◌, subst, arith}
 use Rattle.std.specs.Prelude.{IfSome, if◌then◌else◌}
 use Rattle.bpf_insn.specs.Image.{IsProgram}
 use Rattle.bpf_insn.specs.Instruction.{Instructions}
@@ -14,6 +14,7 @@ use Rattle.bpf_kept.specs.Meaning.{AreGiven as AreGivenThere}
 use Rattle.bpf_kept.specs.Exact.{is_at as exact_at, visits as exact_visits, EndsExactly, KeepsExactMeaning}
 use Rattle.bpf_kept.specs.Laws.{CertifiedKeepsFlatMeaning, FlatMeaningIsFar, FlatMeaningIsExact}
 use Rattle.bpf_kept.specs.Matching.{Notes, Matches}
+use Rattle.bpf_kept.specs.States.{no_states}
 use Rattle.bpf_kept.specs.Shown.{Keeps}
 use Rattle.bpf_certify.specs.Certified.{on_plain}
 
@@ -45,12 +46,12 @@ exact_is_kept old new b named exact own context v k bytes len given ends =
 -- ---- what matching notes show, of a new program with a certificate for the length
 
 pub keeps_on_addresses : (old new : Instructions) (notes : Notes) (b : Bounds) (c : CertificateView) → CertifiedKeepsFlatMeaning → FlatMeaningIsFar → FlatMeaningIsExact → IsProgram old.list
-    → IsCertifiedBy new c → c.least ≡ b.length → c.most ≡ b.length → Matches old new notes (on_plain b) → Keeps old new notes (on_plain b)
+    → IsCertifiedBy new c → c.least ≡ b.length → c.most ≡ b.length → Matches old new notes (on_plain b) no_states → Keeps old new notes (on_plain b)
 keeps_on_addresses old new notes b c law far exact program certified least most matches =
     let short = matches.short in
     let from : c.least ≤ b.length = omega arith in
     let to : b.length ≤ c.most = omega arith in
-    let flat = law old new notes (on_plain b) c program certified.program certified.certificate certified.certified from to matches in
+    let flat = law old new notes (on_plain b) no_states c program certified.program certified.certificate certified.certified from to (inl refl) matches in
     record {
       flat = flat;
       far = far old new notes (on_plain b) program (omega arith) flat;

@@ -16,6 +16,7 @@ use Rattle.bpf_follows.specs.declared.mismatch.Mismatch.{Mismatch}
 use Rattle.bpf_follows.specs.declared.mismatch.Mismatch.TheVariants.{Order, Start, At}
 use Rattle.bpf_kept.specs.Laws.{CertifiedKeepsFlatMeaning, FlatMeaningIsFar, FlatMeaningIsExact}
 use Rattle.bpf_kept.specs.Matching.{Matches as MatchesThere, StandsForExit}
+use Rattle.bpf_kept.specs.States.{no_states}
 use Rattle.bpf_kept.specs.Shown.{Keeps}
 use Rattle.bpf_certify.specs.Certified.{AreWished, IsPaid, IsRefused, IsRewritten, certify_slot, on_plain, runs_for, runs_of}
 use Rattle.bpf_certify.specs.declared.certified.Certified.{Certified}
@@ -29,7 +30,7 @@ use Rattle.bpf_certify.proofs.AddressLemmas.{by_either, exact_is_kept, if_some, 
 pub rewritten : (old : Instructions) (length : ℕ) (wish : Wish) (d : Certified) (r : Rewritten) (new : Instructions) → MatchingKeepsMeaning → CertifiedKeepsFlatMeaning → FlatMeaningIsFar → FlatMeaningIsExact
     → IsProgram old.list → r.hardened.program ≡ new → IsPaid r.hardened.program d.certificate length wish.bound d.bound → new.order ≡ old.order → AreWished wish r.turns → r.untouched ≤ frame_bytes
     → (IsTrue r.is_shown → r.on_addresses ≡ None → Matches old new r.notes.items (runs_of length wish r))
-    → IfSome r.on_addresses (λ notes. MatchesThere old new notes.items (on_plain (runs_of length wish r)))
+    → IfSome r.on_addresses (λ notes. MatchesThere old new notes.items (on_plain (runs_of length wish r)) no_states)
     → (IsTrue wish.notes → r.on_addresses ≡ None)
     → IsRewritten old length wish d r
 rewritten old length wish d r new law certified_law far exact program same paid order_is turns_are few matches addresses tags =
@@ -37,7 +38,7 @@ rewritten old length wish d r new law certified_law far exact program same paid 
     let match : IsTrue r.is_shown → r.on_addresses ≡ None → Matches old r.hardened.program r.notes.items runs = λ shown none. subst (λ q. Matches old q r.notes.items runs) (sym same) (matches shown none) in
     let there : IfSome r.on_addresses (λ notes. Keeps old r.hardened.program notes.items (on_plain runs)) =
     if_some r.on_addresses addresses (λ notes m. keeps_on_addresses old r.hardened.program notes.items runs d.certificate certified_law far exact program paid.certified paid.least paid.greatest
-    (subst (λ q. MatchesThere old q notes.items (on_plain runs)) (sym same) m)) in
+    (subst (λ q. MatchesThere old q notes.items (on_plain runs) no_states) (sym same) m)) in
     record {
       paid = paid;
       order_is = subst (λ q. q.order ≡ old.order) (sym same) order_is;

@@ -6,6 +6,7 @@ ghost use Rattle.bpf_insn.specs.Instruction.{slots};
 ghost use Rattle.bpf_insn.specs.Limits.{frame_bytes, max_context};
 ghost use Rattle.bpf_follows.specs.Matching.{Matches};
 ghost use Rattle.bpf_kept.specs.Matching.{Matches as MatchesOnAddresses};
+ghost use Rattle.bpf_kept.specs.States.{no_states};
 ghost use Rattle.bpf_changes.specs.declared.error.HardenError.TheVariants.{Memory, NoBudget};
 ghost use Rattle.bpf_certify.specs.Certified.{Answers, AreWished, IsPaid, IsRefused, IsUnjudged, IsUnpaid, certify_slot, leaving, on_plain};
 ghost use Rattle.bpf_certify.specs.declared.error.CertifyError.TheVariants.{Unhardened, Unshown};
@@ -219,7 +220,7 @@ fn judged_on_addresses(
 ) -> Result<ShownMeaning, CertifyError>
     ensures few { IfOk result (λ s. s.untouched ≤ frame_bytes) }
     ensures shown { IfOk result (λ s. IsTrue s.is_shown) }
-    ensures matches { IfOk result (λ s. IsSomeAnd s.on_addresses (λ notes. MatchesOnAddresses old.now new.now.program notes.items (on_plain (leaving runs s.untouched)))) }
+    ensures matches { IfOk result (λ s. IsSomeAnd s.on_addresses (λ notes. MatchesOnAddresses old.now new.now.program notes.items (on_plain (leaving runs s.untouched)) no_states)) }
     ensures err { IfErr result (λ e. (e ≡ Unhardened Memory) ⊎ (e ≡ Unshown mismatch)) }
 {
     let plain = RunBounds {
@@ -254,7 +255,7 @@ fn shown_of(
     ensures order { IfOk result (λ _. new.now.program.order ≡ old.now.order) }
     ensures few { IfOk result (λ s. s.untouched ≤ frame_bytes) }
     ensures shows { IfOk result (λ s. IsTrue s.is_shown → s.on_addresses ≡ None → Matches old.now new.now.program s.notes.items (leaving runs s.untouched)) }
-    ensures addresses { IfOk result (λ s. IfSome s.on_addresses (λ notes. MatchesOnAddresses old.now new.now.program notes.items (on_plain (leaving runs s.untouched)))) }
+    ensures addresses { IfOk result (λ s. IfSome s.on_addresses (λ notes. MatchesOnAddresses old.now new.now.program notes.items (on_plain (leaving runs s.untouched)) no_states)) }
     ensures tags { IsTrue wish.notes → IfOk result (λ s. s.on_addresses ≡ None) }
     ensures all { wish.unproved ≡ false → IfOk result (λ s. IsTrue s.is_shown) }
     ensures err { IfErr result (IsUnjudged old.now new.now.program runs) }

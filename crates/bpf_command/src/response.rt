@@ -33,7 +33,7 @@ fn carry_out<'a, P: Places, W: Write, H: Aside>(
     out: &mut W,
     aside: &mut H,
 ) -> Result<Finding, Failure<'a>>
-    requires { conflict_of request ≡ None }
+    requires { conflict_of request.entry ≡ None }
     ensures { Carries (names P.meets P.opens P.creates P.ends P.Writer.contents places.old places.new) (W.contents out.old) (W.contents out.new)
         request.entry result }
 {

@@ -43,7 +43,7 @@ pub fn converted<'a, P: Places>(
     places: &mut P,
     asked: Converting<'a>,
 ) -> Result<Conversion, Failure<'a>>
-    requires { is_misfit asked ≡ false }
+    requires { is_misfit asked.entry ≡ false }
     ensures ok { IfOk result (ConvertSays P.opens (placing P.creates P.ends P.Writer.contents) places.old asked.entry places.new) }
     ensures err { IfErr result (ConvertFails P.opens (placing P.creates P.ends P.Writer.contents) places.old asked.entry places.new) }
     ensures names { IfErr result (λ _. NotConverted P.opens (placing P.creates P.ends P.Writer.contents) places.old asked.entry places.new) }

@@ -98,7 +98,7 @@ pub(crate) fn made_of(
     length: u32,
 ) -> Result<(Vec<Raw>, Made), Unconvertible>
     requires short { length ≤ max_context }
-    requires room { head (form_of asked) ≤ length }
+    requires room { head (form_of asked.entry) ≤ length }
     ensures ok { IfOk result (λ found. IsMadeOf asked.entry length bytes.now found.0.items found.1) }
     ensures err { IfErr result (IsUnconvertible asked.entry bytes.now) }
 {

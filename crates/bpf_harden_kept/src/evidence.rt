@@ -5,6 +5,7 @@ ghost use Rattle.bpf_insn.specs.Limits.{frame_bytes};
 ghost use Rattle.bpf_kept.specs.Matching.{Matches};
 ghost use Rattle.bpf_kept.specs.NoteFaults.{IsNoteFault};
 ghost use Rattle.bpf_kept.specs.Shown.{bounds_of};
+ghost use Rattle.bpf_kept.specs.States.{no_states};
 
 use crate::finder::notes_of;
 use bpf_changes::Hardened;
@@ -29,7 +30,7 @@ pub fn evidence_for(
     runs: RunBounds,
 ) -> Result<EvidenceOnAddresses, AllocError>
     ensures of { IfOk result (λ found. found.untouched ≡ runs.untouched) }
-    ensures exact { IfOk result (λ found. MatchOption found.fault (Matches old.now new.now.program found.notes.items (bounds_of runs)) (IsNoteFault old.now new.now.program found.notes.items (bounds_of runs))) }
+    ensures exact { IfOk result (λ found. MatchOption found.fault (Matches old.now new.now.program found.notes.items (bounds_of runs) no_states) (IsNoteFault old.now new.now.program found.notes.items (bounds_of runs) no_states)) }
 {
     let notes = notes_of(alloc, old, new, runs)?;
     let fault = follows(old, &new.program, &notes, runs).err();
@@ -50,8 +51,8 @@ pub fn evidence_of(
 ) -> Result<EvidenceOnAddresses, AllocError>
     ensures few { IfOk result (λ found. found.untouched ≤ frame_bytes) }
     ensures all { IfOk result (λ found. IfSome found.fault (λ _. found.untouched ≡ 0)) }
-    ensures exact { IfOk result (λ found. MatchOption found.fault (Matches old.now new.now.program found.notes.items (bounds_of (record { length = runs.length; padded = runs.padded; turns = runs.turns; untouched = found.untouched })))
-        (IsNoteFault old.now new.now.program found.notes.items (bounds_of (record { length = runs.length; padded = runs.padded; turns = runs.turns; untouched = found.untouched })))) }
+    ensures exact { IfOk result (λ found. MatchOption found.fault (Matches old.now new.now.program found.notes.items (bounds_of (record { length = runs.length; padded = runs.padded; turns = runs.turns; untouched = found.untouched })) no_states)
+        (IsNoteFault old.now new.now.program found.notes.items (bounds_of (record { length = runs.length; padded = runs.padded; turns = runs.turns; untouched = found.untouched })) no_states)) }
 {
     let each = RunBounds {
         untouched: 0,

@@ -1,15 +1,15 @@
-//! A forward data flow over the slots of a hardened program, to the greatest fixed point (Kildall, 1973). Ways that the old program surely doesn't go
-//! are left out (Wegman and Zadeck, 1991).
+//! A forward data flow over the slots of a hardened program, to the greatest fixed point (Kildall, 1973). Ways that neither
+//! program goes are left out (Wegman and Zadeck, 1991).
 
 use crate::note::{FlowEdge, first_note, join};
 use crate::sites::{NewSite, sites_of};
 use crate::turns::{Head, heads_of};
 use bpf_changes::Hardened;
 use bpf_infer_base::{SlotSet, get_or, held, put};
-use bpf_insn::{Insn, MAX_SLOTS, Program, target};
+use bpf_insn::{Insn, MAX_SLOTS, Program, Reg, target};
 use bpf_kept::{
-    Change, Fact, GuardSite, KnownHere, Note, RunBounds, are_same, extra, facts_at, left_alone,
-    may_fall, paired, start_facts, start_slot, surely_falls,
+    Change, Fact, GuardSite, Holder, KnownHere, Note, RunBounds, are_same, by_itself, extra,
+    facts_at, is_dead, left_alone, paired, start_facts, start_slot,
 };
 use std::alloc::{AllocError, Global};
 
@@ -75,6 +75,10 @@ impl<'a> DataFlow<'a> {
             counters: &note.counters,
             turns: self.bounds.turns,
             left: self.left,
+            state: None,
+            back: &note.back,
+            spare: note.spare,
+            barred: note.barred,
         }
     }
 
@@ -108,6 +112,10 @@ impl<'a> DataFlow<'a> {
             counters: &[],
             turns: self.bounds.turns,
             left: self.left,
+            state: None,
+            back: &[by_itself(Holder::Register(Reg::R0))],
+            spare: None,
+            barred: None,
         };
         let way = FlowEdge {
             known: &known,
@@ -138,7 +146,7 @@ impl<'a> DataFlow<'a> {
         self.arrive(slot.saturating_add(insn.slots()), way)
     }
 
-    /// Goes on from an instruction that stands for an old one, on each way that the old one may go.
+    /// Goes on from an instruction that stands for an old one, on each way that a program may go.
     fn pass_body(&mut self, slot: u32, note: &Note, moved: &Insn) -> Result<(), AllocError> {
         let Some(insn) = self.old.at(note.old).copied() else {
             return Ok(());
@@ -154,10 +162,10 @@ impl<'a> DataFlow<'a> {
             change,
             step: Some(note.old),
         };
-        if may_fall(known.facts, &insn) {
+        if insn.goes_on() && !is_dead(&known, &insn, moved, false) {
             self.arrive(slot.saturating_add(moved.slots()), way)?;
         }
-        if surely_falls(known.facts, &insn) {
+        if is_dead(&known, &insn, moved, true) {
             return Ok(());
         }
         match led(slot, moved) {

@@ -4,8 +4,9 @@ use crate::brought::brought;
 use crate::ranks::{RANKS, rank_of};
 use crate::sites::NewSite;
 use crate::turns::Head;
+use bpf_insn::Reg;
 use bpf_kept::{
-    COUNTERS, Change, FACTS, Fact, Holder, KnownHere, Note, SLOTS, TurnsLeft, constant,
+    COUNTERS, Change, FACTS, Fact, Holder, KnownHere, Note, SLOTS, TurnsLeft, by_itself, constant,
     counts_behind, end_facts, gives, holds_behind, is_told, is_zero_slot, known_number,
     same_holder, same_slot, zero,
 };
@@ -152,6 +153,9 @@ pub fn first_note(
         zeros: [false; SLOTS],
         facts: [nothing(); FACTS],
         counters: [None; COUNTERS],
+        back: [by_itself(Holder::Register(Reg::R0)), nothing()],
+        spare: None,
+        barred: None,
     };
     for slot in 0..SLOTS as u8 {
         set_noted(&mut note.apart, slot, way.parts(slot));

@@ -1,5 +1,5 @@
 -- Guards: extra tests that never lead to their trap where the old program's run goes on to its end. Nothing here speaks of runs.
-use Rattle.std.specs.Prelude.{ℕ, zero, suc, ◌+◌, ◌%◌, ◌==◌, pos, ◌+ℤ◌, ◌-ℤ◌, int_le, Bool, false, not, ◌&&◌, ◌||◌, List, [], ◌∷◌, ◌++◌, Option, Some, None, if◌then◌else◌}
+use Rattle.std.specs.Prelude.{ℕ, zero, suc, ◌+◌, ◌%◌, ◌^◌, ◌==◌, nat_lt, pos, ◌+ℤ◌, ◌-ℤ◌, int_le, Bool, false, not, ◌&&◌, ◌||◌, List, [], ◌∷◌, ◌++◌, Option, Some, None, if◌then◌else◌}
 use Rattle.std.specs.Int.{cast_signed, w64}
 use Rattle.std.specs.List.{list_any}
 use Rattle.std.specs.Option.{option_map_or}
@@ -16,17 +16,20 @@ use Rattle.bpf_insn.specs.declared.instruction.Insn.{Insn}
 use Rattle.bpf_insn.specs.declared.instruction.Insn.TheVariants.{Alu, JumpIf}
 use Rattle.bpf_semantics.specs.Blocks.{head_bytes}
 use Rattle.bpf_semantics.specs.Flat.{addresses}
+use Rattle.bpf_state.specs.State.{AbstractState}
 use Rattle.bpf_kept.specs.Far.{middle, bytes_before}
 use Rattle.bpf_kept.specs.Meaning.{Bounds}
 use Rattle.bpf_kept.specs.Terms.{Facts}
-use Rattle.bpf_kept.specs.Rules.{same_register, is_holder, is_register, is_same, pinned, of_number}
+use Rattle.bpf_kept.specs.States.{held_number}
+use Rattle.bpf_kept.specs.Rules.{Known, same_register, is_holder, is_register, is_same, pinned}
+use Rattle.bpf_kept.specs.Behind.{of_number}
 use Rattle.bpf_kept.specs.declared.notes.Holder.{Holder}
-use Rattle.bpf_kept.specs.declared.notes.Holder.TheVariants.{Register, Slot, Length}
+use Rattle.bpf_kept.specs.declared.notes.Holder.TheVariants.{Register, Length}
 use Rattle.bpf_kept.specs.declared.notes.Term.{Term}
 use Rattle.bpf_kept.specs.declared.notes.Fact.{Fact}
-use Rattle.bpf_kept.specs.declared.reach.GuardReach.{GuardReach}
-use Rattle.bpf_kept.specs.declared.reach.GuardLimit.{GuardLimit}
-use Rattle.bpf_kept.specs.declared.reach.GuardLimit.TheVariants.{Most, Least}
+use Rattle.bpf_kept.specs.declared.reach.Reach.{Reach}
+use Rattle.bpf_kept.specs.declared.reach.Limit.{Limit}
+use Rattle.bpf_kept.specs.declared.reach.Limit.TheVariants.{Most, MostOfSmall, Least}
 use Rattle.bpf_kept.specs.declared.notes.Need.{Need}
 use Rattle.bpf_kept.specs.declared.notes.Need.TheVariants.{Below, Above}
 
@@ -53,17 +56,17 @@ farthest_ahead = 33
 -- ---- which bytes accesses go to, by a pointer: what is tested is its offset, moved
 
 -- into the context, in blocks behind the head
-abbrev pub in_context : Bounds → Term → GuardReach
+abbrev pub in_context : Bounds → Term → Reach
 in_context bounds t = record { first = bytes_before bounds.padded; end = bounds.length; moved = cast_signed w64 ((t.moved + middle) % addresses) }
 
 -- into the frame: by another register than r10 above the lowest bytes, which are left to r10
 abbrev pub first_in_frame : Bounds → Reg → ℕ
 first_in_frame bounds r = if is_frame_pointer r then 0 else bounds.untouched
 
-abbrev pub in_frame : Bounds → Term → Reg → GuardReach
+abbrev pub in_frame : Bounds → Term → Reg → Reach
 in_frame bounds t r = record { first = first_in_frame bounds r; end = frame_bytes; moved = cast_signed w64 (t.moved % addresses) }
 
-abbrev pub reach_of : Bounds → Term → Reg → Option GuardReach
+abbrev pub reach_of : Bounds → Term → Reg → Option Reach
 reach_of bounds t r = if t.frames == 0 then Some (in_context bounds t) else if t.frames == 1 then Some (in_frame bounds t r) else None
 
 -- ---- the guard's rule
@@ -82,29 +85,30 @@ unfoldable pub is_ahead : Instructions → Reg → ℕ → Need → Bool
 is_ahead old r slot need = list_any (is_met need) (accesses_ahead old r farthest_ahead slot)
 
 -- What is tested is no less than a number: an access by the pointer begins so low.
-abbrev pub begins_low : Front → Reg → GuardReach → ℕ → Bool
+abbrev pub begins_low : Front → Reg → Reach → ℕ → Bool
 begins_low front r reach least = is_ahead front.old r front.slot (Below ((pos reach.first +ℤ reach.moved) -ℤ pos least))
 
 -- It is no greater than one: an access ends so far on.
-abbrev pub ends_high : Front → Reg → GuardReach → ℕ → Bool
+abbrev pub ends_high : Front → Reg → Reach → ℕ → Bool
 ends_high front r reach most = is_ahead front.old r front.slot (Above ((pos reach.end +ℤ reach.moved) -ℤ pos most))
 
--- What passes for being no greater isn't below 0, either: that would wrap.
-abbrev pub is_within : Front → GuardLimit → Reg → GuardReach → Bool
+-- What passes for being no greater isn't below 0, either: that would wrap. A small number isn't.
+abbrev pub is_within : Front → Limit → Reg → Reach → Bool
 is_within front (Least n) r reach = begins_low front r reach n
 is_within front (Most n) r reach = begins_low front r reach 0 && ends_high front r reach n
+is_within front (MostOfSmall n) r reach = ends_high front r reach n
 
-abbrev pub is_tested_by : Front → GuardLimit → Term → Reg → Bool
+abbrev pub is_tested_by : Front → Limit → Term → Reg → Bool
 is_tested_by front limit t r = option_map_or (is_within front limit r) (reach_of front.bounds t r) false
 
-abbrev pub is_tested_in : Front → GuardLimit → Term → Holder → Bool
+abbrev pub is_tested_in : Front → Limit → Term → Holder → Bool
 is_tested_in front limit t (Register r) = is_tested_by front limit t r
 is_tested_in front limit t h = false
 
-abbrev pub is_tested : Front → GuardLimit → Fact → Bool
+abbrev pub is_tested : Front → Limit → Fact → Bool
 is_tested front limit fact = option_map_or (λ t. option_map_or (is_tested_in front limit t) fact.base false) fact.by false
 
-abbrev pub guarded : Front → Reg → GuardLimit → Fact → Bool
+abbrev pub guarded : Front → Reg → Limit → Fact → Bool
 guarded front dst limit fact = is_register dst fact.of && is_tested front limit fact
 
 -- in front of the instruction behind one of one slot
@@ -113,16 +117,16 @@ front_behind front = record { old = front.old; slot = front.slot + 1; bounds = f
 
 -- A number is tested, and then the old program adds it to a pointer whose address is known. So the number is the pointer behind the sum, moved. Of a
 -- pointer that an index has moved before, the number alone says nothing.
-abbrev pub is_added : Front → Facts → Reg → GuardLimit → Insn → Bool
+abbrev pub is_added : Front → Facts → Reg → Limit → Insn → Bool
 is_added front facts dst limit (Alu Add W64 to (FromReg r)) =
     same_register r dst && (is_same facts dst && option_map_or (λ t. is_tested_by (front_behind front) limit t to) (pinned facts (Register to)) false)
 is_added front facts dst limit i = false
 
-unfoldable pub guards_sum : Front → Facts → Reg → GuardLimit → Bool
+unfoldable pub guards_sum : Front → Facts → Reg → Limit → Bool
 guards_sum front facts dst limit = option_map_or (is_added front facts dst limit) (insn_at front.old.list front.slot) false
 
 -- what a register has is within the limit
-abbrev pub is_limited : Front → Facts → Reg → GuardLimit → Bool
+abbrev pub is_limited : Front → Facts → Reg → Limit → Bool
 is_limited front facts dst limit = list_any (guarded front dst limit) facts || guards_sum front facts dst limit
 
 -- ---- guards by where the packet ends, which the new program keeps as an offset into the block
@@ -139,7 +143,7 @@ has_end facts r = list_any (is_end r) facts
 
 -- The offset of a pointer, moved, isn't behind that end: an access by the pointer ends there or behind, and one begins so low that the number isn't
 -- below 0.
-abbrev pub is_reached_by : Front → Reg → GuardReach → Bool
+abbrev pub is_reached_by : Front → Reg → Reach → Bool
 is_reached_by front r reach = begins_low front r reach 0 && is_ahead front.old r front.slot (Above reach.moved)
 
 abbrev pub is_reached_in : Front → Term → Holder → Bool
@@ -160,8 +164,22 @@ number_reached front n fact = option_map_or (is_reached front) (of_number n fact
 abbrev pub end_reached : Front → Facts → Reg → ℕ → Bool
 end_reached front facts dst n = has_end facts dst && list_any (number_reached front n) facts
 
-unfoldable pub passes : Front → Facts → Insn → Bool
-passes front facts (JumpIf Gt W64 dst (Imm imm) off) = is_limited front facts dst (Most (extended imm))
-passes front facts (JumpIf Gt W64 dst (FromReg src) off) = has_end facts src && list_any (register_reached front dst) facts
-passes front facts (JumpIf Lt W64 dst (Imm imm) off) = end_reached front facts dst (extended imm) || is_limited front facts dst (Least (extended imm))
-passes front facts i = false
+-- ---- which tests are guards that pass
+
+-- a small number is far from all that are below 0 as offsets
+abbrev pub small_end : ℕ
+small_end = 2 ^ 62
+
+abbrev pub is_small : Option AbstractState → Reg → Bool
+is_small state r = nat_lt (held_number state r).unsigned.hi small_end
+
+-- the numbers that pass where a register is tested for being greater than one
+abbrev pub most_limit : Option AbstractState → Reg → ℕ → Limit
+most_limit state r n = if is_small state r then MostOfSmall n else Most n
+
+unfoldable pub passes : Front → Known → Insn → Bool
+passes front known (JumpIf Gt W64 dst (Imm imm) off) = is_limited front known.facts dst (most_limit known.state dst (extended imm))
+passes front known (JumpIf Gt W64 dst (FromReg src) off) = has_end known.facts src && list_any (register_reached front dst) known.facts
+passes front known (JumpIf Lt W64 dst (Imm imm) off) =
+    end_reached front known.facts dst (extended imm) || is_limited front known.facts dst (Least (extended imm))
+passes front known i = false

@@ -7,9 +7,10 @@ ghost use Rattle.bpf_insn.specs.Effects.{register_written};
 ghost use Rattle.bpf_insn.specs.Instruction.{byte_count, register_number};
 ghost use Rattle.std.specs.List.{list_any};
 ghost use Rattle.bpf_kept.specs.Fronts.{front};
-ghost use Rattle.bpf_kept.specs.Guards.{if_by, accesses_by, is_passed, is_met, is_ahead, begins_low, ends_high, is_within, is_tested_by, is_tested, guarded, front_behind, is_added, guards_sum, is_limited, is_end_term, is_end, has_end, is_reached_by, is_reached, register_reached, number_reached, end_reached, passes};
+ghost use Rattle.bpf_kept.specs.Guards.{if_by, accesses_by, is_passed, is_met, is_ahead, begins_low, ends_high, is_within, is_tested_by, is_tested, guarded, front_behind, is_added, guards_sum, is_limited, is_end_term, is_end, has_end, is_reached_by, is_reached, register_reached, number_reached, end_reached, most_limit, passes};
+ghost use Rattle.bpf_kept.specs.Knowns.{known_of};
 ghost use Rattle.bpf_kept.specs.Rules.{pinned};
-ghost use Rattle.bpf_kept.specs.declared.reach.GuardLimit.TheVariants.{Least};
+ghost use Rattle.bpf_kept.specs.declared.reach.Limit.TheVariants.{Least};
 ghost use Rattle.bpf_kept.specs.declared.notes.Holder.TheVariants.{Register};
 ghost use Rattle.bpf_insn.specs.declared.instruction.Width.TheVariants.{W64};
 ghost use Rattle.bpf_insn.specs.declared.instruction.Insn.TheVariants.{JumpIf};
@@ -18,9 +19,11 @@ ghost use Rattle.bpf_insn.specs.Limits.{max_slots};
 use crate::bounds::RunBounds;
 use crate::code::insn_at;
 use crate::facts::{is_holder, is_register, is_same, pinned, same_register};
+use crate::known::KnownHere;
 use crate::made::of_number;
 use crate::notes::{Fact, Holder, Need, Term};
-use crate::reach::{GuardLimit, GuardReach, in_context, reach_of};
+use crate::reach::{Limit, Reach, in_context, reach_of};
+use crate::states::is_small;
 use bpf_insn::{Access, AluOp, Code, Cond, Insn, Operand, Reg, Size, Width, extended};
 use bpf_semantics::HEAD_BYTES;
 
@@ -120,7 +123,7 @@ fn needed(byte: u64, moved: i64, limit: u64) -> i128
 }
 
 /// Whether an access follows that begins so low that what is tested is no less than a number.
-fn begins_low<C: Code>(old: &C, site: GuardSite, r: Reg, reach: GuardReach, least: u64) -> bool
+fn begins_low<C: Code>(old: &C, site: GuardSite, r: Reg, reach: Reach, least: u64) -> bool
     ensures { result ≡ begins_low (front (C.program old.now) site) r reach least }
 {
     let low = Need::Below {
@@ -130,7 +133,7 @@ fn begins_low<C: Code>(old: &C, site: GuardSite, r: Reg, reach: GuardReach, leas
 }
 
 /// Whether an access follows that ends so far on that what is tested is no greater than a number.
-fn ends_high<C: Code>(old: &C, site: GuardSite, r: Reg, reach: GuardReach, most: u64) -> bool
+fn ends_high<C: Code>(old: &C, site: GuardSite, r: Reg, reach: Reach, most: u64) -> bool
     ensures { result ≡ ends_high (front (C.program old.now) site) r reach most }
 {
     let high = Need::Above {
@@ -140,25 +143,20 @@ fn ends_high<C: Code>(old: &C, site: GuardSite, r: Reg, reach: GuardReach, most:
 }
 
 /// Whether accesses follow that keep what is tested within the limit.
-fn is_within<C: Code>(
-    old: &C,
-    site: GuardSite,
-    limit: GuardLimit,
-    r: Reg,
-    reach: GuardReach,
-) -> bool
+fn is_within<C: Code>(old: &C, site: GuardSite, limit: Limit, r: Reg, reach: Reach) -> bool
     ensures { result ≡ is_within (front (C.program old.now) site) limit r reach }
 {
     match limit {
-        GuardLimit::Most { most } => {
+        Limit::Most { most } => {
             begins_low(old, site, r, reach, 0) && ends_high(old, site, r, reach, most)
         }
-        GuardLimit::Least { least } => begins_low(old, site, r, reach, least),
+        Limit::MostOfSmall { most } => ends_high(old, site, r, reach, most),
+        Limit::Least { least } => begins_low(old, site, r, reach, least),
     }
 }
 
 /// Whether a number passes that is so far from a pointer of the old program.
-fn is_tested_by<C: Code>(old: &C, site: GuardSite, limit: GuardLimit, t: Term, r: Reg) -> bool
+fn is_tested_by<C: Code>(old: &C, site: GuardSite, limit: Limit, t: Term, r: Reg) -> bool
     ensures { result ≡ is_tested_by (front (C.program old.now) site) limit t r }
 {
     match reach_of(site.bounds, t, r) {
@@ -168,7 +166,7 @@ fn is_tested_by<C: Code>(old: &C, site: GuardSite, limit: GuardLimit, t: Term, r
 }
 
 /// Whether a number passes of which a fact is known.
-fn is_tested<C: Code>(old: &C, site: GuardSite, limit: GuardLimit, fact: Fact) -> bool
+fn is_tested<C: Code>(old: &C, site: GuardSite, limit: Limit, fact: Fact) -> bool
     ensures { result ≡ is_tested (front (C.program old.now) site) limit fact }
 {
     match (fact.by, fact.base) {
@@ -181,7 +179,7 @@ fn is_tested<C: Code>(old: &C, site: GuardSite, limit: GuardLimit, fact: Fact) -
 #[derive(Clone, Copy)]
 struct TestedRegister {
     dst: Reg,
-    limit: GuardLimit,
+    limit: Limit,
 }
 
 /// Whether a register passes by a fact of it.
@@ -199,13 +197,7 @@ fn guards_itself<C: Code>(old: &C, site: GuardSite, facts: &[Fact], tested: Test
 }
 
 /// Whether the sum of a pointer, whose address is known, and a number passes.
-fn is_sum_tested<C: Code>(
-    old: &C,
-    site: GuardSite,
-    facts: &[Fact],
-    limit: GuardLimit,
-    to: Reg,
-) -> bool
+fn is_sum_tested<C: Code>(old: &C, site: GuardSite, facts: &[Fact], limit: Limit, to: Reg) -> bool
     requires { site.slot < max_slots }
     ensures { result ≡ option_map_or (λ t. is_tested_by (front_behind (front (C.program old.now) site)) limit t to) (pinned facts.now (Register to)) false }
 {
@@ -256,13 +248,7 @@ fn guards_sum<C: Code>(old: &C, site: GuardSite, facts: &[Fact], tested: TestedR
 }
 
 /// Whether a register passes, by itself or behind the sum.
-fn is_limited<C: Code>(
-    old: &C,
-    site: GuardSite,
-    facts: &[Fact],
-    dst: Reg,
-    limit: GuardLimit,
-) -> bool
+fn is_limited<C: Code>(old: &C, site: GuardSite, facts: &[Fact], dst: Reg, limit: Limit) -> bool
     ensures { result ≡ is_limited (front (C.program old.now) site) facts.now dst limit }
 {
     let tested = TestedRegister { dst, limit };
@@ -299,7 +285,7 @@ fn has_end(facts: &[Fact], r: Reg) -> bool
 }
 
 /// Whether accesses follow that keep the offset of a pointer, moved, from being behind that end.
-fn is_reached_by<C: Code>(old: &C, site: GuardSite, r: Reg, reach: GuardReach) -> bool
+fn is_reached_by<C: Code>(old: &C, site: GuardSite, r: Reg, reach: Reach) -> bool
     ensures { result ≡ is_reached_by (front (C.program old.now) site) r reach }
 {
     let ends = Need::Above {
@@ -382,19 +368,29 @@ fn passes_lower<C: Code>(old: &C, site: GuardSite, facts: &[Fact], dst: Reg, lea
     ensures { result ≡ (end_reached (front (C.program old.now) site) facts.now dst least || is_limited (front (C.program old.now) site) facts.now dst (Least least)) }
 {
     passes_least(old, site, facts, dst, least)
-        || is_limited(old, site, facts, dst, GuardLimit::Least { least })
+        || is_limited(old, site, facts, dst, Limit::Least { least })
+}
+
+/// Which numbers of a register pass that is tested for being greater than one.
+fn most_limit(known: &KnownHere<'_>, dst: Reg, most: u64) -> Limit
+    ensures { result ≡ most_limit (known_of known.now).state dst most }
+{
+    if is_small(known.state, dst) {
+        Limit::MostOfSmall { most }
+    } else {
+        Limit::Most { most }
+    }
 }
 
 /// Whether a test is a guard that passes.
 #[tactic(auto, unfolding(crate::specs::Guards::passes))]
-fn passes_test<C: Code>(old: &C, site: GuardSite, facts: &[Fact], test: WideTest) -> bool
-    ensures { (off : ℤ) → result ≡ passes (front (C.program old.now) site) facts.now (JumpIf test.cond W64 test.dst test.src off) }
+fn passes_test<C: Code>(old: &C, site: GuardSite, known: &KnownHere<'_>, test: WideTest) -> bool
+    ensures { (off : ℤ) → result ≡ passes (front (C.program old.now) site) (known_of known.now) (JumpIf test.cond W64 test.dst test.src off) }
 {
+    let facts = known.facts;
     match (test.cond, test.src) {
         (Cond::Gt, Operand::Imm(imm)) => {
-            let limit = GuardLimit::Most {
-                most: extended(imm),
-            };
+            let limit = most_limit(known, test.dst, extended(imm));
             is_limited(old, site, facts, test.dst, limit)
         }
         (Cond::Gt, Operand::Reg(end)) => passes_end(old, site, facts, test.dst, end),
@@ -405,8 +401,8 @@ fn passes_test<C: Code>(old: &C, site: GuardSite, facts: &[Fact], test: WideTest
 
 /// Whether an instruction is a guard that passes.
 #[tactic(auto, unfolding(crate::specs::Guards::passes))]
-pub fn passes<C: Code>(old: &C, site: GuardSite, facts: &[Fact], insn: &Insn) -> bool
-    ensures { result ≡ passes (front (C.program old.now) site) facts.now insn.now }
+pub fn passes<C: Code>(old: &C, site: GuardSite, known: &KnownHere<'_>, insn: &Insn) -> bool
+    ensures { result ≡ passes (front (C.program old.now) site) (known_of known.now) insn.now }
 {
     let Insn::JumpIf {
         cond,
@@ -418,5 +414,5 @@ pub fn passes<C: Code>(old: &C, site: GuardSite, facts: &[Fact], insn: &Insn) ->
     else {
         return false;
     };
-    passes_test(old, site, facts, WideTest { cond, dst, src })
+    passes_test(old, site, known, WideTest { cond, dst, src })
 }

@@ -15,16 +15,17 @@ use bpf_insn::{FRAME_BYTES, Reg};
 
 /// The bytes from `first` up to `end`, counted from where the context or the frame begins. What is tested is the offset of the pointer, and `moved` more.
 #[derive(Clone, Copy)]
-pub struct GuardReach {
+pub struct Reach {
     pub first: u64,
     pub end: u64,
     pub moved: i64,
 }
 
-/// Which numbers a guard lets pass: those up to one, or those from one on.
+/// Which numbers a guard lets pass: those up to one, where what is tested may have wrapped or is small; or those from one on.
 #[derive(Clone, Copy)]
-pub enum GuardLimit {
+pub enum Limit {
     Most { most: u64 },
+    MostOfSmall { most: u64 },
     Least { least: u64 },
 }
 
@@ -43,10 +44,10 @@ fn of_frame(moved: u64) -> i64
 }
 
 /// The context's bytes; in blocks those behind the head.
-pub fn in_context(bounds: RunBounds, t: Term) -> GuardReach
+pub fn in_context(bounds: RunBounds, t: Term) -> Reach
     ensures { result ≡ in_context (bounds_of bounds) t }
 {
-    GuardReach {
+    Reach {
         first: bytes_before(bounds.padded),
         end: u64::from(bounds.length),
         moved: of_context(t.moved),
@@ -65,10 +66,10 @@ fn first_in_frame(bounds: RunBounds, r: Reg) -> u64
 }
 
 /// The frame's bytes from there on.
-fn in_frame(bounds: RunBounds, t: Term, r: Reg) -> GuardReach
+fn in_frame(bounds: RunBounds, t: Term, r: Reg) -> Reach
     ensures { result ≡ in_frame (bounds_of bounds) t r }
 {
-    GuardReach {
+    Reach {
         first: first_in_frame(bounds, r),
         end: FRAME_BYTES as u64,
         moved: of_frame(t.moved),
@@ -76,7 +77,7 @@ fn in_frame(bounds: RunBounds, t: Term, r: Reg) -> GuardReach
 }
 
 /// Which bytes accesses by a register go to, of whose pointer a number is so far.
-pub fn reach_of(bounds: RunBounds, t: Term, r: Reg) -> Option<GuardReach>
+pub fn reach_of(bounds: RunBounds, t: Term, r: Reg) -> Option<Reach>
     ensures { result ≡ reach_of (bounds_of bounds) t r }
 {
     if t.frames == 0 {

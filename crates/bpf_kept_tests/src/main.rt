@@ -2,7 +2,8 @@
 //!
 //! `old ORDER INSN ; INSN ..` and `new ORDER INSN ; INSN ..` set a program, in `little` or `big`. `none` takes all notes away, and `none SLOT` that of
 //! a new slot. `note SLOT OLD EXTRAS ITEM ..` notes something. `apart N` is a slot of the frame with something else, `zero N` one in which the old
-//! program has 0, and `counts PLACE HEAD TAKEN` a counter. Four other words are a fact: a new place, an old one, how often the frame's start is taken
+//! program has 0, and `counts PLACE HEAD TAKEN` a counter. `back` and a fact say what the function gives back (else r0 is the same), `spare N` what it
+//! never does, and `barred N` what r0 isn't. Four other words are a fact: a new place, an old one, how often the frame's start is taken
 //! away (`low`: the low halves are the same), and what is added. A place is a register, or `s` and a slot of the frame, or `len`, the packet's length.
 //! `0` in place of one is the number 0, and `m` is 2^63.
 //!
@@ -15,8 +16,8 @@ use bpf_cert::{Certificate, read};
 use bpf_insn::{Order, Program, Reg};
 use bpf_kept::{
     COUNTERS, FACTS, Fact, Holder, Note, NoteFault, RunBounds, SLOTS, Term, TurnsLeft, follows,
-    follows_certified,
 };
+use bpf_kept_pass::follows_certified;
 use bpf_text::assemble;
 use std::alloc::Global;
 use std::io::{self, BufRead, BufReader, BufWriter, Write};
@@ -29,6 +30,16 @@ const NOTES: u32 = 256;
 const NOTHING: Fact = Fact {
     of: None,
     base: None,
+    by: Some(Term {
+        frames: 0,
+        moved: 0,
+    }),
+};
+
+/// That r0 is the same.
+const SAME: Fact = Fact {
+    of: Some(Holder::Register(Reg::R0)),
+    base: Some(Holder::Register(Reg::R0)),
     by: Some(Term {
         frames: 0,
         moved: 0,
@@ -139,6 +150,15 @@ fn note_counter(note: &mut Note, place: usize, words: &mut SplitWhitespace<'_>) 
     }
 }
 
+/// The fact that four words say.
+fn fact_of(words: &mut SplitWhitespace<'_>) -> Fact {
+    Fact {
+        of: holder_of(words.next()),
+        base: holder_of(words.next()),
+        by: term_of(words),
+    }
+}
+
 /// Notes a fact, whose first word is there.
 fn note_fact(note: &mut Note, place: usize, of: &str, words: &mut SplitWhitespace<'_>) {
     let noted = Fact {
@@ -160,6 +180,9 @@ fn note_of(words: &mut SplitWhitespace<'_>) -> Note {
         zeros: [false; SLOTS],
         facts: [NOTHING; FACTS],
         counters: [None; COUNTERS],
+        back: [SAME, NOTHING],
+        spare: None,
+        barred: None,
     };
     let mut places = NextPlaces {
         facts: 0,
@@ -170,6 +193,9 @@ fn note_of(words: &mut SplitWhitespace<'_>) -> Note {
             None => break,
             Some("apart") => mark(&mut note.apart, words.next()),
             Some("zero") => mark(&mut note.zeros, words.next()),
+            Some("spare") => note.spare = Some(u64::from(number_of(words.next()))),
+            Some("barred") => note.barred = Some(u64::from(number_of(words.next()))),
+            Some("back") => note.back = [fact_of(words), NOTHING],
             Some("counts") => {
                 note_counter(&mut note, places.counters, words);
                 places.counters = places.counters.saturating_add(1);

@@ -15,7 +15,7 @@ returns-then-not-holds_at-clause-err g c = (λ holds. false≢true (sym c.if-not
 
 pub loop-slot-preserved : goal.loop-slot-preserved
 loop-slot-preserved g c =
-    one_more (λ slot. HoldsAt (g.O.Code.program c.args.old.now) (g.N.Code.program c.args.new.now) c.args.notes.now (bounds_of c.args.bounds) slot) c.loop-slot.slot c.loop-slot.invariant (c.holds_at.ensures.0 c.if-not-holds_at.false)
+    one_more (λ slot. HoldsAt (g.O.Code.program c.args.old.now) (g.N.Code.program c.args.new.now) c.args.notes.now (bounds_of c.args.bounds) None slot) c.loop-slot.slot c.loop-slot.invariant (c.holds_at.ensures.0 c.if-not-holds_at.false)
 
 pub returns-clause-exact : goal.returns-clause-exact
 returns-clause-exact g c = (
