@@ -8,5 +8,6 @@ pub mod PlaceLemmas
 pub mod StepLemmas
 pub mod RunLemmas
 pub mod OpcodeLemmas
+pub mod PairLemmas
 pub mod RegisterLemmas
 pub mod WideLemmas

@@ -7,6 +7,7 @@ mod frames;
 mod image;
 mod machine;
 mod op;
+mod pairs;
 mod runs;
 mod seldom;
 mod standing;
