@@ -7,6 +7,7 @@ mod frames;
 mod image;
 mod machine;
 mod op;
+mod opcodes;
 mod pairs;
 mod runs;
 mod seldom;
@@ -15,4 +16,5 @@ mod step;
 
 pub use fetch::Fetch;
 pub use image::{fetched_in, opcode_in, wide_in};
-pub use runs::{run, run_fetched};
+pub use opcodes::put_opcodes;
+pub use runs::{run, run_fetched, run_opcoded};
