@@ -19,8 +19,8 @@
 extern "C" {
 #endif
 
-/* The version of this header, 0.3.1, as one number: 10,000 times its first part, 100 times its second, and its third, together. */
-#define BPF_HOST_VERSION 301
+/* The version of this header, 0.3.2, as one number: 10,000 times its first part, 100 times its second, and its third, together. */
+#define BPF_HOST_VERSION 302
 
 /* The greatest image that there is, in bytes. */
 enum { BPF_IMAGE_MOST = 524288 };
@@ -66,9 +66,10 @@ struct bpf_refusal {
     uint32_t kind;      /* enum bpf_kind, but BPF_FAULT */
     uint32_t number;    /* from 1 */
     uint64_t place;     /* the slot, from 0; of BPF_CERTIFICATE and BPF_NOTES the line, from 1; of BPF_CLASSIC the filter's instruction, from 0 */
-    uint64_t condition; /* of I4 and H7: the number of the checker's condition, 3 to 12; of H13: that of BPF_MISMATCH, 1 to 7; of H14: the bound that
-                           is too great; of H15: the number of BPF_CHECK, 1 to 13; of BPF_IMAGE by bpf_follows: 0 of the old image, 1 of the new
-                           one; else 0 */
+    uint64_t condition; /* of I4 and H7: the number of the checker's condition, 3 to 12; of H13: that of BPF_MISMATCH, 1 to 9, of which M8 is that there
+                           are more notes than slots, and M9 that there is no certificate for contexts of this length; of H14: the bound that is too
+                           great; of H15: the number of BPF_CHECK, 1 to 13; of BPF_IMAGE by bpf_follows: 0 of the old image, 1 of the new one;
+                           else 0 */
 };
 
 enum bpf_end {
@@ -106,12 +107,13 @@ struct bpf_certified {
     uint32_t is_shown;      /* 1: it keeps the meaning of the old one, on those runs; 0: nobody showed it */
 };
 
-/* For which contexts and runs it is asked whether a new image keeps the meaning of an old one, as by the options of `bpf follows`. */
+/* What notes and a certificate show of two images: the contexts and runs on which the new one keeps the meaning of the old one, and its bound. */
 struct bpf_following {
     uint32_t size;      /* how many bytes a context has, at most 4,096 */
     uint32_t padded;    /* 1: a context is a block, of which the old program is given the packet; else 0 */
-    uint32_t turns;     /* for runs that come to no instruction more often; 0: 65,536 times, in bpf_follows */
-    uint32_t untouched; /* and that leave so many of the lowest bytes of each frame, at most 512, to r10 */
+    uint64_t turns;     /* runs of the old image that come to no instruction more often */
+    uint32_t untouched; /* and that leave so many of the lowest bytes of each frame to r10 */
+    uint32_t bound;     /* the greatest number of instructions of a run of the new image, which its certificate says */
 };
 
 /* The form of the contexts that a filter of classic BPF is converted for. */
@@ -155,7 +157,8 @@ int32_t bpf_host_run(const uint8_t *image, size_t image_len, uint32_t order, con
 int32_t bpf_host_run_prepared(const uint8_t *memory, size_t memory_len, const uint8_t *context, size_t context_len,
                               uint64_t fuel, struct bpf_outcome *outcome);
 int32_t bpf_host_follows(const uint8_t *old_image, size_t old_len, const uint8_t *new_image, size_t new_len, uint32_t order,
-                         const uint8_t *notes, size_t notes_len, const struct bpf_following *asked, struct bpf_refusal *refusal);
+                         const uint8_t *notes, size_t notes_len, const uint8_t *certificate, size_t certificate_len,
+                         struct bpf_following *following, struct bpf_refusal *refusal);
 size_t bpf_host_convert_size(size_t count);
 int32_t bpf_host_convert(const uint8_t *filter, size_t filter_len, uint32_t filter_order, uint32_t form, uint32_t size, uint32_t order,
                          uint8_t *made, size_t made_len, uint8_t *text, size_t text_len, struct bpf_converted *converted,
@@ -504,21 +507,27 @@ static inline int32_t bpf_convert(const void *filter, size_t count, uint32_t for
     return answer;
 }
 
-/* Whether the text of notes shows that a new image keeps the meaning of an old one. BPF_YES: on each such context on which the old one ends with
- * a number, by such a run, the new one ends with that number. BPF_NO: *refusal says why, by E (the old image where `condition` is 0, the new one
- * where it is 1), N or M. BPF_NO_MEMORY. BPF_BAD_CALL: an order or `padded` that isn't one, `size` above 4,096, or `untouched` above 512.
- * BPF_BAD_MEMORY: no bytes, no `asked`, or a refusal that lies in what is read. `bpf harden .. --notes` writes notes of what it hardens. */
+/* Whether notes and a certificate show that a new image keeps the meaning of an old one. BPF_YES: the certificate certifies the new image with the bound that
+ * *following tells. On each context on which the old one ends with a number, the new one ends with that number: on those, and by the runs, of which
+ * *following tells. The first line of the notes says which these are; look whether they are yours. BPF_NO: *refusal says why, by E (the old image where
+ * `condition` is 0, the new one where it is 1), N (the notes), K (the certificate), C (the new image by the certificate) or M, the first of these that
+ * fails. BPF_NO_MEMORY. BPF_BAD_CALL: an order that isn't one. BPF_BAD_MEMORY: no bytes, or an answer that lies in what is read. `bpf harden .. --notes
+ * FILE --certificate FILE` writes both of what it hardens. */
 static inline int32_t bpf_follows(const void *old_image, size_t old_len, const void *new_image, size_t new_len, uint32_t order,
-                                  const void *notes, size_t notes_len, const struct bpf_following *asked, struct bpf_refusal *refusal) {
+                                  const void *notes, size_t notes_len, const void *certificate, size_t certificate_len,
+                                  struct bpf_following *following, struct bpf_refusal *refusal) {
+    struct bpf_following shown = {0, 0, 0, 0, 0};
     struct bpf_refusal why = {0, 0, 0, 0};
-    struct bpf_following runs;
     int32_t answer;
-    if (!bpf_are_bytes(old_image, old_len) || !bpf_are_bytes(new_image, new_len) || !bpf_are_bytes(notes, notes_len)) return BPF_BAD_MEMORY;
-    if (!asked || !bpf_is_apart(refusal, sizeof *refusal, old_image, old_len, new_image, new_len)) return BPF_BAD_MEMORY;
-    if (!bpf_is_apart(refusal, sizeof *refusal, notes, notes_len, asked, sizeof *asked)) return BPF_BAD_MEMORY;
-    runs = *asked;
-    if (!runs.turns) runs.turns = 65536;
-    answer = bpf_host_follows(bpf_bytes(old_image), old_len, bpf_bytes(new_image), new_len, order, bpf_bytes(notes), notes_len, &runs, &why);
+    if (!bpf_are_bytes(old_image, old_len) || !bpf_are_bytes(new_image, new_len)) return BPF_BAD_MEMORY;
+    if (!bpf_are_bytes(notes, notes_len) || !bpf_are_bytes(certificate, certificate_len)) return BPF_BAD_MEMORY;
+    if (!bpf_is_apart(following, sizeof *following, old_image, old_len, new_image, new_len)) return BPF_BAD_MEMORY;
+    if (!bpf_is_apart(following, sizeof *following, notes, notes_len, certificate, certificate_len)) return BPF_BAD_MEMORY;
+    if (!bpf_is_apart(refusal, sizeof *refusal, old_image, old_len, new_image, new_len)) return BPF_BAD_MEMORY;
+    if (!bpf_is_apart(refusal, sizeof *refusal, notes, notes_len, certificate, certificate_len)) return BPF_BAD_MEMORY;
+    answer = bpf_host_follows(bpf_bytes(old_image), old_len, bpf_bytes(new_image), new_len, order, bpf_bytes(notes), notes_len, bpf_bytes(certificate),
+                              certificate_len, &shown, &why);
+    if (answer == BPF_YES && following) *following = shown;
     if (answer == BPF_NO && refusal) *refusal = why;
     return answer;
 }

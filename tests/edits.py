@@ -98,7 +98,7 @@ CONVERTERS = {
     "a word is taken for its neighbour": ["bpf_classic/auxiliary_at-exchanges-tag-and-presence", "bpf_classic/word_insn-reads-a-word-too-early"],
 }
 
-# The mistakes of checkers of notes on plain addresses.
+# The mistakes of checkers of notes.
 PLAIN = {
     "an offset that may be below 0 is compared without its sign": ["bpf_kept/turned_test-compares-offsets-without-their-sign"],
     "the low half of a pointer is taken for a number": ["bpf_kept/low_result-takes-a-low-half-for-a-number"],
@@ -110,7 +110,7 @@ PLAIN = {
     "a block is taken to have room for all that its head tells": ["bpf_kept/cuts-leaves-the-cut-out"],
     "a guard lets a store into another frame": ["bpf_kept/in_frame-lets-a-store-into-another-frame"],
     "a range test leads to a trap though no access follows": ["bpf_kept/is_ahead-takes-the-end-for-an-access", "bpf_kept/is_within-guards-what-no-access-ends-at"],
-    "a guard against low offsets leads to a trap though an access begins there": ["bpf_kept/is_within-takes-an-end-for-a-beginning", "bpf_kept/in_context-takes-the-head-for-the-packet"],
+    "a guard against low offsets leads to a trap though an access begins there": ["bpf_kept/is_within-takes-any-least-number", "bpf_kept/in_context-takes-the-head-for-the-packet"],
     "an access by the frame's end is taken to leave the lowest bytes alone": ["bpf_kept/first_in_frame-takes-the-lowest-bytes-from-r10"],
     "an offset into the frame is taken for a pointer": ["bpf_kept/is_made_good-takes-an-offset-into-the-frame-for-a-pointer"],
     "what is known by an overwritten register is kept": ["bpf_kept/rest_gives-keeps-what-is-overwritten"],
@@ -121,11 +121,26 @@ PLAIN = {
     "two turns are taken down as one": ["bpf_kept/takes_turn-takes-two-turns-as-one"],
     "the test of turns leads to its trap at the last one": ["bpf_kept/has_turn-leads-to-the-trap-at-the-last-turn", "bpf_kept/is_tested_turn-tests-behind-the-taking"],
     "a counter is taken for the old number": ["bpf_kept/is_told-takes-a-counter-for-the-old-number"],
-    "a trap's exit stands for an old one": ["bpf_kept/is_kept-takes-the-exit-of-a-trap-for-an-old-one"],
+    "a trap's exit stands for an old one": ["bpf_kept/returns-takes-the-exit-of-a-trap-for-an-old-one"],
     "the new program alone stores": ["bpf_kept/extra-lets-a-store-of-the-new-program-alone"],
-    "an edge leads elsewhere": ["bpf_kept/suits-takes-any-old-slot", "bpf_kept/leads-needs-no-target"],
-    "the start asks for nothing": ["bpf_kept/matches-takes-any-start", "bpf_kept/all_hold-leaves-the-first-slot-out"],
-    "a certificate is of another length": ["bpf_kept/is_for-takes-a-certificate-of-another-length"],
+    "an edge leads elsewhere": ["bpf_kept/suits-takes-a-later-old-slot", "bpf_kept/leads-needs-no-target"],
+    "the start asks for nothing": ["bpf_kept/begun-takes-any-start", "bpf_kept_pass/all_hold-leaves-the-first-slot-out"],
+    "a certificate is of another length": ["bpf_kept_pass/is_for-takes-a-certificate-of-another-length"],
+    "a number is taken for a small one": ["bpf_kept/is_small-takes-the-least-for-the-greatest", "bpf_kept/most_limit-takes-each-number-for-a-small-one"],
+    "a result of 64 bits is taken for one of 32": ["bpf_kept/has_few_bits-looks-at-the-least-result", "bpf_kept/widened_op-takes-a-shift-to-the-right",
+                                                  "bpf_kept/shifts_alike-takes-a-shift-by-32", "bpf_kept/is_widened-asks-for-no-low-halves"],
+    "a way that is gone is left out": ["bpf_kept/never_answers-asks-for-the-other-way", "bpf_kept/surely_not-takes-the-other-way",
+                                       "bpf_kept/surely_falls-takes-a-test-that-jumps-for-one-that-never-does", "bpf_kept/is_dead-looks-at-the-old-test-alone",
+                                       "bpf_kept/may_lead-takes-the-other-way-for-a-dead-one", "bpf_kept/may_fall-takes-the-other-way-for-a-dead-one"],
+    "a function is handed what isn't its own, or gives it back": ["bpf_kept/is_carried-hands-an-offset-into-the-frame-on", "bpf_kept/is_handed-hands-r0-on",
+                                                                  "bpf_kept/enters-takes-a-pointer-into-the-frame-back"],
+    "what a function promises is forgotten": ["bpf_kept/keeps_back-forgets-what-is-promised"],
+    "a function comes to what its caller keeps": ["bpf_kept/slot_waits-lets-a-function-come-to-a-counter", "bpf_kept/calls_here-calls-while-a-slot-in-reach-differs",
+                                                  "bpf_kept/waits-keeps-r5"],
+    "a function may give back the number that its trap answers": ["bpf_kept/is_unlike-takes-any-constant", "bpf_kept/never_holds-takes-a-number-that-may-be-the-one",
+                                                                  "bpf_kept/still_barred-outlives-a-write-to-r0", "bpf_kept/tests_barred-tests-any-register"],
+    "a state is told that reaches nothing": ["bpf_kept_pass/stated-tells-a-state-that-reaches-nothing"],
+    "what is noted of a second slot isn't looked at": ["bpf_kept_pass/hold_here-leaves-second-slots-out"],
 }
 
 # Each command, as bpf_request names it, and each call of the library for hosts, as bpf.h does.
@@ -136,7 +151,8 @@ COMMANDS = {
                 "bpf_command_core/put_beside-says-that-a-listing-stands-that-failed"],
     "check": ["bpf_command_core/check-tells-the-length-as-the-bound"],
     "explain": ["bpf_command/explain-seeks-for-length-0-whatever-was-asked", "bpf_command/explain-hardens-for-length-0-whatever-was-asked"],
-    "follows": ["bpf_command_core/follows-compares-the-old-image-with-itself"],
+    "follows": ["bpf_command_core/follows-compares-the-old-image-with-itself", "bpf_command_core/follows-takes-a-certificate-that-is-refused",
+                "bpf_command_core/follows-tells-the-length-as-the-bound"],
     "groups": ["bpf_answers/groups_line-names-divmul-for-atomic", "bpf_command_core/grouped-says-nothing-where-no-base-occurs"],
     "harden": ["bpf_command/harden-writes-what-is-not-shown"],
     "infer": ["bpf_command/infer-seeks-for-the-least-length-alone"],
@@ -156,7 +172,7 @@ CALLS = {
                          "bpf_host_calls/conversion-tells-another-bound"],
     "bpf_host_explain": ["bpf_host_calls/explain-says-yes-of-a-refused-program"],
     "bpf_host_explain_search": ["bpf_host_calls/explain_search-says-yes-of-a-refused-certificate"],
-    "bpf_host_follows": ["bpf_host_calls/follows-judges-the-old-image-beside-itself"],
+    "bpf_host_follows": ["bpf_host_calls/follows-judges-the-old-image-beside-itself", "bpf_host_calls/follows-tells-more-turns"],
     "bpf_host_harden": ["bpf_host_calls/harden-takes-any-number-for-padded"],
     "bpf_host_infer": ["bpf_host_calls/infer-proposes-for-the-greatest-length-alone", "bpf_host/bpf_host_infer-hands-the-least-on-as-the-most"],
     "bpf_host_load": ["bpf_host_calls/load-takes-twice-the-limit"],

@@ -29,7 +29,8 @@ FORMS = {
     'migrate': {0: '', 1: r'no K[1-4] at line \d+\n'},
     'explain': {0: r'[^\0]+\n', 1: r'[^\0]+\n'},
     'harden': {0: '', 1: rf'no E\d+ at slot {SLOT}\n|no H\d+ at slot {SLOT}\n'},
-    'follows': {0: r'yes length \d+ turns \d+\n', 1: rf'no E\d+ of (OLD|NEW) at slot {SLOT}\n|no N1 at line \d+\n|no M[1-7] at slot {SLOT}\n'},
+    'follows': {0: r'yes length \d+ turns \d+ bound \d+( padded)?( untouched \d+)?\n',
+                1: rf'no E\d+ of (OLD|NEW) at slot {SLOT}\n|no N1 at line \d+\n|no K[1-4] at line \d+\n|no C\d+ at slot {SLOT}\n|no M[1-9] at slot {SLOT}\n'},
 }
 ERRORS = {2: r'bad hex\n|context too long\n|most below least\n|words that don\'t go together\n|error: [^\0]*', 3: r'cannot (read|write) [^\n]*\n|no memory\n'}
 
@@ -191,13 +192,16 @@ def try_followed(run, r, image, order):
     """An image that is hardened, and the new one and the notes as they are or altered: where the notes still show that it keeps the meaning,
     it does on random contexts."""
     old, length = run.put('i.img', image), r.choice([0, 1, 4, 16, 64, 128])
-    if run.bpf('harden', *order, old, str(length), 'n.img', '--unproved', '--notes', 'n.notes')[0] != 0:
+    if run.bpf('harden', *order, old, str(length), 'n.img', '--unproved', '--notes', 'n.notes', '--certificate', 'n.cert')[0] != 0:
         return 0
     if r.random() < 0.7:
         run.put('n.img', altered_bytes(r, run.get('n.img')))
+        if r.random() < 0.5 and run.bpf('infer', '--deep', *order, 'n.img', str(length), 'a.cert')[0] == 0:
+            run.put('n.cert', run.get('a.cert'))
     if r.random() < 0.7:
         run.put('n.notes', altered_text(r, run.get('n.notes').decode()).encode('latin-1'))
-    if run.bpf('follows', *order, old, 'n.img', 'n.notes', str(length))[0] != 0:
+    status, said = run.bpf('follows', *order, old, 'n.img', 'n.notes', 'n.cert')
+    if status != 0 or not re.fullmatch(rf'yes length {length} turns 65536 bound \d+\n', said):
         return 0
     for _ in range(4):
         context = hex_of(bytes(r.choice([0, 1, r.randrange(256)]) for _ in range(length)))

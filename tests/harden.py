@@ -5,11 +5,16 @@
   frame and local functions, in both orders, and their packets in blocks;
 - the images of examples/c, and random programs, with one byte changed;
 - programs of many loops and accesses, each of which has to be shown to keep the meaning;
-- the longest programs, whose notes have to be read.
+- the longest programs, whose notes have to be read;
+- the images of tests/plain, which compute with pointers as native code does: by bpf-gcc -O1 a hash and a parser whose loops end at `~p + end`, by clang
+  14 programs of tests/natural, and one that copies padding. Each is shown to keep the meaning, and answers what the old one does on plain addresses.
+  New images that are altered, and answer otherwise, are refused by `follows`.
 
 Each that is hardened gets a certificate by `infer --deep`. On random contexts it ends with the number that the old program ends with;
-where the old one leaves the context or its frame (F3) it goes to the trap. Refusals are counted, and have a number. What `follows` says of
-each with its notes is counted, too, and without `--unproved` `harden` writes the same exactly where that is yes.
+where the old one leaves the context or its frame (F3) it goes to the trap. Where the old one puts pointers in order (F6), it is run on plain
+addresses, too: where it ends with one number wherever memory lies far, and the new one is shown to keep the meaning, that ends with it. Refusals are
+counted, and have a number. What `follows` says of each with its notes and its certificate is counted, too, and without `--unproved` `harden` writes
+the same exactly where that is yes.
 """
 import collections
 import os
@@ -21,6 +26,12 @@ import sys
 import tempfile
 from concurrent.futures import ThreadPoolExecutor
 
+import flat
+import natural
+
+PLAIN = pathlib.Path(__file__).resolve().parent / 'plain'
+# How long the contexts of their programs are.
+LENGTHS = {'aligned': 64, 'backwards': 96, 'cursor': 128, 'fnv-gcc': 64, 'json-gcc': 64, 'padding': 16, 'quic': 64, 'walkptr': 100}
 EXAMPLES = pathlib.Path(__file__).resolve().parent.parent / 'examples' / 'c'
 TRAP = 0x7261707472617074
 STEPS = 60_000
@@ -66,7 +77,7 @@ class Program:
             self.lines.append(f'{register} {self.rng.choice(["&= 15", ">>= 3", "&= 63", "<<= 1", "+= -3"])}')
 
     def statement(self, base, depth):
-        kinds = ['index', 'pair', 'walk', 'count', 'halve', 'array'] + ['branch', 'nest'] * (depth > 0) + ['call'] * (self.has_call and base == 'r6')
+        kinds = ['index', 'pair', 'walk', 'count', 'halve', 'array', 'order'] + ['branch', 'nest'] * (depth > 0) + ['call'] * (self.has_call and base == 'r6')
         getattr(self, self.rng.choice(kinds))(base, depth)
 
     def index(self, base, _):
@@ -99,6 +110,12 @@ class Program:
         self.byte('r2', base)
         self.lines += ['r3 = r10', f'r3 += -{bytes_}', 'r3 += r2', self.rng.choice(['*(u8 *)(r3 + 0) = 5', '*(u8 *)(r3 + 0) = r2']),
                        f'r4 = *(u8 *)(r10 - {self.rng.randrange(1, bytes_ + 1)})', 'r0 += r4']
+
+    def order(self, base, _):
+        over = self.label()
+        self.byte('r2', base)
+        self.lines += [f'r3 = {base}', f'r3 += {self.rng.randrange(self.length)}', f'r4 = {base}', 'r4 += r2',
+                       f'if r4 {self.rng.choice([">", ">=", "<", "<="])} r3 goto {over}', f'r5 = *(u8 *)({self.rng.choice(["r3", "r4"])} + 0)', 'r0 ^= r5', f'{over}:']
 
     def branch(self, base, depth):
         over = self.label()
@@ -160,12 +177,12 @@ class Runner:
             if os.path.exists(os.path.join(self.folder, name)):
                 os.remove(os.path.join(self.folder, name))
         words = ['harden', 'old.img', str(length), 'new.img', '--otherwise', str(TRAP), *flags]
-        status, out = self.call(*words, '--unproved', '--notes', 'notes')
+        status, out = self.call(*words, '--unproved', '--notes', 'notes', '--certificate', 'new.cert')
         if status:
             if not re.fullmatch(r'no H\d+ at slot \d+\n', out):
                 raise Wrong(f'harden says {out!r}')
             return out.split()[1]
-        for after in (('infer', '--deep', *order, 'new.img', str(length), 'new.cert'), ('check', *order, 'new.img', 'new.cert')):
+        for after in (('infer', '--deep', *order, 'new.img', str(length), 'again.cert'), ('check', *order, 'new.img', 'new.cert')):
             status, out = self.call(*after)
             if status:
                 raise Wrong(f'{after[0]} of the hardened image says {out!r}')
@@ -178,30 +195,35 @@ class Runner:
         return 512 - max(map(int, re.findall(r'^fn .* depth (\d+)', self.get('changes').decode(), re.M)), default=0)
 
     def follow(self, length, order, harden):
-        """What `follows` says of new.img with its notes, for each run or for those that leave the bytes alone that hardening takes, and that
-        `harden` goes by it without `--unproved`: what is shown for fewer runs than all it says, and `--untouched 0` refuses it."""
-        blocks = ['--padded'] if '--padded' in harden else []
-        asked = ('follows', *order, 'old.img', 'new.img', 'notes', str(length), *blocks)
-        status, out = self.call(*asked)
-        said = re.fullmatch(rf'yes length {length} turns 65536(?: padded)?\n|no (M\d) at slot \d+\n', out)
+        """What `follows` says of new.img with its notes and its certificate, for each run or for those that leave the bytes alone that hardening
+        takes, and that `harden` goes by it without `--unproved`: what is shown for fewer runs than all it says, and `--untouched 0` refuses it."""
+        blocks = ' padded' if '--padded' in harden else ''
+        status, out = self.call('follows', *order, 'old.img', 'new.img', 'notes', 'new.cert')
+        said = re.fullmatch(rf'yes length {length} turns 65536 bound \d+{blocks}(?: untouched (\d+))?\n|no (M\d) at (slot \d+)\n', out)
         if not said:
             raise Wrong(f'follows says {out!r}')
-        self.is_shown = status == 0
+        shown, left = status == 0, int(said[1] or 0)
+        self.is_shown = shown and not left
         new = self.get('new.img')
-        taken = self.taken(harden) if status else 0
-        left = status != 0 and self.call(*asked, '--untouched', str(taken))[0] == 0
-        shown = status == 0 or left
-        self.verdicts['left' if left else said[1] or 'yes'] += 1
+        if left and left != self.taken(harden):
+            raise Wrong(f'follows says {said[0]!r}, and hardening takes {self.taken(harden)} bytes')
+        self.verdicts['left' if left else said[2] or 'yes'] += 1
         os.remove(os.path.join(self.folder, 'new.img'))
         status, out = self.call(*harden)
-        refused = (1, f'no H13 at {said[0].split(" at ")[1]}') if said[1] else None
-        if (status, out) != ((0, f'untouched {taken}\n' if left else '') if shown else refused):
+        if (status, out) != ((0, f'untouched {left}\n' if left else '') if shown else (1, f'no H13 at {said[3]}\n')):
             raise Wrong(f'follows says {said[0]!r}, and harden {out!r}')
         if left and self.call(*harden, '--untouched', '0')[0] != 1:
             raise Wrong('harden --untouched 0 takes what is shown for fewer runs')
         if shown and self.get('new.img') != new or not shown and os.path.exists(os.path.join(self.folder, 'new.img')):
             raise Wrong('harden writes something else without --unproved')
         self.put('new.img', new)
+
+
+def with_plain(run, order, cases, head):
+    """The new program's contexts, and what the old one's run ends with, of cases that also tell what the old one is given. Where pointers in order
+    are a fault (F6), and the meaning is shown to be kept, that is what it ends with on plain addresses."""
+    image, big = run.get('old.img'), bool(order)
+    return [(context, flat.far_answer(image, big, own, head) if was == 'F6' and run.is_shown else was) for context, own, was in cases]
 
 
 def compare(run, order, cases, is_exact):
@@ -233,7 +255,7 @@ def try_image(run, rng, length, order, tells):
         return why
     contexts = contexts_of(rng, length)
     old = run.on(['run', *order, 'old.img', '--steps', str(STEPS)], contexts)
-    compare(run, order, list(zip(contexts, old)), tells and not has_call(run, order))
+    compare(run, order, with_plain(run, order, list(zip(contexts, contexts, old)), 0), tells and not has_call(run, order))
     return 'same' if run.get('old.img') == run.get('new.img') else 'changed'
 
 
@@ -247,7 +269,7 @@ def try_blocks(run, rng, most, order):
     packets = [frame[:most] for frame in frames]
     blocks = [len(f).to_bytes(8, way) + p + bytes(rng.randrange(256) for _ in range(most - len(p))) for f, p in zip(frames, packets)]
     old = [run.on(['run', *order, 'old.img', '--steps', str(STEPS)], [packet])[0] for packet in packets]
-    compare(run, order, list(zip(blocks, old)), not has_call(run, order))
+    compare(run, order, with_plain(run, order, list(zip(blocks, packets, old)), 8), not has_call(run, order))
     return 'blocks'
 
 
@@ -327,7 +349,7 @@ def functions(count):
     return f'{calls}exit\n{bodies}'
 
 
-LONG = [WALK * 150, INDEX * 300, HALVE * 60, nest(3, WALK) * 40, long_loop(100), functions(250)]
+LONG = [WALK * 150, INDEX * 300, HALVE * 12, nest(3, WALK) * 40, long_loop(100), functions(100)]
 
 
 def try_long(bpf):
@@ -347,19 +369,49 @@ def try_long(bpf):
 
 
 def try_longest(bpf):
-    """Notes of the longest programs are read: those that `harden` makes, and such that say where the slot behind the last one is."""
+    """Notes of the longest programs are read, with a line for each slot. Those that `harden` writes of such a one note nothing."""
     with tempfile.TemporaryDirectory() as folder:
         run = Runner(bpf, folder)
         run.put('p.asm', b'r0 = 0\n' * 65535 + b'exit\n')
-        run.put('q.asm', b'r0 = 0\n' * 65536)
-        run.put('q-notes', b'bpfnotes 1\n' + b''.join(b'%d: first %d entry %d body %d\n' % (n, n, n, n) for n in range(65537)))
+        run.put('own-notes', b'bpfnotes 2 length 0 turns 65536 untouched 0\n' + b''.join(b'%d old %d\n' % (n, n) for n in range(65535)) + b'65535 old 65535 r0\n')
         run.call('asm', 'p.asm', 'p.img')
-        run.call('asm', 'q.asm', 'q.img')
-        run.call('harden', 'p.img', '0', 'new.img', '--notes', 'p-notes')
-        for words in (('p.img', 'new.img', 'p-notes'), ('q.img', 'q.img', 'q-notes')):
-            said = run.call('follows', *words, '0')[1]
-            if said != 'yes length 0 turns 65536\n':
-                raise Wrong(f'of the longest program follows says {said!r}')
+        run.call('harden', 'p.img', '0', 'new.img', '--unproved', '--notes', 'notes', '--certificate', 'cert')
+        for notes, wanted in (('own-notes', 'yes length 0 turns 65536 bound 65536\n'), ('notes', 'no M2 at slot 0\n')):
+            said = run.call('follows', 'p.img', 'new.img', notes, 'cert')[1]
+            if said != wanted:
+                raise Wrong(f'of the longest program follows says {said!r} by {notes}')
+
+
+def altered(run, rng, contexts, answers):
+    """How many new images with one instruction altered are certified still, answer otherwise, and are refused by `follows`."""
+    new, count = run.get('new.img'), 0
+    slots = [at for at in range(0, len(new), 8) if new[at] not in (0x00, 0x18)]
+    for at in rng.sample(slots, min(len(slots), natural.ALTERED)):
+        run.put('other.img', new[:at] + natural.ANSWER + new[at + 8:])
+        if run.call('check', 'other.img', 'new.cert')[0] != 0 or run.on(['run-checked', 'other.img', 'new.cert'], contexts) == answers:
+            continue
+        status, out = run.call('follows', 'old.img', 'other.img', 'notes', 'new.cert')
+        if status != 1 or out[:4] != 'no M':
+            raise Wrong(f'with another answer at slot {at // 8} of the new image follows says {out!r}')
+        count += 1
+    return count
+
+
+def try_plain(bpf, name):
+    """Hardens an image whose old program is run on plain addresses, wherever memory lies far, and alters the new one. How many altered ones were
+    refused."""
+    with tempfile.TemporaryDirectory() as folder:
+        run, length = Runner(bpf, folder), LENGTHS[name]
+        run.put('old.img', (PLAIN / f'{name}.img').read_bytes())
+        contexts = [bytes.fromhex(line) for line in natural.contexts(name, length)][::2]
+        wanted = [flat.far_answer(run.get('old.img'), False, context) for context in contexts]
+        why = run.hardened(length)
+        if why or not run.is_shown or None in wanted:
+            raise Wrong(f'{name}: {why or "not shown to keep the meaning of all runs"}, or it has no answer on some context')
+        answers = run.on(['run-checked', 'new.img', 'new.cert'], contexts)
+        if answers != wanted:
+            raise Wrong(f'{name}: the new image answers {answers}, and the old one on plain addresses {wanted}')
+        return altered(run, random.Random(name), contexts, answers)
 
 
 def counted(found, letter):
@@ -375,17 +427,21 @@ def main():
         try_longest(bpf)
         found = try_long(bpf)
         with ThreadPoolExecutor(os.cpu_count()) as pool:
+            others = sum(pool.map(lambda name: try_plain(bpf, name), LENGTHS))
             for each in pool.map(lambda seed: try_seed(bpf, seed), range(first, first + count)):
                 found += each
     except Wrong as wrong:
         sys.exit(f'harden.py: {wrong}')
     hardened = found['same'] + found['changed'] + found['blocks']
     refused = counted(found, 'H')
+    if others < 4 * len(LENGTHS):
+        sys.exit(f'harden.py: {others} altered images alone answered otherwise')
     if found['changed'] < count // 3:
         sys.exit(f'harden.py: of {count} programs {found["changed"]} alone were changed: {refused}')
     print(f'harden: {hardened} programs answer as before ({found["same"]} unchanged, {found["changed"]} changed, {found["blocks"]} in blocks); '
           f'refused: {refused}; shown to keep the meaning {found["yes"]}, '
-          f'{found["left"]} where the lowest bytes of frames are left alone, else {counted(found, "M")}')
+          f'{found["left"]} where the lowest bytes of frames are left alone, else {counted(found, "M")}; '
+          f'{others} altered images with other answers are refused')
 
 
 if __name__ == '__main__':

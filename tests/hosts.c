@@ -245,25 +245,26 @@ static void say_alone(uint32_t order, const struct bytes *image, uint32_t length
     free(words.at);
 }
 
-/* follows ORDER OLD NEW NOTES SIZE PADDED TURNS UNTOUCHED */
+/* follows ORDER OLD NEW NOTES CERTIFICATE */
 static void say_follows(uint32_t order, char **word) {
-    struct bytes old = read_file(word[0]), new = read_file(word[1]), notes = read_file(word[2]);
-    const struct bpf_following asked = {(uint32_t)atol(word[3]), (uint32_t)atol(word[4]), (uint32_t)atol(word[5]), (uint32_t)atol(word[6])};
+    struct bytes old = read_file(word[0]), new = read_file(word[1]), notes = read_file(word[2]), certificate = read_file(word[3]);
+    struct bpf_following shown;
     struct bpf_refusal why;
-    switch (bpf_follows(old.at, old.len, new.at, new.len, order, notes.at, notes.len, &asked, &why)) {
+    switch (bpf_follows(old.at, old.len, new.at, new.len, order, notes.at, notes.len, certificate.at, certificate.len, &shown, &why)) {
     case BPF_NO:
         if (!bpf_refusal_text(why.kind, why.number, NULL, 0)) abort();
         printf("1 no %c%u%s at %s %u\n", (int)why.kind, (unsigned)why.number, why.kind != BPF_IMAGE ? "" : why.condition ? " of NEW" : " of OLD",
-               why.kind == BPF_NOTES ? "line" : "slot", (unsigned)why.place);
+               why.kind == BPF_NOTES || why.kind == BPF_CERTIFICATE ? "line" : "slot", (unsigned)why.place);
         break;
     case BPF_YES:
-        printf("0 yes length %u turns %u", (unsigned)asked.size, (unsigned)asked.turns);
-        if (asked.untouched) printf(" untouched %u", (unsigned)asked.untouched);
-        puts(asked.padded ? " padded" : "");
+        printf("0 yes length %u turns %llu bound %u", (unsigned)shown.size, (unsigned long long)shown.turns, (unsigned)shown.bound);
+        if (shown.padded) printf(" padded");
+        if (shown.untouched) printf(" untouched %u", (unsigned)shown.untouched);
+        puts("");
         break;
     default: abort();
     }
-    free(old.at), free(new.at), free(notes.at);
+    free(old.at), free(new.at), free(notes.at), free(certificate.at);
 }
 
 /* How it is certified in exactly the room that it takes. */
@@ -440,6 +441,9 @@ static const uint8_t no_image[16] = {0xff};
 #define IMAGE image, sizeof image
 #define NO_IMAGE no_image, sizeof no_image
 #define CERTIFICATE certificate, sizeof certificate - 1
+/* Of the image in the place of itself. */
+static const char notes[] = "bpfnotes 2 length 0 turns 65536 untouched 0\n0 old 0\n1 old 1 r0\n";
+#define NOTES notes, sizeof notes - 1
 #define HUGE_LEN ((size_t)PTRDIFF_MAX + 1)
 
 static void bad_checks(void) {
@@ -666,23 +670,47 @@ static void bad_explanations(void) {
 }
 
 static void bad_following(void) {
-    const struct bpf_following asked = {0, 0, 0, 0}, two = {0, 2, 0, 0}, large = {4097, 0, 0, 0}, more = {0, 0, 0, 513};
+    static const char dear[] = "bpfcert 1 0 1\nfn 0 1 *\nat 0 1\nend\n";
+    static const char longer[] = "bpfnotes 2 length 1 turns 65536 untouched 0\n0 old 0\n1 old 1 r0\n";
+    static const char forgetful[] = "bpfnotes 2 length 0 turns 65536 untouched 0\n0 old 0\n1 old 1\n";
+    static const char more[] = "bpfnotes 2 length 0 turns 65536 untouched 0\n0 old 0\n1 old 1 r0\n2 none\n";
+    struct bpf_following shown = {7, 7, 7, 7, 7};
     struct bpf_refusal why = {7, 7, 7, 7};
-    WANTS(bpf_follows(NULL, 16, IMAGE, BPF_LITTLE, CERTIFICATE, &asked, &why), BPF_BAD_MEMORY);
-    WANTS(bpf_follows(IMAGE, NULL, 16, BPF_LITTLE, CERTIFICATE, &asked, &why), BPF_BAD_MEMORY);
-    WANTS(bpf_follows(IMAGE, IMAGE, BPF_LITTLE, NULL, 9, &asked, &why), BPF_BAD_MEMORY);
-    WANTS(bpf_follows(IMAGE, IMAGE, BPF_LITTLE, CERTIFICATE, NULL, &why), BPF_BAD_MEMORY);
-    WANTS(bpf_follows(IMAGE, IMAGE, BPF_LITTLE, CERTIFICATE, &asked, (void *)&asked), BPF_BAD_MEMORY);
-    WANTS(bpf_follows(IMAGE, IMAGE, 2, CERTIFICATE, &asked, &why), BPF_BAD_CALL);
-    WANTS(bpf_follows(IMAGE, IMAGE, BPF_LITTLE, CERTIFICATE, &two, &why), BPF_BAD_CALL);
-    WANTS(bpf_follows(IMAGE, IMAGE, BPF_LITTLE, CERTIFICATE, &large, &why), BPF_BAD_CALL);
-    WANTS(bpf_follows(IMAGE, IMAGE, BPF_LITTLE, CERTIFICATE, &more, &why), BPF_BAD_CALL);
-    WANTS(why.kind, 7);
-    WANTS(bpf_follows(IMAGE, IMAGE, BPF_LITTLE, CERTIFICATE, &asked, NULL), BPF_NO);
-    WANTS(bpf_follows(IMAGE, IMAGE, BPF_LITTLE, CERTIFICATE, &asked, &why), BPF_NO);
-    WANTS(why.kind == BPF_NOTES && why.number == 1 && why.place == 1 && !why.condition, 1);
-    WANTS(bpf_follows(IMAGE, NO_IMAGE, BPF_LITTLE, CERTIFICATE, &asked, &why), BPF_NO);
+    WANTS(bpf_follows(NULL, 16, IMAGE, BPF_LITTLE, NOTES, CERTIFICATE, &shown, &why), BPF_BAD_MEMORY);
+    WANTS(bpf_follows(IMAGE, NULL, 16, BPF_LITTLE, NOTES, CERTIFICATE, &shown, &why), BPF_BAD_MEMORY);
+    WANTS(bpf_follows(IMAGE, IMAGE, BPF_LITTLE, NULL, 9, CERTIFICATE, &shown, &why), BPF_BAD_MEMORY);
+    WANTS(bpf_follows(IMAGE, IMAGE, BPF_LITTLE, NOTES, NULL, 9, &shown, &why), BPF_BAD_MEMORY);
+    WANTS(bpf_follows(IMAGE, IMAGE, BPF_LITTLE, NOTES, certificate, HUGE_LEN, &shown, &why), BPF_BAD_MEMORY);
+    WANTS(bpf_follows(IMAGE, IMAGE, BPF_LITTLE, NOTES, CERTIFICATE, (void *)image, &why), BPF_BAD_MEMORY);
+    WANTS(bpf_follows(IMAGE, IMAGE, BPF_LITTLE, NOTES, CERTIFICATE, (void *)notes, &why), BPF_BAD_MEMORY);
+    WANTS(bpf_follows(IMAGE, IMAGE, BPF_LITTLE, NOTES, CERTIFICATE, (void *)certificate, &why), BPF_BAD_MEMORY);
+    WANTS(bpf_follows(IMAGE, IMAGE, BPF_LITTLE, NOTES, CERTIFICATE, &shown, (void *)image), BPF_BAD_MEMORY);
+    WANTS(bpf_follows(IMAGE, IMAGE, BPF_LITTLE, NOTES, CERTIFICATE, &shown, (void *)notes), BPF_BAD_MEMORY);
+    WANTS(bpf_follows(IMAGE, IMAGE, BPF_LITTLE, NOTES, CERTIFICATE, &shown, (void *)certificate), BPF_BAD_MEMORY);
+    WANTS(bpf_follows(IMAGE, IMAGE, 2, NOTES, CERTIFICATE, &shown, &why), BPF_BAD_CALL);
+    WANTS(why.kind == 7 && shown.size == 7, 1);
+    WANTS(bpf_follows(IMAGE, IMAGE, BPF_LITTLE, CERTIFICATE, NOTES, &shown, NULL), BPF_NO);
+    WANTS(bpf_follows(NO_IMAGE, NO_IMAGE, BPF_LITTLE, CERTIFICATE, NOTES, &shown, &why), BPF_NO);
+    WANTS(why.kind == BPF_IMAGE && !why.condition, 1);
+    WANTS(bpf_follows(IMAGE, NO_IMAGE, BPF_LITTLE, CERTIFICATE, NOTES, &shown, &why), BPF_NO);
     WANTS(why.kind == BPF_IMAGE && why.condition == 1, 1);
+    WANTS(bpf_follows(IMAGE, IMAGE, BPF_LITTLE, CERTIFICATE, NOTES, &shown, &why), BPF_NO);
+    WANTS(why.kind == BPF_NOTES && why.number == 1 && why.place == 1 && !why.condition, 1);
+    WANTS(bpf_follows(IMAGE, IMAGE, BPF_LITTLE, NOTES, NOTES, &shown, &why), BPF_NO);
+    WANTS(why.kind == BPF_CERTIFICATE && why.number == 1 && why.place == 1 && !why.condition, 1);
+    WANTS(bpf_follows(IMAGE, IMAGE, BPF_LITTLE, forgetful, sizeof forgetful - 1, dear, sizeof dear - 1, &shown, &why), BPF_NO);
+    WANTS(why.kind, BPF_CHECK);
+    WANTS(bpf_follows(IMAGE, IMAGE, BPF_LITTLE, forgetful, sizeof forgetful - 1, CERTIFICATE, &shown, &why), BPF_NO);
+    WANTS(why.kind == BPF_MISMATCH && why.number == 5 && why.place == 1 && !why.condition, 1);
+    WANTS(bpf_follows(IMAGE, IMAGE, BPF_LITTLE, more, sizeof more - 1, CERTIFICATE, &shown, &why), BPF_NO);
+    WANTS(why.kind == BPF_MISMATCH && why.number == 8 && !why.place, 1);
+    WANTS(bpf_follows(IMAGE, IMAGE, BPF_LITTLE, longer, sizeof longer - 1, CERTIFICATE, &shown, &why), BPF_NO);
+    WANTS(why.kind == BPF_MISMATCH && why.number == 9 && !why.place, 1);
+    WANTS(shown.size == 7 && shown.padded == 7 && shown.turns == 7 && shown.untouched == 7 && shown.bound == 7, 1);
+    why.kind = 7;
+    WANTS(bpf_follows(IMAGE, IMAGE, BPF_LITTLE, NOTES, CERTIFICATE, NULL, NULL), BPF_YES);
+    WANTS(bpf_follows(IMAGE, IMAGE, BPF_LITTLE, NOTES, CERTIFICATE, &shown, &why), BPF_YES);
+    WANTS(why.kind == 7 && !shown.size && !shown.padded && shown.turns == 65536 && !shown.untouched && shown.bound == 2, 1);
 }
 
 static void bad_certifying(void) {
@@ -872,7 +900,7 @@ static void bad_answers(void) {
 }
 
 static void bad_texts(void) {
-    static const struct { char kind; uint32_t count; } kinds[] = {{'A', 7}, {'B', 10}, {'C', 13}, {'E', 10}, {'F', 9}, {'H', 15}, {'I', 5}, {'K', 5}, {'M', 7}, {'N', 2}, {'P', 5}};
+    static const struct { char kind; uint32_t count; } kinds[] = {{'A', 7}, {'B', 10}, {'C', 13}, {'E', 10}, {'F', 9}, {'H', 15}, {'I', 5}, {'K', 5}, {'M', 9}, {'N', 2}, {'P', 5}};
     char text[128] = "as it was";
     for (size_t i = 0; i < sizeof kinds / sizeof *kinds; i++) {
         WANTS(bpf_refusal_text((uint32_t)kinds[i].kind, 0, text, sizeof text), 0);

@@ -138,9 +138,8 @@ class Table:
     def run_checked(self, order, image, certificate, context):
         self.add(bpf('run-checked', *big(order), image, certificate, context), 'run-checked', order, image, certificate, context)
 
-    def follows(self, order, old, new, notes, size, padded=0, turns=65536, untouched=0):
-        words = [*(['--padded'] if padded else []), '--turns', turns, '--untouched', untouched]
-        self.add(bpf('follows', *big(order), old, new, notes, size, *words), 'follows', order, old, new, notes, size, padded, turns, untouched)
+    def follows(self, order, old, new, notes, certificate):
+        self.add(bpf('follows', *big(order), old, new, notes, certificate), 'follows', order, old, new, notes, certificate)
 
     def certify(self, order, image, size, bound=1000000, turns=0, padded=0, unproved=0):
         """What is certified, and where the image and its certificate stand of both."""
@@ -202,25 +201,27 @@ class Table:
 
 
 def fill_follows(table, images):
-    """Pairs of images with notes: what harden made, with its own notes and with others, and what is none."""
-    none = made('none.notes', b'no notes\n')
+    """Pairs of images with notes and a certificate: what harden made, with its own and with others, and what is none."""
+    none, zero = made('none.notes', b'no notes\n'), EXAMPLES / 'length.cert'
     for name in ['every', 'order', *(path.stem for path in EXAMPLES.glob('*.asm'))]:
         for order in ['little', 'big']:
             old = images[f'{name}.text'][order]
             for padded in [0, 1]:
-                new, notes = FOLDER / f'{name}.{order}.{padded}.new', FOLDER / f'{name}.{order}.{padded}.notes'
+                new, notes, certificate = (FOLDER / f'{name}.{order}.{padded}.{what}' for what in ['new', 'notes', 'certificate'])
                 words = ['--padded'] if padded else []
-                if bpf('harden', *big(order), '--unproved', *words, old, 16, new, '--notes', notes)[0]:
+                if bpf('harden', *big(order), '--unproved', *words, old, 16, new, '--notes', notes, '--certificate', certificate)[0]:
                     continue
-                for size in [15, 16]:
-                    for turns in [1, 65536]:
-                        for untouched in [0, 512]:
-                            table.follows(order, old, new, notes, size, padded=padded, turns=turns, untouched=untouched)
-                table.follows(order, old, old, notes, 16, padded=padded)
-                table.follows(order, old, new, none, 16, padded=padded)
+                said = notes.read_bytes()
+                for was, other in [(b'', b''), (b' length 16 ', b' length 15 '), (b' turns 65536 ', b' turns 1 '), (b' untouched 0', b' untouched 512')]:
+                    changed = made(f'{name}.{order}.{padded}.{len(table.lines)}', said.replace(was, other, 1))
+                    table.follows(order, old, new, changed, certificate)
+                table.follows(order, old, old, notes, certificate)
+                table.follows(order, old, new, none, certificate)
+                table.follows(order, old, new, notes, none)
+                table.follows(order, old, new, notes, zero)
     for name in NO_IMAGES:
-        table.follows('little', images[name]['little'], images['order.text']['little'], none, 16)
-        table.follows('little', images['order.text']['little'], images[name]['little'], none, 16)
+        table.follows('little', images[name]['little'], images['order.text']['little'], none, none)
+        table.follows('little', images['order.text']['little'], images[name]['little'], none, none)
 
 
 def fill_certify(table, images):

@@ -56,12 +56,12 @@ for unproved in 0 1; do
     hardens "$root/examples/first-byte.img" 64 0 "$unproved"
     hardens "$root/examples/first-byte.img" 64 1 "$unproved"
 done
-# Pointers that are put in order: nobody shows that the meaning is kept.
-printf 'r0 = 0\nr2 = r1\nr2 += 4\nif r2 > r1 goto +1\nexit\nr0 = 1\nexit\n' >"$dir/ordered.asm"
-"$dir/bin/bpf" asm "$dir/ordered.asm" "$dir/ordered.img"
-! said=$("$dir/hardened" "$dir/ordered.img" little 16 0 0 0 "$dir/new.img" "$dir/new.cert")
-[[ $said == $("$dir/bin/bpf" harden "$dir/ordered.img" 16 "$dir/their.img") && $said == "no H13 at slot 3" ]]
-hardens "$dir/ordered.img" 16 0 1
+# A pointer that is compared with a number: nobody shows that the meaning is kept.
+printf 'r0 = 0\nr3 = *(u8 *)(r1 + 0)\nr3 += r1\nif r3 == 5 goto +1\nr0 = *(u8 *)(r3 + 0)\nexit\n' >"$dir/null.asm"
+"$dir/bin/bpf" asm "$dir/null.asm" "$dir/null.img"
+! said=$("$dir/hardened" "$dir/null.img" little 16 0 0 0 "$dir/new.img" "$dir/new.cert")
+[[ $said == $("$dir/bin/bpf" harden "$dir/null.img" 16 "$dir/their.img") && $said == "no H13 at slot 3" ]]
+hardens "$dir/null.img" 16 0 1
 pairs=()
 for image in "$root"/examples/c/*.img; do
     pairs+=("$image" "${image%.img}.cert")

@@ -225,7 +225,7 @@ def harden(*words):
 
 @case
 def names_that_lead_to_one_file():
-    """OUT, --notes and --changes have files of their own, and the notes and the changes don't come in the place of the image."""
+    """OUT, --certificate, --notes and --changes have files of their own, and none of the last three comes in the place of the image."""
     os.mkdir('folder')
     os.mkdir('other')
     os.symlink('folder', 'door')
@@ -235,15 +235,16 @@ def names_that_lead_to_one_file():
     here = os.getcwd()
     refused = (2, b"words that don't go together\n", True)
     for one, other in (('o', './o'), ('o', f'{here}/o'), ('folder/o', 'door/o'), ('folder/o', 'near'), ('near', 'other/far'), ('o', 'folder/../o')):
-        require(f'OUT {one}, notes {other}', harden(one, '--notes', other), refused)
-        require(f'OUT {one}, changes {other}', harden(one, '--changes', other), refused)
-        require(f'notes {one}, changes {other}', harden('p', '--notes', one, '--changes', other), refused)
+        for option in ('--certificate', '--notes', '--changes'):
+            require(f'OUT {one}, {option} {other}', harden(one, option, other), refused)
+        for first, second in (('--certificate', '--notes'), ('--certificate', '--changes'), ('--notes', '--changes')):
+            require(f'{first} {one}, {second} {other}', harden('p', first, one, second, other), refused)
     for name in ('i.img', './i.img', 'image', f'{here}/i.img', 'folder/../i.img'):
-        require(f'notes {name}', harden('p', '--notes', name), refused)
-        require(f'changes {name}', harden('p', '--changes', name), refused)
+        for option in ('--certificate', '--notes', '--changes'):
+            require(f'{option} {name}', harden('p', option, name), refused)
     require('what is left', (names(), names('folder'), names('other')), (['door', 'folder', 'i.img', 'image', 'near', 'other'], [], ['far']))
     # Files of their own, the image in its own place, and devices, of which nothing is lost.
-    for words in (('folder/o', '--notes', 'other/o', '--changes', 'o'), ('i.img',), ('/dev/null', '--notes', '/dev//null')):
+    for words in (('folder/o', '--notes', 'other/o', '--certificate', 'c', '--changes', 'o'), ('i.img',), ('/dev/null', '--notes', '/dev//null', '--certificate', '/dev/./null')):
         require(' '.join(words), harden(*words), (0, b'', True))
 
 

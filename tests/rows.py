@@ -25,9 +25,11 @@ must have left it, and `+++ NAME none` one that isn't there.
 
 What is checked is checked again with its certificate as version 2, and judged again as a program where the command took a view of
 the image: `list` refuses what `groups` does, and `run-checked` what `check` does. A checked run that ends, with a bound of up to
-LONGEST, is made on the plain machine of flat.py too, wherever all lies and whatever is free there."""
+LONGEST, is made on the plain machine of flat.py too, wherever all lies and whatever is free there. Where `follows` says yes, the new
+program is run beside the old one: what the old one ends with on the plain machine, wherever memory lies far, that ends with."""
 
 import os
+import random
 import re
 import shlex
 import subprocess
@@ -171,7 +173,37 @@ def is_wanted(said, wanted):
     return bool(found) and all(int(it) <= int(most) for it, most in zip(found.groups(), limits))
 
 
-AGAIN = {"check": [migrated, judged_as_program], "groups": [judged_as_program], "run-checked": [plain_runs]}
+def packets_of(length, padded, big):
+    """Some contexts of a length, each with what an old program is given of it: all, or in blocks the packet."""
+    rng = random.Random(length)
+    contexts = [bytes(length), b"\xff" * length, bytes(at & 255 for at in range(length))]
+    contexts += [bytes(rng.choice([0, 1, at & 7, rng.randrange(256)]) for at in range(length)) for _ in range(5)]
+    room = length - 8
+    if not padded:
+        return [(context, context) for context in contexts]
+    told = [room, 0, room // 2, room + 1, 1 << 40, room, 1 % (room + 1), room]
+    blocks = [count.to_bytes(8, "big" if big else "little") + context[8:] for count, context in zip(told, contexts)]
+    return [(block, block[8:8 + min(count, room)]) for count, block in zip(told, blocks)]
+
+
+def kept_meaning(bpf, room, words, said):
+    """What the new program answers otherwise than the old one, of which notes show that it keeps the meaning of all runs with so few turns."""
+    promise = re.fullmatch(r"yes length (\d+) turns (\d+) bound (\d+)( padded)?\n", said)
+    if not promise or "-" in words or int(promise[1]) > 256:
+        return ""
+    big, padded = "--big" in words, bool(promise[4])
+    old, new, _, certificate = [it for it in words[1:] if it != "--big"]
+    with open(f"{room}/{old}", "rb") as it:
+        code = it.read()
+    for context, given in packets_of(int(promise[1]), padded, big):
+        wanted = flat.far_answer(code, big, given, 8 if padded else 0, int(promise[2]))
+        answer = call(bpf, room, ["run-checked", *(["--big"] if big else []), new, certificate, context.hex() or "none"])[1]
+        if wanted is not None and answer != f"done {wanted}\n":
+            return f"on {context.hex()} the old program ends with {wanted} wherever memory lies far, and the new one says: {answer}"
+    return ""
+
+
+AGAIN = {"follows": [kept_meaning], "check": [migrated, judged_as_program], "groups": [judged_as_program], "run-checked": [plain_runs]}
 
 
 def failure_at(bpf, room, files, step):

@@ -58,10 +58,14 @@ static void *harden(void *at) {
     struct bpf_refusal why;
     size_t wanted;
     struct bpf_certified told;
-    const struct bpf_following asked = {job->verdict.least, 0, 0, 0};
+    struct bpf_following shown;
+    char notes[128];
+    int notes_len = snprintf(notes, sizeof notes, "bpfnotes 2 length %u turns 1 untouched 0\n0 old 0\n", (unsigned)job->verdict.least);
     job->wrong |= bpf_harden(job->image, job->image_len, BPF_LITTLE, job->verdict.least, NULL, NULL, 0, &wanted, &why) == BPF_BAD_CALL;
     job->wrong |= bpf_certify(job->image, job->image_len, BPF_LITTLE, job->verdict.least, NULL, NULL, 0, NULL, 0, &told, &why) == BPF_BAD_CALL;
-    job->wrong |= bpf_follows(job->image, job->image_len, job->image, job->image_len, BPF_LITTLE, "", 0, &asked, &why) != BPF_NO || why.kind != BPF_NOTES;
+    job->wrong |= bpf_follows(job->image, job->image_len, job->image, job->image_len, BPF_LITTLE, notes, (size_t)notes_len, job->certificate,
+                              job->certificate_len, &shown, &why) != BPF_NO;
+    job->wrong |= why.kind != BPF_MISMATCH;
     job->wrong |= bpf_infer(job->image, job->image_len, BPF_LITTLE, job->verdict.least, job->verdict.most, 1, NULL, 0, &wanted, &why) == BPF_BAD_CALL;
     return NULL;
 }

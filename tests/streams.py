@@ -34,7 +34,7 @@ TEXTS = {
 FILES = {
     'falling.cert': b'bpfcert 1 0 23\nfn 0 1 *\nat 0 23\nat 1 2 +1*r6\nr6 u1..10\nend\n',
     'long.cert': b'bpfcert 1 0 1200\nfn 0 1 *\nat 0 1200\nend\n',
-    'smallest.notes': b'bpfnotes 1\n0: first 0 entry 0 body 0\n1: first 1 entry 1 body 1 r0=same\n',
+    'smallest.notes': b'bpfnotes 2 length 0 turns 65536 untouched 0\n0 old 0\n1 old 1 r0\n',
     'refused.img': b'\xb7\x10\0\0\0\0\0\0',
     'refused.asm': b'r0 = 0\nr1 = r11\n',
     'refused.cert': b'bpfcert 3 0 2\n',
@@ -63,7 +63,7 @@ LINES = [
     ('groups smallest.img', b'base\n'),
     ('check smallest.img smallest.cert', b'yes length 0 bound 2\n'),
     ('run-checked smallest.img smallest.cert none', b'done 0\n'),
-    ('follows smallest.img smallest.img smallest.notes 0', b'yes length 0 turns 65536\n'),
+    ('follows smallest.img smallest.img smallest.notes smallest.cert', b'yes length 0 turns 65536 bound 2\n'),
     ('list smallest.img', b'r0 = 0\nexit\n'),
     ('migrate falling.cert -', b'bpfcert 2 0 0 23\nfn 0 1 *\nat 0 23\nat 1 2 +1*r6\nr6 u1..10\nend\n'),
     ('explain smallest.img', b'an image of 2 slots\n'),

@@ -18,13 +18,14 @@ FILES = {
     "r2 = *(u8 *)(r1 + 8)\nr1 += r2\nr0 = *(u8 *)(r1 + 0)\n" + "".join(f"r0 += r{r}\n" for r in range(4, 10)) + "exit\n",
     # The old machine has no order of pointers.
     "order.asm": "r0 = 0\nr3 = *(u8 *)(r1 + 0)\nr3 += r1\nif r3 > r1 goto +1\nexit\nr0 = *(u8 *)(r3 + 0)\nexit\n",
+    "null.asm": "r0 = 0\nr3 = *(u8 *)(r1 + 0)\nr3 += r1\nif r3 == 5 goto +1\nr0 = *(u8 *)(r3 + 0)\nexit\n",
     "round.asm": "goto -1\n",
     "itself.asm": "call -1\nexit\n",
     "wrong.asm": "r0 = \n",
     "short.img": "1234567",
 }
 
-IMAGES = ["smallest", "index", "full", "order", "round", "itself"]
+IMAGES = ["smallest", "index", "full", "order", "null", "round", "itself"]
 
 # The words, the status, and the line that helps; None where there is none.
 CASES = [
@@ -65,24 +66,26 @@ CASES = [
     ("explain smallest.img --infer 0 --harden 0", 2, "--infer and --harden: one of the two"),
     ("explain --text smallest.asm --harden 0", 2, "--text goes with IN alone, not with --harden"),
     ("explain smallest.img --harden 0 --slot 0 --dot", 2, "--slot and --dot: one of the two"),
-    ("explain order.img --harden 16", 1, None),
+    ("explain null.img --harden 16", 1, None),
     ("explain smallest.img --lines smallest.lines", 2, "--lines goes with CERT, --infer or --harden, and not with --dot"),
-    ("harden smallest.img 0 out --notes out", 2, "OUT, --notes and --changes lead to files of their own, and neither --notes nor --changes to IN"),
-    ("harden smallest.img 0 out --notes beside --changes beside", 2, "OUT, --notes and --changes lead to files of their own, and neither --notes nor --changes to IN"),
+    ("harden smallest.img 0 out --notes out", 2, "OUT, --certificate, --notes and --changes lead to files of their own, and but for OUT not to IN"),
+    ("harden smallest.img 0 out --certificate beside --changes beside", 2, "OUT, --certificate, --notes and --changes lead to files of their own, and but for OUT not to IN"),
     ("harden smallest.img 0 out", 0, "shown to keep the meaning of runs that come to no instruction more than 65536 times"),
     ("harden smallest.img 0 out --unproved --turns 7", 0, "shown to keep the meaning of runs that come to no instruction more than 7 times"),
-    ("harden full.img 16 out --untouched 0", 1, "at slot 9: the hardened program isn't shown to keep the meaning: M3: what stands in front of the instruction isn't known, or isn't what the notes say"),
+    ("harden full.img 16 out --untouched 0", 1, "at slot 6: the hardened program isn't shown to keep the meaning: M4: another instruction stands for it"),
     ("harden full.img 16 out --untouched 16", 0, "shown to keep the meaning of runs that come to no instruction more than 65536 times, and to the lowest 16 bytes of a frame by r10 alone"),
     ("harden full.img 16 out", 0, "shown to keep the meaning of runs that come to no instruction more than 65536 times, and to the lowest 16 bytes of a frame by r10 alone"),
     ("harden index.img 128 out --padded", 0, "shown to keep the meaning of runs that come to no instruction more than 65536 times"),
-    ("harden order.img 16 out --unproved", 0, "not shown to keep the meaning: M4 at slot 3"),
-    ("harden order.img 16 out", 1, "`bpf explain order.img --harden 16` tells why"),
-    ("harden order.img 16 out --padded", 1, "`bpf explain order.img --harden 16 --padded` tells why"),
+    ("harden order.img 16 out", 0, "shown to keep the meaning of runs that come to no instruction more than 65536 times"),
+    ("harden null.img 16 out --unproved", 0, "at slot 3: the hardened program isn't shown to keep the meaning: M5: the instruction reads what may be something else in the new program; "
+     "where it puts pointers into the frame in order, compare offsets, not pointers"),
+    ("harden null.img 16 out", 1, "`bpf explain null.img --harden 16` tells why"),
+    ("harden null.img 16 out --padded", 1, "`bpf explain null.img --harden 16 --padded` tells why"),
     ("harden itself.img 0 out", 1, "`bpf explain itself.img --harden 0` tells why"),
     ("harden short.img 0 out", 1, "`bpf explain short.img` tells why"),
     ("harden --big short.img 0 out", 1, "`bpf explain --big short.img` tells why"),
     ("infer short.img 0 out", 1, "`bpf explain short.img` tells why"),
-    ("follows smallest.img smallest.img smallest.cert 0", 1, None),
+    ("follows smallest.img smallest.img smallest.cert smallest.cert", 1, None),
 ]
 
 # A name with control characters, and how it is told.

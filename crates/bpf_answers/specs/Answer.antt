@@ -14,7 +14,7 @@ use Rattle.bpf_text.specs.declared.error.TextError.TheVariants.{Form, Range, Def
 use Rattle.bpf_infer_base.specs.RefusalNumbers.{condition_number}
 use Rattle.bpf_infer_base.specs.declared.error.InferError.{InferError}
 use Rattle.bpf_infer_base.specs.declared.error.InferError.TheVariants.{Unstable, NoBudget, Recursion, Fault as NoState, Memory as InferMemory}
-use Rattle.bpf_follows.specs.declared.notes.Bounds.{Bounds}
+use Rattle.bpf_kept.specs.declared.bounds.Bounds.{Bounds}
 use Rattle.bpf_refusals.specs.Letters.{code_of}
 use Rattle.bpf_refusals.specs.Told.{at_number, told_at, told_certificate, told_check, told_hardening, told_image, told_mismatch, told_not_shown, told_notes}
 use Rattle.bpf_refusals.specs.declared.letter.Letter.{Letter}
@@ -51,7 +51,7 @@ status_of (Certified told) = 0
 status_of TooDear = 1
 status_of Uncertified = 1
 status_of (NotConverted told) = 1
-status_of (Follows bounds) = 0
+status_of (Follows bounds bound) = 0
 status_of (NoOld error) = 1
 status_of (NoNew error) = 1
 status_of (NoNotes error) = 1
@@ -171,17 +171,15 @@ yes_line least most bound = concat (codes "yes length " ∷ (range_pieces least 
 abbrev pub untouched_pieces : ℕ → List (List ℕ)
 untouched_pieces untouched = if nat_eq untouched 0 then [] else codes " untouched " ∷ decimal untouched ∷ []
 
--- where contexts are blocks the line says so last
-abbrev pub follows_end : Bool → List ℕ
-follows_end padded = if padded then codes " padded\n" else codes "\n"
-
--- `yes length 16 turns 65536`, or `yes length 512 turns 65536 padded`
-abbrev pub follows_line : Bounds → List ℕ
-follows_line bounds = concat (codes "yes length " ∷ decimal bounds.length ∷ codes " turns " ∷ decimal bounds.turns ∷ (untouched_pieces bounds.untouched ++ (follows_end bounds.padded ∷ [])))
-
 -- where contexts are blocks
 abbrev pub padded_word : Bool → List ℕ
 padded_word padded = if padded then codes " padded" else []
+
+-- `yes length 16 turns 65536 bound 23`, with ` padded` and ` untouched 32` behind it
+abbrev pub follows_line : Bounds → ℕ → List ℕ
+follows_line runs bound =
+    concat (codes "yes length " ∷ decimal runs.length ∷ codes " turns " ∷ decimal runs.turns ∷ codes " bound " ∷ decimal bound ∷ padded_word runs.padded
+    ∷ (untouched_pieces runs.untouched ++ (codes "\n" ∷ [])))
 
 -- what isn't shown to keep the meaning is named last
 abbrev pub proved_end : Bool → List ℕ
@@ -221,7 +219,7 @@ text_of (Certified told) = certified_line told.length told.bound told.rewriting
 text_of TooDear = told_line (told_at letters.Hardening TOO_DEAR Nowhere)
 text_of Uncertified = told_line (told_at letters.Hardening UNCERTIFIED Nowhere)
 text_of (NotConverted told) = told_line told
-text_of (Follows bounds) = follows_line bounds
+text_of (Follows bounds bound) = follows_line bounds bound
 text_of (NoOld error) = line_at at_slot_of_old (told_image error)
 text_of (NoNew error) = line_at at_slot_of_new (told_image error)
 text_of (NoNotes error) = told_line (told_notes error)

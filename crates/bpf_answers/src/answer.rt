@@ -17,10 +17,11 @@ use bpf_captures::CaptureRefusal;
 use bpf_cert::CertError;
 use bpf_changes::HardenError;
 use bpf_check::Refusal;
-use bpf_follows::{Bounds, Mismatch, NotesError};
 use bpf_infer_base::InferError;
 use bpf_insn::written::Pending;
 use bpf_insn::{DecodeError, Groups, Program};
+use bpf_kept::{Bounds, Mismatch};
+use bpf_kept_notes::NotesError;
 use bpf_machine::Outcome;
 use bpf_refusals::{At, Letter, TOO_DEAR, Tells, Told, UNCERTIFIED};
 use bpf_text::TextError;
@@ -59,8 +60,12 @@ pub enum Answer {
     Uncertified,
     /// A filter of classic BPF isn't converted.
     NotConverted(Told),
-    /// Notes show that one image's program keeps the meaning of another's, on these contexts and for these runs.
-    Follows(Bounds),
+    /// Notes beside a certificate show that one image's program keeps the meaning of another's, on these contexts and for these runs; and it is
+    /// certified within this bound.
+    Follows {
+        bounds: Bounds,
+        bound: u32,
+    },
     /// What is at the name of the old one is no image.
     NoOld(DecodeError),
     /// What is at the name of the new one is none.
@@ -110,7 +115,7 @@ impl Answer {
         ensures { result ≡ status_of self.now }
     {
         match self {
-            Answer::Yes { .. } | Answer::Certified(_) | Answer::Follows(_) => DONE,
+            Answer::Yes { .. } | Answer::Certified(_) | Answer::Follows { .. } => DONE,
             Answer::Ends(_) | Answer::Occur(_) | Answer::Lists(_) | Answer::Annotates(_) => DONE,
             Answer::Written | Answer::WrittenFor(_) => DONE,
             Answer::Ran(outcome) => status_of_run(*outcome),
@@ -130,7 +135,7 @@ impl Answer {
     {
         match self {
             Answer::Written => true,
-            Answer::Yes { .. } | Answer::Certified(_) | Answer::Follows(_) => false,
+            Answer::Yes { .. } | Answer::Certified(_) | Answer::Follows { .. } => false,
             Answer::Ends(_) | Answer::Occur(_) | Answer::Lists(_) => false,
             Answer::Annotates(_) | Answer::WrittenFor(_) | Answer::Ran(_) => false,
             Answer::NoImage(_) | Answer::NoText(_) | Answer::NoCertificate(_) => false,
@@ -171,7 +176,7 @@ impl Answer {
                 write_refusal(out, Told::new(Letter::Hardening, UNCERTIFIED, At::Nowhere))
             }
             Answer::NotConverted(told) => write_refusal(out, *told),
-            Answer::Follows(bounds) => lines::write_followed(out, *bounds),
+            Answer::Follows { bounds, bound } => lines::write_followed(out, *bounds, *bound),
             Answer::NoOld(error) => write_refusal_at(out, error.told(), " of OLD at slot "),
             Answer::NoNew(error) => write_refusal_at(out, error.told(), " of NEW at slot "),
             Answer::NoNotes(error) => write_refusal(out, error.told()),

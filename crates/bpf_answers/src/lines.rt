@@ -3,7 +3,7 @@
 ghost use Rattle.std.specs.Prelude.{◌≡◌, ◌++◌, OnOk, OnErr, Some};
 ghost use Rattle.std.specs.Io.KnownBytes.{Appends};
 ghost use Rattle.bpf_insn.specs.Written.{AppendsBeginning, Gathers};
-ghost use Rattle.bpf_answers.specs.Answer.{capture_line, certified_line, follows_end, follows_line, groups_line, infer_refusal_line, no_context_line, padded_word, proved_end, run_line, text_of, text_refusal_line, work_line, yes_line};
+ghost use Rattle.bpf_answers.specs.Answer.{capture_line, certified_line, follows_line, groups_line, infer_refusal_line, no_context_line, padded_word, proved_end, run_line, text_of, text_refusal_line, work_line, yes_line};
 ghost use Rattle.bpf_answers.specs.declared.answer.Answer.TheVariants.{Yes};
 ghost use Rattle.bpf_text.specs.declared.error.TextError.TheVariants.{Program as InProgram};
 ghost use Rattle.bpf_infer_base.specs.declared.error.InferError.TheVariants.{Fault as NoState};
@@ -12,10 +12,10 @@ use crate::certified::{Certification, Rewriting};
 use crate::counted::Counted;
 use crate::pieces::{put_pieces, write_at, write_pieces};
 use bpf_captures::CaptureRefusal;
-use bpf_follows::Bounds;
 use bpf_infer_base::{ForeseenCondition, InferError};
 use bpf_insn::written::{Pending, write_bytes};
 use bpf_insn::{BuildError, Groups};
+use bpf_kept::Bounds;
 use bpf_machine::Outcome;
 use bpf_text::TextError;
 use itoa::Buffer;
@@ -257,28 +257,21 @@ pub fn write_certified<W: Write>(out: &mut W, told: Certification) -> io::Result
     }
 }
 
-/// The end of the line of what notes show: where contexts are blocks it says so.
-fn follows_end(padded: bool) -> &'static str
-    ensures { result.now ≡ follows_end padded }
-{
-    if padded { " padded\n" } else { "\n" }
-}
-
-/// For which contexts and runs notes show that a meaning is kept: `yes length 16 turns 65536`.
-pub fn write_followed<W: Write>(out: &mut W, bounds: Bounds) -> io::Result<()>
-    ensures ok { OnOk result (Appends (W.contents out.old) (W.contents out.new) (follows_line bounds)) }
-    ensures err { OnErr result (AppendsBeginning (W.contents out.old) (W.contents out.new) (follows_line bounds)) }
+/// For which contexts and runs notes show that a meaning is kept, and within which bound the new program is certified:
+/// `yes length 16 turns 65536 bound 23`.
+pub fn write_followed<W: Write>(out: &mut W, runs: Bounds, bound: u32) -> io::Result<()>
+    ensures ok { OnOk result (Appends (W.contents out.old) (W.contents out.new) (follows_line runs bound)) }
+    ensures err { OnErr result (AppendsBeginning (W.contents out.old) (W.contents out.new) (follows_line runs bound)) }
 {
     let mut first = Buffer::new();
     let mut second = Buffer::new();
     let mut third = Buffer::new();
-    let length = first.format(bounds.length);
-    let turns = second.format(bounds.turns);
-    let end = follows_end(bounds.padded);
-    if bounds.untouched == 0 {
-        write_pieces(out, &["yes length ", length, " turns ", turns, end])
-    } else {
-        let untouched = third.format(bounds.untouched);
+    let mut fourth = Buffer::new();
+    let length = first.format(runs.length);
+    let turns = second.format(runs.turns);
+    let bound = third.format(bound);
+    let word = padded_word(runs.padded);
+    if runs.untouched == 0 {
         write_pieces(
             out,
             &[
@@ -286,9 +279,27 @@ pub fn write_followed<W: Write>(out: &mut W, bounds: Bounds) -> io::Result<()>
                 length,
                 " turns ",
                 turns,
+                " bound ",
+                bound,
+                word,
+                "\n",
+            ],
+        )
+    } else {
+        let untouched = fourth.format(runs.untouched);
+        write_pieces(
+            out,
+            &[
+                "yes length ",
+                length,
+                " turns ",
+                turns,
+                " bound ",
+                bound,
+                word,
                 " untouched ",
                 untouched,
-                end,
+                "\n",
             ],
         )
     }

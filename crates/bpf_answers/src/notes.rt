@@ -8,20 +8,21 @@ ghost use Rattle.bpf_answers.specs.Told.{IsQuiet};
 use crate::bytes::{BytesError, bytes_at};
 use crate::failure::Failure;
 use crate::places::Places;
-use bpf_follows::{Counterpart, NotesError, read};
 use bpf_insn::MAX_SLOTS;
+use bpf_kept_notes::{NotesError, NotesOfRuns, read};
 use std::alloc::Global;
 
-/// The greatest length of a text of notes that is read, in bytes: a line for each slot of a program, one for behind its last and the first
-/// line. None is longer than 3,072 bytes: a slot, three numbers, and 75 places of at most 40 bytes.
-const MAX_NOTES: usize = 3_072 * (MAX_SLOTS + 2);
+/// The greatest length of a text of notes that is read, in bytes: the first line, and a line for each slot of a program. None is longer than
+/// 4,000 bytes.
+const MAX_NOTES: usize = 4_000 * (MAX_SLOTS + 1);
 
-/// The notes at a name, or why they are refused. They can't be read where the text is longer than that of any notes of a program.
+/// The notes at a name with the runs of which they speak, or why they are refused. They can't be read where the text is longer than that of any
+/// notes of a program.
 pub fn notes_at<'a, P: Places>(
     alloc: Global,
     places: &mut P,
     name: &'a str,
-) -> Result<Result<Vec<Option<Counterpart>>, NotesError>, Failure<'a>>
+) -> Result<Result<NotesOfRuns, NotesError>, Failure<'a>>
     ensures ok { IfOk result (ReadsNotesAt P.opens places.old name.entry.now places.new) }
     ensures err { IfErr result (NotesFail P.opens places.old name.entry.now places.new) }
     ensures quiet { IfErr result IsQuiet }

@@ -1,7 +1,5 @@
 -- What is answered of a program and a bound.
-use Rattle.std.specs.Prelude.{◌≡◌, ℕ, ◌<◌, ◌≤◌, List, false, Option, Some, None, IfSome, IsTrue}
-use Rattle.bpf_kept.specs.Meaning.{Bounds as BoundsOnAddresses}
-use Rattle.bpf_kept.specs.Shown.{Keeps}
+use Rattle.std.specs.Prelude.{◌≡◌, ℕ, ◌<◌, ◌≤◌, false, Option, Some, None, IfSome, IsTrue}
 use Rattle.bpf_insn.specs.Instruction.{Instructions, slots}
 use Rattle.bpf_insn.specs.Limits.{frame_bytes}
 use Rattle.bpf_cert.specs.View.{CertificateView}
@@ -9,12 +7,12 @@ use Rattle.bpf_safety.specs.Certified.{IsLeastFlaw}
 use Rattle.bpf_check.specs.CheckedProgram.{IsCertifiedBy}
 use Rattle.bpf_check.specs.RefusalNumbers.{refusal_number, refusal_slot}
 use Rattle.bpf_check.specs.declared.refusal.Refusal.{Refusal}
-use Rattle.bpf_follows.specs.declared.notes.Bounds.{Bounds}
-use Rattle.bpf_follows.specs.declared.notes.Counterpart.{Counterpart}
-use Rattle.bpf_follows.specs.Matching.{Matches}
-use Rattle.bpf_follows.specs.Meaning.{KeepsMeaning}
-use Rattle.bpf_follows.specs.Mismatches.{IsMismatch, mismatch_slot}
-use Rattle.bpf_follows.specs.declared.mismatch.Mismatch.{Mismatch}
+use Rattle.bpf_kept.specs.declared.bounds.Bounds.{Bounds}
+use Rattle.bpf_kept.specs.Matching.{Notes}
+use Rattle.bpf_kept.specs.Mismatches.{MatchesBeside, mismatch_slot}
+use Rattle.bpf_kept.specs.Shown.{Keeps}
+use Rattle.bpf_kept.specs.declared.mismatch.Mismatch.{Mismatch}
+use Rattle.bpf_harden_kept.specs.Evidence.{Fails, leaving}
 use Rattle.bpf_changes.specs.RefusalNumbers.{harden_slot}
 use Rattle.bpf_refusals.specs.Told.{told_hardening, told_not_shown, told_too_dear, told_uncertified}
 use Rattle.bpf_refusals.specs.declared.told.Told.{Told}
@@ -55,30 +53,19 @@ AreWished wish turns = IfSome wish.turns (λ wished. turns ≡ wished)
 abbrev pub runs_for : (length : ℕ) → Wish → (turns : ℕ) → Bounds
 runs_for length wish turns = record { length = length; padded = wish.padded; turns = turns; untouched = 0 }
 
--- those of them that leave so many of the lowest bytes of each frame to r10
-abbrev pub leaving : Bounds → ℕ → Bounds
-leaving runs untouched = record { length = runs.length; padded = runs.padded; turns = runs.turns; untouched = untouched }
-
--- the runs of which it is shown
+-- the runs of which it is shown: those of them that leave so many of the lowest bytes of each frame to r10
 abbrev pub runs_of : ℕ → Wish → Rewritten → Bounds
 runs_of length wish r = leaving (runs_for length wish r.turns) r.untouched
 
--- the same runs, on plain addresses
-abbrev pub on_plain : Bounds → BoundsOnAddresses
-on_plain runs = record { length = runs.length; padded = runs.padded; turns = runs.turns; untouched = runs.untouched }
-
--- The certificate is that of the new program, which has the old one's byte order, for the turns that are wished. Where it is told so, it keeps the
--- meaning of the old one, for the turns and the bytes that are told: notes on plain addresses show it there, too, and else those with tags, as
--- always where notes are wanted.
+-- The certificate is that of the new program, which has the old one's byte order, for the turns that are wished. Where it is told so, the notes match
+-- beside this certificate, and the new program keeps the meaning of the old one, for the turns and the bytes that are told.
 pub record IsRewritten (old : Instructions) (length : ℕ) (wish : Wish) (c : Certified) (r : Rewritten) : Type 0 where
   pub paid : IsPaid r.hardened.program c.certificate length wish.bound c.bound
   pub order_is : r.hardened.program.order ≡ old.order
   pub turns_are : AreWished wish r.turns
   pub few : r.untouched ≤ frame_bytes
-  pub matches : IsTrue r.is_shown → r.on_addresses ≡ None → Matches old r.hardened.program r.notes.items (runs_of length wish r)
-  pub with_tags : IsTrue wish.notes → r.on_addresses ≡ None
-  pub addresses : IfSome r.on_addresses (λ notes. Keeps old r.hardened.program notes.items (on_plain (runs_of length wish r)))
-  pub keeps : IsTrue r.is_shown → KeepsMeaning old r.hardened.program (runs_of length wish r)
+  pub matches : IsTrue r.is_shown → MatchesBeside old r.hardened.program r.notes.items c.certificate (runs_of length wish r)
+  pub keeps : IsTrue r.is_shown → Keeps old r.hardened.program r.notes.items (runs_of length wish r)
 
 -- the certificate is the program's own, where nothing was rewritten and contexts aren't blocks
 abbrev pub StandsFor : Instructions → ℕ → Wish → Certified → Option Rewritten → Type 0
@@ -90,20 +77,22 @@ Answers old length wish c = StandsFor old length wish c c.rewritten
 
 -- ---- what is refused
 
--- this fails first of notes for a new program, for the turns that are wished
+-- Beside what was found for a new program this fails first of notes, for the turns that are wished, at a slot of the old one.
 pub record IsUnshown (old : Instructions) (length : ℕ) (wish : Wish) (m : Mismatch) : Type 0 where
   pub made : Instructions
-  pub notes : List (Option Counterpart)
+  pub found : Option CertificateView
+  pub notes : Notes
   pub turns : ℕ
   pub turns_are : AreWished wish turns
-  pub fails : IsMismatch old made notes (runs_for length wish turns) m
+  pub fails : Fails old made found notes (runs_for length wish turns) m
+  pub inside : mismatch_slot m < slots old.list
 
--- memory ran out, or this fails first of notes for a new program and these runs
-abbrev pub IsUnjudged : (old made : Instructions) → Bounds → CertifyError → Type 0
-IsUnjudged old made runs (Unhardened e) = harden_slot e ≡ 0
-IsUnjudged old made runs (Unshown m) = (notes : List (Option Counterpart)) × IsMismatch old made notes (leaving runs 0) m
-IsUnjudged old made runs (TooDear turns bound) = ⊥
-IsUnjudged old made runs (Uncertified r) = ⊥
+-- memory ran out, or this fails first of notes for a new program and these runs, at a slot of the old one
+abbrev pub IsUnjudged : (old made : Instructions) → Option CertificateView → Bounds → CertifyError → Type 0
+IsUnjudged old made found runs (Unhardened e) = harden_slot e ≡ 0
+IsUnjudged old made found runs (Unshown m) = (notes : Notes) × Fails old made found notes (leaving runs 0) m × (mismatch_slot m < slots old.list)
+IsUnjudged old made found runs (TooDear turns bound) = ⊥
+IsUnjudged old made found runs (Uncertified r) = ⊥
 
 -- this is the first flaw of a program for which a certificate was found
 abbrev pub IsFlawed : Instructions → Refusal → Type 0

@@ -1,30 +1,25 @@
-//! Certified programs: searches propose and rewrite, and then `check` and one of two checkers of notes judge what came out. Notes of the machine with
-//! tags are tried first, and then notes of plain addresses.
+//! Certified programs: searches propose and rewrite, and then `check` and the checker of notes judge what came out.
 
-ghost use Rattle.std.specs.Prelude.{◌≡◌, ◌<◌, ◌≤◌, ◌↔◌, ◌⊎◌, ℕ, false, None, IsTrue, IsSomeAnd, IfOk, IfErr, IfSome};
+ghost use Rattle.std.specs.Prelude.{◌≡◌, ◌<◌, ◌≤◌, ◌↔◌, ◌⊎◌, ℕ, false, Some, IsTrue, IfOk, IfErr, IfSome};
 ghost use Rattle.bpf_insn.specs.Instruction.{slots};
 ghost use Rattle.bpf_insn.specs.Limits.{frame_bytes, max_context};
-ghost use Rattle.bpf_follows.specs.Matching.{Matches};
-ghost use Rattle.bpf_kept.specs.Matching.{Matches as MatchesOnAddresses};
+ghost use Rattle.bpf_kept.specs.Mismatches.{mismatch_slot};
+ghost use Rattle.bpf_kept.specs.declared.mismatch.Mismatch.TheVariants.{Start};
+ghost use Rattle.bpf_harden_kept.specs.Evidence.{Shows, leaving};
 ghost use Rattle.bpf_changes.specs.declared.error.HardenError.TheVariants.{Memory, NoBudget};
-ghost use Rattle.bpf_certify.specs.Certified.{Answers, AreWished, IsPaid, IsRefused, IsUnjudged, IsUnpaid, certify_slot, leaving, on_plain};
-ghost use Rattle.bpf_certify.specs.declared.error.CertifyError.TheVariants.{Unhardened, Unshown};
+ghost use Rattle.bpf_certify.specs.Certified.{Answers, AreWished, IsPaid, IsRefused, IsUnjudged, IsUnpaid, certify_slot};
+ghost use Rattle.bpf_certify.specs.declared.error.CertifyError.TheVariants.{Unhardened};
 
 use crate::error::CertifyError;
 use crate::wish::Wish;
 use bpf_cert::Certificate;
 use bpf_check::check;
-use bpf_follows::{Bounds, Counterpart, Mismatch, matching_keeps_meaning};
 use bpf_harden::{Fitted, HardenError, Hardened, Options, Unfit, fit};
-use bpf_harden_follows::{Evidence, evidence_of};
-use bpf_harden_kept as on_addresses;
+use bpf_harden_kept::{Evidence, evidence_of};
 use bpf_infer::{InferError, search};
 use bpf_infer_base::Unwatched;
 use bpf_insn::{Code, Order, Program};
-use bpf_kept::{
-    Note as NoteOnAddresses, RunBounds, certified_keeps_flat_meaning, flat_meaning_is_exact,
-    flat_meaning_is_far,
-};
+use bpf_kept::{Bounds, Mismatch, Note};
 use std::alloc::Global;
 
 /// A program in the place of the one that was given, and what is shown of it.
@@ -38,12 +33,10 @@ pub struct Rewritten {
     pub untouched: u32,
     /// Whether it is shown that the new program keeps the meaning of the old one, on runs within both.
     pub is_shown: bool,
-    /// What of the notes of the machine with tags fails where these don't show it, if that was looked at.
+    /// What of the notes fails where they don't show it, if that was looked at.
     pub mismatch: Option<Mismatch>,
-    /// The notes by which it is shown on the machine with tags. Empty where nothing was to be shown and none were wanted.
-    pub notes: Vec<Option<Counterpart>>,
-    /// The notes by which it is shown on plain addresses; None where those with tags show it, or nothing does.
-    pub on_addresses: Option<Vec<Option<NoteOnAddresses>>>,
+    /// The notes by which it is shown, beside the certificate. Empty where nothing was to be shown and none were wanted.
+    pub notes: Vec<Option<Note>>,
 }
 
 /// A certificate within a bound, and what it certifies.
@@ -69,8 +62,7 @@ struct ShownMeaning {
     untouched: u32,
     is_shown: bool,
     mismatch: Option<Mismatch>,
-    notes: Vec<Option<Counterpart>>,
-    on_addresses: Option<Vec<Option<NoteOnAddresses>>>,
+    notes: Vec<Option<Note>>,
 }
 
 /// The refusal where there is no certificate for a whole program.
@@ -89,6 +81,7 @@ fn within_bound(
     most: u32,
 ) -> Result<Paid, CertifyError>
     ensures ok { IfOk result (λ p. IsPaid program.now p.certificate length most p.bound) }
+    ensures is_found { IfOk result (λ p. found ≡ Some p.certificate) }
     ensures err { IfErr result (IsUnpaid program.now turns most) }
 {
     let Some(certificate) = found else {
@@ -144,14 +137,12 @@ fn as_it_stands(
 fn unseen(alloc: Global) -> ShownMeaning
     ensures few { result.untouched ≡ 0 }
     ensures unshown { result.is_shown ≡ false }
-    ensures tags { result.on_addresses ≡ None }
 {
     ShownMeaning {
         untouched: 0,
         is_shown: false,
         mismatch: None,
         notes: Vec::new(alloc),
-        on_addresses: None,
     }
 }
 
@@ -160,14 +151,12 @@ fn seen(found: Evidence, is_shown: bool) -> ShownMeaning
     ensures untouched { result.untouched ≡ found.untouched }
     ensures shown { result.is_shown ≡ is_shown }
     ensures notes { result.notes.items ≡ found.notes.items }
-    ensures tags { result.on_addresses ≡ None }
 {
     ShownMeaning {
         untouched: found.untouched,
         is_shown,
         mismatch: found.mismatch,
         notes: found.notes,
-        on_addresses: None,
     }
 }
 
@@ -178,6 +167,19 @@ fn same_order(a: Order, b: Order) -> bool
     a == b
 }
 
+/// A mismatch with a slot of a program of so many slots: of notes in front of one behind it is told that the start fails, as it does without them.
+fn within(mismatch: Mismatch, slots: u32) -> Mismatch
+    requires { 0 < slots }
+    ensures inside { mismatch_slot result < slots }
+    ensures told { (result ≡ mismatch) ⊎ ((result ≡ Start) × (slots ≤ mismatch_slot mismatch)) }
+{
+    if mismatch.slot() < slots {
+        mismatch
+    } else {
+        Mismatch::Start
+    }
+}
+
 /// What is shown of a hardened program: that it keeps the meaning of the old one, or it is refused, but where what isn't proved is wanted, too.
 fn judged(
     alloc: Global,
@@ -186,16 +188,11 @@ fn judged(
     runs: Bounds,
     wish: Wish,
 ) -> Result<ShownMeaning, CertifyError>
-    ensures order { IfOk result (λ _. new.now.program.order ≡ old.now.order) }
     ensures few { IfOk result (λ s. s.untouched ≤ frame_bytes) }
-    ensures shows { IfOk result (λ s. IsTrue s.is_shown → Matches old.now new.now.program s.notes.items (leaving runs s.untouched)) }
-    ensures tags { IfOk result (λ s. s.on_addresses ≡ None) }
+    ensures shows { IfOk result (λ s. IsTrue s.is_shown → Shows old.now new.now.program new.now.certificate s.notes.items (leaving runs s.untouched)) }
     ensures all { wish.unproved ≡ false → IfOk result (λ s. IsTrue s.is_shown) }
-    ensures err { IfErr result (IsUnjudged old.now new.now.program runs) }
+    ensures err { IfErr result (IsUnjudged old.now new.now.program new.now.certificate runs) }
 {
-    if !same_order(new.program.order(), old.order()) {
-        return Err(CertifyError::Unshown(Mismatch::Order));
-    }
     if wish.unproved && !wish.notes {
         return Ok(unseen(alloc));
     }
@@ -205,65 +202,10 @@ fn judged(
     match found.mismatch {
         None => Ok(seen(found, true)),
         Some(_) if wish.unproved => Ok(seen(found, false)),
-        Some(mismatch) => Err(CertifyError::Unshown(mismatch)),
-    }
-}
-
-/// What notes on plain addresses show of a hardened program, whose notes with tags have a mismatch.
-fn judged_on_addresses(
-    alloc: Global,
-    old: &Program,
-    new: &Hardened,
-    runs: Bounds,
-    mismatch: Mismatch,
-) -> Result<ShownMeaning, CertifyError>
-    ensures few { IfOk result (λ s. s.untouched ≤ frame_bytes) }
-    ensures shown { IfOk result (λ s. IsTrue s.is_shown) }
-    ensures matches { IfOk result (λ s. IsSomeAnd s.on_addresses (λ notes. MatchesOnAddresses old.now new.now.program notes.items (on_plain (leaving runs s.untouched)))) }
-    ensures err { IfErr result (λ e. (e ≡ Unhardened Memory) ⊎ (e ≡ Unshown mismatch)) }
-{
-    let plain = RunBounds {
-        length: runs.length,
-        padded: runs.padded,
-        turns: u64::from(runs.turns),
-        untouched: 0,
-    };
-    let Ok(found) = on_addresses::evidence_of(alloc, old, new, plain) else {
-        return Err(no_memory());
-    };
-    match found.fault {
-        None => Ok(ShownMeaning {
-            untouched: found.untouched,
-            is_shown: true,
-            mismatch: Some(mismatch),
-            notes: Vec::new(alloc),
-            on_addresses: Some(found.notes),
-        }),
-        Some(_) => Err(CertifyError::Unshown(mismatch)),
-    }
-}
-
-/// What is shown of a hardened program, by notes with tags, and else by notes on plain addresses, unless the text of notes is wanted.
-fn shown_of(
-    alloc: Global,
-    old: &Program,
-    new: &Hardened,
-    runs: Bounds,
-    wish: Wish,
-) -> Result<ShownMeaning, CertifyError>
-    ensures order { IfOk result (λ _. new.now.program.order ≡ old.now.order) }
-    ensures few { IfOk result (λ s. s.untouched ≤ frame_bytes) }
-    ensures shows { IfOk result (λ s. IsTrue s.is_shown → s.on_addresses ≡ None → Matches old.now new.now.program s.notes.items (leaving runs s.untouched)) }
-    ensures addresses { IfOk result (λ s. IfSome s.on_addresses (λ notes. MatchesOnAddresses old.now new.now.program notes.items (on_plain (leaving runs s.untouched)))) }
-    ensures tags { IsTrue wish.notes → IfOk result (λ s. s.on_addresses ≡ None) }
-    ensures all { wish.unproved ≡ false → IfOk result (λ s. IsTrue s.is_shown) }
-    ensures err { IfErr result (IsUnjudged old.now new.now.program runs) }
-{
-    match judged(alloc, old, new, runs, wish) {
-        Err(CertifyError::Unshown(mismatch)) if !wish.notes => {
-            judged_on_addresses(alloc, old, new, runs, mismatch)
+        Some(mismatch) => {
+            let mismatch = within(mismatch, Code::slots(old));
+            Err(CertifyError::Unshown(mismatch))
         }
-        shown => shown,
     }
 }
 
@@ -318,6 +260,7 @@ fn hardened(
 /// A hardened program and its certificate, which is no longer in what was done.
 fn taken(hardened: Hardened) -> (Hardened, Option<Certificate>)
     ensures program { result.0.program ≡ hardened.program }
+    ensures certificate { result.1 ≡ hardened.certificate }
 {
     let Hardened {
         program,
@@ -350,18 +293,14 @@ fn as_fitted(
     ensures err { IfErr result (IsRefused program.now length wish) }
 {
     let _slots = Code::slots(program);
-    matching_keeps_meaning();
-    certified_keeps_flat_meaning();
-    flat_meaning_is_far();
-    flat_meaning_is_exact();
     let Fitted { hardened, turns } = fitted;
     let runs = Bounds {
         length,
         padded: wish.padded,
-        turns,
+        turns: u64::from(turns),
         untouched: 0,
     };
-    let shown = shown_of(alloc, program, &hardened, runs, wish)?;
+    let shown = judged(alloc, program, &hardened, runs, wish)?;
     let (hardened, found) = taken(hardened);
     let Paid { certificate, bound } = within_bound(
         &hardened.program,
@@ -370,6 +309,9 @@ fn as_fitted(
         turns,
         wish.bound,
     )?;
+    if !same_order(hardened.program.order(), program.order()) {
+        return Err(CertifyError::Unshown(Mismatch::Order));
+    }
     Ok(Certified {
         rewritten: Some(Rewritten {
             hardened,
@@ -378,7 +320,6 @@ fn as_fitted(
             is_shown: shown.is_shown,
             mismatch: shown.mismatch,
             notes: shown.notes,
-            on_addresses: shown.on_addresses,
         }),
         certificate,
         bound,

@@ -4,8 +4,8 @@ ghost use Rattle.std.specs.Prelude.{◌≡◌};
 ghost use Rattle.bpf_certify.specs.Certified.{certify_slot};
 
 use bpf_check::Refusal;
-use bpf_follows::Mismatch;
 use bpf_harden::HardenError;
+use bpf_kept::Mismatch;
 use bpf_refusals::{Tells, Told};
 
 /// Why a program isn't certified within a bound, with a slot of it.

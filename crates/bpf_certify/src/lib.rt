@@ -5,8 +5,8 @@ mod certified;
 mod error;
 mod wish;
 
-pub use bpf_follows::{Counterpart, Mismatch};
 pub use bpf_harden::{FunctionNote, HardenError, Hardened, Note};
+pub use bpf_kept::{Mismatch, Note as KeptNote};
 pub use certified::{Certified, Rewritten, certify};
 pub use error::CertifyError;
 pub use wish::{MOST_BOUND, Wish};

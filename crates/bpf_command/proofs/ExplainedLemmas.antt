@@ -8,8 +8,8 @@ use Rattle.bpf_safety.specs.Certified.{IsLeastFlaw}
 use Rattle.bpf_check.specs.CheckedProgram.{IsCertifiedBy}
 use Rattle.bpf_check.specs.RefusalNumbers.{refusal_number, refusal_slot}
 use Rattle.bpf_check.specs.declared.refusal.Refusal.{Refusal}
-use Rattle.bpf_follows.specs.Meaning.{KeepsMeaning}
-use Rattle.bpf_follows.specs.Mismatches.{IsMismatch}
+use Rattle.bpf_kept.specs.Shown.{Keeps}
+use Rattle.bpf_harden_kept.specs.Evidence.{Fails}
 use Rattle.bpf_explain_harden.specs.Hardened.{IsMade, IsUnhardened}
 use Rattle.bpf_explain_harden.specs.declared.hardened.HardeningAsked.{HardeningAsked}
 use Rattle.bpf_explain_harden.specs.declared.hardened.HardenedProgram.{HardenedProgram}
@@ -77,7 +77,8 @@ pub is_hardened : (within : HardeningAsked) (length : ℕ) (p : Instructions) (m
 is_hardened within length p m same made =
     record {
       untouched = m.untouched;
-      keeps = subst (λ n. KeepsMeaning p m.program (record { length = n; padded = within.padded; turns = within.turns; untouched = m.untouched })) same made.keeps;
+      notes = made.notes;
+      keeps = subst (λ n. Keeps p m.program made.notes (record { length = n; padded = within.padded; turns = within.turns; untouched = m.untouched })) same made.keeps;
       least = made.least ∙ same;
       most = made.most ∙ same;
     }
@@ -85,8 +86,11 @@ is_hardened within length p m same made =
 -- what isn't hardened is told with its refusal
 pub unhardened_so : (within : HardeningAsked) (length : ℕ) (p : Instructions) (why : Unhardened) → within.length ≡ min length max_context → IsUnhardened p within why → Answers (HardenedSays length within.padded within.turns p) 1
 unhardened_so within length p (Refused e) same inside = (NotHardened e, refl, inside)
-unhardened_so within length p (Unshown m) same fails =
-    (NotShown m, refl, (fails.0, fails.1, subst (λ n. IsMismatch p fails.0 fails.1 (record { length = n; padded = within.padded; turns = within.turns; untouched = 0 }) m) same fails.2))
+unhardened_so within length p (Unshown m) same fails = (
+  NotShown m,
+  refl,
+  (fails.0, fails.1, fails.2, subst (λ n. Fails p fails.0 fails.1 fails.2 (record { length = n; padded = within.padded; turns = within.turns; untouched = 0 }) m) same fails.3),
+)
 
 made_says : {S : Type 0} (opening : Opening S) (order : Order) (old : S) (input : List ℕ) (new : S) (task : ExplainTask) (p : Instructions) → LoadsImage opening order old input new p → (x : Answer) → TaskSays task p x
     → ImageSays opening order old input new (TaskSays task) x

@@ -1,3 +1,4 @@
+pub mod TextsLemmas
 pub mod HardenedLemmas
 pub mod CertifiedLemmas
 pub mod ExplainedLemmas

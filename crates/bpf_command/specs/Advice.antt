@@ -1,7 +1,7 @@
 -- What a terminal is told of a hardened program.
 use Rattle.std.specs.Prelude.{ℕ, List, [], ◌∷◌, codes, decimal, nat_eq, if◌then◌else◌}
 use Rattle.std.specs.List.{concat}
-use Rattle.bpf_follows.specs.declared.notes.Bounds.{Bounds}
+use Rattle.bpf_kept.specs.declared.bounds.Bounds.{Bounds}
 
 -- the runs whose meaning it is shown to keep
 abbrev pub kept_text : Bounds → List ℕ

@@ -6,14 +6,12 @@ use Rattle.bpf_insn.specs.Image.{image}
 use Rattle.bpf_insn.specs.Limits.{max_context}
 use Rattle.bpf_cert.specs.View.{CertificateView}
 use Rattle.bpf_cert.specs.Spelling.{certificate_text}
-use Rattle.bpf_follows.specs.declared.notes.Bounds.{Bounds}
-use Rattle.bpf_follows.specs.declared.notes.Counterpart.{Counterpart}
-use Rattle.bpf_follows.specs.Matching.{Matches}
-use Rattle.bpf_follows.specs.Meaning.{KeepsMeaning}
-use Rattle.bpf_follows.specs.NotesText.{notes_text}
+use Rattle.bpf_kept.specs.declared.bounds.Bounds.{Bounds}
 use Rattle.bpf_kept.specs.Matching.{Notes}
+use Rattle.bpf_kept.specs.Mismatches.{MatchesBeside}
 use Rattle.bpf_kept.specs.Shown.{Keeps}
-use Rattle.bpf_certify.specs.Certified.{IsPaid, IsRefused, on_plain}
+use Rattle.bpf_kept_notes.specs.NotesText.{notes_text}
+use Rattle.bpf_certify.specs.Certified.{IsPaid, IsRefused}
 use Rattle.bpf_certify.specs.declared.certified.Certified.{Certified}
 use Rattle.bpf_certify.specs.declared.certified.Rewritten.{Rewritten}
 use Rattle.bpf_certify.specs.declared.error.CertifyError.{CertifyError}
@@ -35,7 +33,7 @@ use Rattle.bpf_answers.specs.declared.certified.Rewriting.{Rewriting}
 use Rattle.bpf_answers.specs.declared.failure.Failure.{Failure}
 use Rattle.bpf_answers.specs.declared.failure.Failure.TheVariants.{CannotRead, CannotWrite, NoMemory}
 use Rattle.bpf_command.specs.Explained.{LinesAt, LinesFail}
-use Rattle.bpf_command.specs.Hardened.{BothStand, NotBothPut, NotBothStand}
+use Rattle.bpf_command.specs.Texts.{NamedTexts, TextsFail, TextsStand, notes_and_changes}
 use Rattle.bpf_command.specs.Names.{behind_lines}
 
 -- ---- what is asked for
@@ -58,30 +56,29 @@ abbrev pub runs_told : ℕ → Rewriting → Bounds
 runs_told length r = record { length = length; padded = r.padded; turns = r.turns; untouched = r.untouched }
 
 -- What is told of a hardened program, which has the byte order of the one at IN, for the turns that are asked for: without `--unproved` it is
--- shown; and what is shown keeps the meaning of the program at IN, for the very contexts, turns and bytes left to r10 that are told: the notes that
--- are wanted match, and where none are, these or others on plain addresses do.
-pub record IsRewriting (program made : Instructions) (c : Certifying) (length : ℕ) (notes : List (Option Counterpart)) (r : Rewriting) : Type 0 where
+-- shown. What is shown keeps the meaning of the program at IN, for the very contexts, turns and bytes left to r10 that are told: the notes match
+-- beside the certificate.
+pub record IsRewriting (program made : Instructions) (c : Certifying) (length : ℕ) (certificate : CertificateView) (notes : Notes) (r : Rewriting) : Type 0 where
   pub padded_is : r.padded ≡ c.padded
   pub turns_are : IfSome c.turns (λ asked. r.turns ≡ asked)
   pub order_is : made.order ≡ program.order
   pub shown : c.unproved ≡ false → IsTrue r.is_shown
-  pub matches : IsTrue (is_some c.notes) → IsTrue r.is_shown → Matches program made notes (runs_told length r)
-  pub shows : IsTrue r.is_shown → Matches program made notes (runs_told length r) ⊎ ((there : Notes) × Keeps program made there (on_plain (runs_told length r)))
-  pub keeps : IsTrue r.is_shown → KeepsMeaning program made (runs_told length r)
+  pub matches : IsTrue r.is_shown → MatchesBeside program made notes certificate (runs_told length r)
+  pub keeps : IsTrue r.is_shown → Keeps program made notes (runs_told length r)
 
 -- the program is the one at IN, and contexts aren't blocks; or it was hardened
-abbrev pub IsMadeOf : Instructions → Instructions → Certifying → ℕ → List (Option Counterpart) → Option Rewriting → Type 0
-IsMadeOf program made c length notes None = (made ≡ program) × (c.padded ≡ false) × (notes ≡ [])
-IsMadeOf program made c length notes (Some r) = IsRewriting program made c length notes r
+abbrev pub IsMadeOf : Instructions → Instructions → Certifying → ℕ → CertificateView → Notes → Option Rewriting → Type 0
+IsMadeOf program made c length certificate notes None = (made ≡ program) × (c.padded ≡ false) × (notes ≡ [])
+IsMadeOf program made c length certificate notes (Some r) = IsRewriting program made c length certificate notes r
 
 -- The image is a program's. The certificate certifies the program that was made of it, for contexts of the length that is told, which is the one
 -- that was asked for, with the bound that is told, which is at most the one that was asked for.
-pub record Certifies {S : Type 0} (opening : Opening S) (old : S) (c : Certifying) (new : S) (made : Instructions) (certificate : CertificateView) (notes : List (Option Counterpart)) (told : Certification) : Type 0 where
+pub record Certifies {S : Type 0} (opening : Opening S) (old : S) (c : Certifying) (new : S) (made : Instructions) (certificate : CertificateView) (notes : Notes) (told : Certification) : Type 0 where
   pub program : Instructions
   pub loads : LoadsImage opening c.order old c.input.now new program
   pub length_is : c.length ≤ max_context → told.length ≡ c.length
   pub paid : IsPaid made certificate told.length (most_of c) told.bound
-  pub is_made : IsMadeOf program made c told.length notes told.rewriting
+  pub is_made : IsMadeOf program made c told.length certificate notes told.rewriting
 
 -- the program for which the certificate is
 abbrev pub program_of : Instructions → Option Rewritten → Instructions
@@ -92,49 +89,51 @@ abbrev pub made_of : Instructions → Certified → Instructions
 made_of program d = program_of program d.rewritten
 
 -- the notes by which it is shown; none of a program that stands as it is
-abbrev pub notes_of : Option Rewritten → List (Option Counterpart)
+abbrev pub notes_of : Option Rewritten → Notes
 notes_of None = []
 notes_of (Some r) = r.notes.items
 
 -- what is told of it
+abbrev pub retold : Certifying → Rewritten → Rewriting
+retold c r = record { turns = r.turns; padded = c.padded; untouched = r.untouched; is_shown = r.is_shown }
+
 abbrev pub rewriting_of : Certifying → Option Rewritten → Option Rewriting
 rewriting_of c None = None
-rewriting_of c (Some r) = Some (record { turns = r.turns; padded = c.padded; untouched = r.untouched; is_shown = r.is_shown })
+rewriting_of c (Some r) = Some (retold c r)
 
 abbrev pub told_of : Certifying → ℕ → Certified → Certification
 told_of c length d = record { length = length; bound = d.bound; rewriting = rewriting_of c d.rewritten }
 
 -- ---- what stands at OUT, CERT and the names of the texts
 
+-- the text of the notes, for the runs that are told; empty for a program that stands as it is
+abbrev pub noted_for : ℕ → Option Rewriting → Notes → List ℕ
+noted_for length None notes = []
+noted_for length (Some r) notes = notes_text (runs_told length r) notes
+
+abbrev pub noted_text : Certification → Notes → List ℕ
+noted_text told notes = noted_for told.length told.rewriting notes
+
 -- OUT holds the image and CERT the certificate's text, and then the texts stand at their names
-abbrev pub AllPut : {S : Type 0} → Putting S → S → Certifying → Instructions → CertificateView → List ℕ → S → Type 0
-AllPut {S} w old c made certificate notes new =
+abbrev pub AllPut : {S : Type 0} → Putting S → S → Certifying → Instructions → CertificateView → NamedTexts → S → Type 0
+AllPut {S} w old c made certificate texts new =
     (between : S) × w.pairs old c.output.now (image made.order made.list) c.certificate.now (certificate_text certificate) Both between
-    × BothStand w.makes between (hardening_of c) notes new
+    × TextsStand w.makes between texts new
 
 -- so with this status
-abbrev pub IsAllPut : {S : Type 0} → Putting S → S → Certifying → Instructions → CertificateView → List ℕ → S → ℕ → Type 0
-IsAllPut w old c made certificate notes new status = (status ≡ 0) × AllPut w old c made certificate notes new
+abbrev pub IsAllPut : {S : Type 0} → Putting S → S → Certifying → Instructions → CertificateView → NamedTexts → S → ℕ → Type 0
+IsAllPut w old c made certificate texts new status = (status ≡ 0) × AllPut w old c made certificate texts new
 
 -- OUT and CERT aren't both put: neither stands; or CERT couldn't be finished when OUT stood already
 abbrev pub NoPair : {S : Type 0} → Pairing S → S → Certifying → Instructions → CertificateView → S → Failure → Type 0
 NoPair b old c made certificate new = NotPutBoth b old c.output (image made.order made.list) c.certificate (certificate_text certificate) new
 
--- behind OUT and CERT this holds
-abbrev pub BehindPair : {S : Type 0} → Pairing S → S → Certifying → Instructions → CertificateView → (S → Type 0) → Type 0
-BehindPair {S} b old c made certificate holds =
-    (between : S) × b old c.output.now (image made.order made.list) c.certificate.now (certificate_text certificate) Both between × holds between
-
-abbrev pub NotAllPut : {S : Type 0} → Putting S → S → Certifying → Instructions → CertificateView → S → Failure → Type 0
-NotAllPut w old c made certificate new failure =
-    NoPair w.pairs old c made certificate new failure ⊎ BehindPair w.pairs old c made certificate (λ put. NotBothPut w.makes put (hardening_of c) new failure)
-
--- what then stands: neither OUT nor CERT, or OUT alone, or both and not both texts
-abbrev pub NotAllStand : {S : Type 0} → Putting S → S → Certifying → Instructions → CertificateView → S → Type 0
-NotAllStand w old c made certificate new =
-    w.pairs old c.output.now (image made.order made.list) c.certificate.now (certificate_text certificate) Neither new
-    ⊎ w.pairs old c.output.now (image made.order made.list) c.certificate.now (certificate_text certificate) FirstAlone new
-    ⊎ BehindPair w.pairs old c made certificate (λ put. NotBothStand w.makes put (hardening_of c) new)
+-- so it is; or both stand, and one of the texts can't be put at its name
+abbrev pub NotAllPut : {S : Type 0} → Putting S → S → Certifying → Instructions → CertificateView → NamedTexts → S → Failure → Type 0
+NotAllPut {S} w old c made certificate texts new failure =
+    NoPair w.pairs old c made certificate new failure
+    ⊎ ((between : S) × w.pairs old c.output.now (image made.order made.list) c.certificate.now (certificate_text certificate) Both between
+    × TextsFail w.makes between texts new failure)
 
 -- ---- the answers
 
@@ -157,11 +156,19 @@ IsRefusedBy opening old c new error =
     (p : Instructions) × (length : ℕ) × LoadsImage opening c.order old c.input.now new p
     × (c.length ≤ max_context → length ≡ c.length) × IsRefused p length (wish_of c) error
 
--- what was certified is put at its names
+-- something was certified, of which this holds, and of the texts that go beside it
+abbrev pub Behind : {S : Type 0} → Opening S → S → Certifying → (S → Instructions → CertificateView → NamedTexts → Certification → Type 0) → Type 0
+Behind {S} o old c holds =
+    (between : S) × (made : Instructions) × (certificate : CertificateView) × (notes : Notes) × (told : Certification) × (changes : List ℕ)
+    × Certifies o old c between made certificate notes told × holds between made certificate (notes_and_changes (hardening_of c) (noted_text told notes) changes) told
+
+-- what was certified is put at its names, and this is told of it
 abbrev pub Stands : {S : Type 0} → Opening S → Putting S → S → Certifying → S → Certification → Type 0
-Stands {S} o w old c new told =
-    (between : S) × (made : Instructions) × (certificate : CertificateView) × (notes : List (Option Counterpart)) × (text : List ℕ)
-    × Certifies o old c between made certificate notes told × IfSome c.notes (λ _. text ≡ notes_text notes) × AllPut w between c made certificate text new
+Stands o w old c new told = Behind o old c (λ between made certificate texts also. (told ≡ also) × AllPut w between c made certificate texts new)
+
+-- it isn't
+abbrev pub StandsNot : {S : Type 0} → Opening S → Putting S → S → Certifying → S → Failure → Type 0
+StandsNot o w old c new failure = Behind o old c (λ between made certificate texts told. NotAllPut w between c made certificate texts new failure)
 
 -- OUT, CERT and the texts stand at their names; or none of them is opened
 abbrev pub CertifySays : {S : Type 0} → Opening S → Putting S → S → Certifying → S → Assessment → Type 0
@@ -169,21 +176,15 @@ CertifySays o w old c new (NoImage e) = ImageRefused o c.order old c.input.now n
 CertifySays o w old c new (Refused e) = IsRefusedBy o old c new e
 CertifySays o w old c new (Passed told) = Stands o w old c new told
 
--- something was certified, of which this holds
-abbrev pub Behind : {S : Type 0} → Opening S → S → Certifying → (S → Instructions → CertificateView → Type 0) → Type 0
-Behind {S} o old c holds =
-    (between : S) × (made : Instructions) × (certificate : CertificateView) × (notes : List (Option Counterpart)) × (told : Certification)
-    × Certifies o old c between made certificate notes told × holds between made certificate
-
 abbrev pub CertifyFails : {S : Type 0} → Opening S → Putting S → S → Certifying → S → Failure → Type 0
 CertifyFails o w old c new (CannotRead name) = ImageFails o old c.input.now new (CannotRead name)
-CertifyFails o w old c new (CannotWrite name) = Behind o old c (λ between made certificate. NotAllPut w between c made certificate new (CannotWrite name))
+CertifyFails o w old c new (CannotWrite name) = StandsNot o w old c new (CannotWrite name)
 CertifyFails o w old c new NoMemory = ⊤
 CertifyFails o w old c new failure = ⊥
 
 -- Where that fails, the input was opened, or couldn't be; or not all came to stand at their names.
 abbrev pub NotCertified : {S : Type 0} → Opening S → Putting S → S → Certifying → S → Type 0
-NotCertified o w old c new = Tried o old c.input.now new ⊎ Behind o old c (λ between made certificate. NotAllStand w between c made certificate new)
+NotCertified o w old c new = Tried o old c.input.now new ⊎ ((failure : Failure) × StandsNot o w old c new failure)
 
 -- ---- with the lines of the source at a name, which is opened first
 

@@ -8,6 +8,7 @@ use Rattle.bpf_c.specs.Names.{is_name}
 use Rattle.bpf_request.specs.declared.certifying.Certifying.{Certifying}
 use Rattle.bpf_request.specs.declared.converting.Converting.{Converting}
 use Rattle.bpf_request.specs.declared.emitting.Emitting.{Emitting}
+use Rattle.bpf_request.specs.declared.hardening.Hardening.{Hardening}
 use Rattle.bpf_request.specs.declared.words.Request.{Request}
 use Rattle.bpf_request.specs.declared.words.Request.TheVariants.{Groups, Asm, List as ListOf, Run, Check, RunChecked, Replay, Infer, Harden, Certify, Convert, ToC, Follows, Migrate, Explain}
 use Rattle.bpf_request.specs.declared.subject.Aspect.{Aspect}
@@ -25,6 +26,10 @@ twice first second = if bytes_eq first (codes "-") && bytes_eq second (codes "-"
 -- standard input for two of three names
 abbrev pub thrice : List ℕ → List ℕ → List ℕ → Option Failure
 thrice first second third = option_or (option_or (twice first second) (twice first third)) (twice second third)
+
+-- for two of four
+abbrev pub twice_in_four : List ℕ → List ℕ → List ℕ → List ℕ → Option Failure
+twice_in_four first second third fourth = option_or (option_or (option_or (thrice first second third) (twice first fourth)) (twice second fourth)) (twice third fourth)
 
 -- the name that is given, if one is
 abbrev pub name_given : Option (Bor (List ℕ)) → List ℕ
@@ -57,6 +62,12 @@ same_names (Some first) second = same_name first.now second
 -- of OUT, the notes and the changes
 abbrev pub written_twice : List ℕ → (notes changes : Option (Bor (List ℕ))) → Option Failure
 written_twice output notes changes = option_or (option_or (same_name output notes) (same_name output changes)) (same_names notes changes)
+
+-- of OUT, the certificate, the notes and the changes of a hardening
+abbrev pub harden_conflict : Hardening → Option Failure
+harden_conflict h =
+    option_or (option_or (option_or (written_twice h.output.now h.notes h.changes) (same_name h.output.now h.certificate)) (same_names h.certificate h.notes))
+    (same_names h.certificate h.changes)
 
 -- standard output for a file, where it takes the line
 abbrev pub dashed : List ℕ → Option Failure
@@ -108,10 +119,10 @@ conflict_of (Check c) = twice c.input.now c.certificate.now
 conflict_of (RunChecked r) = thrice r.input.now r.certificate.now (name_of r.contexts)
 conflict_of (Replay r) = thrice r.input.now r.certificate.now (name_given r.packets)
 conflict_of (Infer i) = out_of_order i.least i.most
-conflict_of (Harden h) = written_twice h.output.now h.notes h.changes
+conflict_of (Harden h) = harden_conflict h
 conflict_of (Certify c) = certify_conflict c
 conflict_of (Convert c) = conversion_conflict c
 conflict_of (ToC e) = emission_conflict e
-conflict_of (Follows f) = thrice f.original.now f.rewritten.now f.notes.now
+conflict_of (Follows f) = twice_in_four f.original.now f.rewritten.now f.notes.now f.certificate.now
 conflict_of (Migrate t) = None
 conflict_of (Explain e) = conflict_with e.input.now e.lines e.subject

@@ -13,10 +13,10 @@ use Rattle.bpf_check.specs.declared.refusal.Refusal.{Refusal}
 use Rattle.bpf_check.specs.RefusalNumbers.{refusal_slot, refusal_number}
 use Rattle.bpf_insn.specs.Limits.{max_context}
 use Rattle.bpf_infer_base.specs.RefusalNumbers.{infer_slot}
-use Rattle.bpf_follows.specs.declared.notes.Bounds.{Bounds}
-use Rattle.bpf_follows.specs.declared.notes.Counterpart.{Counterpart}
-use Rattle.bpf_follows.specs.Meaning.{KeepsMeaning}
-use Rattle.bpf_follows.specs.Mismatches.{IsMismatch}
+use Rattle.bpf_kept.specs.declared.bounds.Bounds.{Bounds}
+use Rattle.bpf_kept.specs.Matching.{Notes}
+use Rattle.bpf_kept.specs.Shown.{Keeps}
+use Rattle.bpf_harden_kept.specs.Evidence.{Fails}
 use Rattle.bpf_changes.specs.RefusalNumbers.{harden_slot}
 use Rattle.bpf_answers.specs.Opened.{Opening}
 use Rattle.bpf_answers.specs.Loaded.{ImageFails, ReadableFails, ShortTextAt, Tried}
@@ -61,21 +61,23 @@ SoughtSays least most p answer = ⊥
 abbrev pub runs_for : (length : ℕ) → (padded : Bool) → (turns untouched : ℕ) → Bounds
 runs_for length padded turns untouched = record { length = min length max_context; padded = padded; turns = turns; untouched = untouched }
 
--- The new program keeps the meaning of the old one, and the certificate is for contexts of this length.
+-- The new program keeps the meaning of the old one, by some notes, and the certificate is for contexts of this length.
 pub record IsHardened (length : ℕ) (padded : Bool) (turns : ℕ) (old new : Instructions) (c : CertificateView) : Type 0 where
   pub untouched : ℕ
-  pub keeps : KeepsMeaning old new (runs_for length padded turns untouched)
+  pub notes : Notes
+  pub keeps : Keeps old new notes (runs_for length padded turns untouched)
   pub least : c.least ≡ min length max_context
   pub most : c.most ≡ min length max_context
 
 -- What is said of a program that was to be hardened: what was made keeps its meaning, and its certificate certifies it, or doesn't; or none was
--- made; or notes don't show that it keeps the meaning.
+-- made; or notes don't show that it keeps the meaning, beside what was found for it.
 abbrev pub HardenedSays : (length : ℕ) → (padded : Bool) → (turns : ℕ) → Instructions → Answer → Type 0
 HardenedSays length padded turns p Written = (made : Instructions) × (c : CertificateView) × IsHardened length padded turns p made c × IsCertifiedBy made c
 HardenedSays length padded turns p (NotCertified r) =
     (made : Instructions) × (c : CertificateView) × IsHardened length padded turns p made c × IsLeastFlaw made c (refusal_slot r) (refusal_number r)
 HardenedSays length padded turns p (NotHardened e) = harden_slot e < slots p.list
-HardenedSays length padded turns p (NotShown m) = (made : Instructions) × (notes : List (Option Counterpart)) × IsMismatch p made notes (runs_for length padded turns 0) m
+HardenedSays length padded turns p (NotShown m) =
+    (made : Instructions) × (found : Option CertificateView) × (notes : Notes) × Fails p made found notes (runs_for length padded turns 0) m
 HardenedSays length padded turns p answer = ⊥
 
 -- what is said of a program for which something was made

@@ -1,15 +1,16 @@
 -- What is hardened, and what is put at the names of the answer.
-use Rattle.std.specs.Prelude.{◌≡◌, ◌⊎◌, ◌<◌, ℕ, List, true, false, Option, Some, None, IfSome, IfNone, IsSomeAnd, MatchOption, unwrap_or, ⊤}
-use Rattle.std.specs.Borrow.{Bor}
+use Rattle.std.specs.Prelude.{◌≡◌, ◌⊎◌, ◌<◌, ◌&&◌, ◌++◌, ℕ, List, [], Bool, true, false, Option, Some, None, IfSome, IfNone, IsSome, is_none, unwrap_or, ⊤}
 use Rattle.bpf_insn.specs.Instruction.{Instructions, slots}
 use Rattle.bpf_insn.specs.Image.{IsProgram, image}
-use Rattle.bpf_follows.specs.declared.notes.Bounds.{Bounds}
-use Rattle.bpf_follows.specs.declared.notes.Counterpart.{Counterpart}
-use Rattle.bpf_follows.specs.Matching.{Matches}
-use Rattle.bpf_follows.specs.Mismatches.{IsMismatch}
-use Rattle.bpf_follows.specs.declared.mismatch.Mismatch.{Mismatch}
-use Rattle.bpf_follows.specs.Meaning.{KeepsMeaning}
-use Rattle.bpf_follows.specs.NotesText.{notes_text}
+use Rattle.bpf_cert.specs.View.{CertificateView}
+use Rattle.bpf_cert.specs.Spelling.{certificate_text}
+use Rattle.bpf_kept.specs.declared.bounds.Bounds.{Bounds}
+use Rattle.bpf_kept.specs.Matching.{Notes}
+use Rattle.bpf_kept.specs.Shown.{Keeps}
+use Rattle.bpf_kept.specs.declared.mismatch.Mismatch.{Mismatch}
+use Rattle.bpf_kept.specs.declared.mismatch.Mismatch.TheVariants.{Order, Start, At, TooMany, Length}
+use Rattle.bpf_kept_notes.specs.NotesText.{notes_text}
+use Rattle.bpf_harden_kept.specs.Evidence.{Fails, IsEvidence}
 use Rattle.bpf_changes.specs.RefusalNumbers.{harden_slot}
 use Rattle.bpf_request.specs.declared.hardening.Hardening.{Hardening}
 use Rattle.bpf_answers.specs.Opened.{Opening}
@@ -24,40 +25,20 @@ use Rattle.bpf_command.specs.declared.commands.harden.UnshownMeaning.{UnshownMea
 use Rattle.bpf_command.specs.declared.commands.harden.UnshownMeaning.TheVariants.{Memory as NoSpace, Differs}
 use Rattle.bpf_answers.specs.declared.failure.Failure.{Failure}
 use Rattle.bpf_answers.specs.declared.failure.Failure.TheVariants.{CannotRead, CannotWrite, NoMemory}
+use Rattle.bpf_command.specs.Texts.{NamedTexts, TextsFail, TextsStand, named, notes_and_changes}
 
--- ---- a text at a name, if one is given
+-- ---- the texts behind OUT
 
-abbrev pub Stands : {S : Type 0} → Making S → S → Option (Bor (List ℕ)) → List ℕ → S → Type 0
-Stands making old None text new = new ≡ old
-Stands making old (Some name) text new = making old name.now text true new
+-- the certificate's text, where hardening found one
+abbrev pub found_text : Option CertificateView → List ℕ
+found_text None = []
+found_text (Some c) = certificate_text c
 
--- it can't be put there
-abbrev pub Unput : {S : Type 0} → Making S → S → Option (Bor (List ℕ)) → S → Failure → Type 0
-Unput making old name new (CannotWrite failed) = IsSomeAnd name (λ n. (failed.now ≡ n.now) × ((text : List ℕ) × making old n.now text false new))
-Unput making old name new NoMemory = ⊤
-Unput making old name new failure = ⊥
+-- that of the certificate, that of its notes, and then that of the changes
+abbrev pub texts_of : Hardening → Option CertificateView → (notes changes : List ℕ) → NamedTexts
+texts_of h found notes changes = named h.certificate (found_text found) ++ notes_and_changes h notes changes
 
--- nothing came to stand there
-abbrev pub IsLeft : {S : Type 0} → Making S → S → Option (Bor (List ℕ)) → S → Type 0
-IsLeft making old name new = IsSomeAnd name (λ n. (text : List ℕ) × making old n.now text false new)
-
--- ---- notes, and then changes
-
--- the notes' text stands at its name, and a text of the changes at its own
-abbrev pub BothStand : {S : Type 0} → Making S → S → Hardening → List ℕ → S → Type 0
-BothStand {S} making old h notes new =
-    (between : S) × (changes : List ℕ) × Stands making old h.notes notes between × Stands making between h.changes changes new
-
-abbrev pub NotBothPut : {S : Type 0} → Making S → S → Hardening → S → Failure → Type 0
-NotBothPut {S} making old h new failure =
-    Unput making old h.notes new failure
-    ⊎ ((between : S) × (notes : List ℕ) × Stands making old h.notes notes between × Unput making between h.changes new failure)
-
-abbrev pub NotBothStand : {S : Type 0} → Making S → S → Hardening → S → Type 0
-NotBothStand {S} making old h new =
-    IsLeft making old h.notes new ⊎ ((between : S) × (notes : List ℕ) × Stands making old h.notes notes between × IsLeft making between h.changes new)
-
--- ---- both behind OUT
+-- ---- what is shown
 
 -- the contexts and the turns for which it is hardened, and how many of the lowest bytes of each frame the old program leaves to r10
 abbrev pub bounds_of : Hardening → ℕ → Bounds
@@ -87,42 +68,53 @@ attempt_answer (NotHardened e) = HardenAnswer e
 attempt_answer (NotShown m) = ShowAnswer m
 attempt_answer (Hardened kept) = said_answer kept.said
 
--- What was made isn't shown to keep the meaning: for want of memory, or, without `--unproved`, since notes don't match.
+-- What fails goes out with `--unproved`, but no certificate for the contexts if a name for it is given.
+abbrev pub goes_out : Hardening → Mismatch → Bool
+goes_out h Length = h.unproved && is_none h.certificate
+goes_out h Order = h.unproved
+goes_out h Start = h.unproved
+goes_out h (At slot before fault) = h.unproved
+goes_out h TooMany = h.unproved
+
+-- What was made isn't shown to keep the meaning: for want of memory, or since notes don't match beside the certificate that was found, or there is
+-- none, and this doesn't go out.
 abbrev pub IsUnshown : Instructions → Instructions → Hardening → UnshownMeaning → Type 0
 IsUnshown program made h NoSpace = ⊤
-IsUnshown program made h (Differs m) = (h.unproved ≡ false) × ((notes : List (Option Counterpart)) × IsMismatch program made notes (bounds_of h (asked_bytes h)) m)
+IsUnshown program made h (Differs m) =
+    (goes_out h m ≡ false) × ((found : Option CertificateView) × (notes : Notes) × Fails program made found notes (bounds_of h (asked_bytes h)) m)
 
--- Notes show that what was made keeps the meaning, for these contexts and runs; or this fails of them.
-abbrev pub Show : Instructions → Instructions → List (Option Counterpart) → Bounds → Option Mismatch → Type 0
-Show program made notes bounds mismatch = MatchOption mismatch (Matches program made notes bounds) (IsMismatch program made notes bounds)
-
--- What is told of a hardened program is so: on the contexts and for the turns that were asked for, where runs leave so many bytes to r10, its notes
--- match, or this fails of them. Without `--unproved` they match.
-pub record IsKept (program made : Instructions) (h : Hardening) (notes : List (Option Counterpart)) (kept : KeptMeaning) : Type 0 where
+-- What is told of a hardened program is so: on the contexts and for the turns that were asked for, where runs leave so many bytes to r10, the
+-- certificate that was found certifies it and its notes match beside that, or this fails. Without `--unproved` they match. One was found where a name
+-- for it is given.
+pub record IsKept (program made : Instructions) (h : Hardening) (found : Option CertificateView) (notes : Notes) (kept : KeptMeaning) : Type 0 where
   pub untouched : ℕ
   pub left : AreLeft h untouched
   pub said : IsLeftSaid h untouched kept.said
   pub bounds_are : kept.bounds ≡ bounds_of h untouched
-  pub shown : Show program made notes kept.bounds kept.mismatch
+  pub shown : IsEvidence program made found notes kept.bounds kept.mismatch
   pub proved : h.unproved ≡ false → kept.mismatch ≡ None
+  pub there : IfSome h.certificate (λ _. IsSome found)
 
--- There are notes of which that is so, and a text is theirs, where a name for it is given.
-abbrev pub IsNoted : Instructions → Instructions → Hardening → KeptMeaning → List ℕ → Type 0
-IsNoted program made h kept text = (notes : List (Option Counterpart)) × IsKept program made h notes kept × IfSome h.notes (λ _. text ≡ notes_text notes)
+-- There are notes of which that is so, and a text is theirs, for the runs that are told, where a name for it is given.
+abbrev pub IsNoted : Instructions → Instructions → Hardening → Option CertificateView → KeptMeaning → List ℕ → Type 0
+IsNoted program made h found kept text = (notes : Notes) × IsKept program made h found notes kept × IfSome h.notes (λ _. text ≡ notes_text kept.bounds notes)
 
 -- The image is a program's, and what was made of it is a program, of which what is told is so. Where its notes match it keeps the meaning.
-pub record Hardens {S : Type 0} (opening : Opening S) (old : S) (h : Hardening) (new : S) (made : Instructions) (notes : List (Option Counterpart)) (kept : KeptMeaning) : Type 0 where
+pub record Hardens {S : Type 0} (opening : Opening S) (old : S) (h : Hardening) (new : S) (made : Instructions) (found : Option CertificateView) (notes : Notes) (kept : KeptMeaning) : Type 0 where
   pub program : Instructions
   pub loads : LoadsImage opening h.order old h.input.now new program
   pub is_program : IsProgram made.list
-  pub is_kept : IsKept program made h notes kept
-  pub keeps : IfNone kept.mismatch (KeepsMeaning program made kept.bounds)
+  pub is_kept : IsKept program made h found notes kept
+  pub keeps : IfNone kept.mismatch (Keeps program made notes kept.bounds)
+
+-- ---- what stands at OUT and at the names of the texts
 
 -- OUT holds the image of the program that was made, and the texts stand at their names
 abbrev pub AllStand : {S : Type 0} → Opening S → Making S → S → Hardening → S → KeptMeaning → Type 0
 AllStand {S} opening making old h new kept =
-    (between put : S) × (made : Instructions) × (notes : List (Option Counterpart)) × Hardens opening old h between made notes kept
-    × making between h.output.now (image made.order made.list) true put × BothStand making put h (notes_text notes) new
+    (between put : S) × (made : Instructions) × (found : Option CertificateView) × (notes : Notes) × (changes : List ℕ)
+    × Hardens opening old h between made found notes kept × making between h.output.now (image made.order made.list) true put
+    × TextsStand making put (texts_of h found (notes_text kept.bounds notes) changes) new
 
 -- all stand, or none of them is opened
 abbrev pub HardenSays : {S : Type 0} → Opening S → Making S → S → Hardening → S → Attempt → Type 0
@@ -135,25 +127,25 @@ HardenSays opening making old h new (Hardened kept) = AllStand opening making ol
 -- the image can't be put at OUT
 abbrev pub NoOut : {S : Type 0} → Opening S → Making S → S → Hardening → S → Type 0
 NoOut {S} opening making old h new =
-    (between : S) × (made : Instructions) × (notes : List (Option Counterpart)) × (kept : KeptMeaning) × Hardens opening old h between made notes kept
-    × making between h.output.now (image made.order made.list) false new
+    (between : S) × (made : Instructions) × (found : Option CertificateView) × (notes : Notes) × (kept : KeptMeaning)
+    × Hardens opening old h between made found notes kept × making between h.output.now (image made.order made.list) false new
 
--- it stands at OUT, and of the texts this holds
-abbrev pub BehindOut : {S : Type 0} → Opening S → Making S → S → Hardening → (S → Type 0) → Type 0
-BehindOut {S} opening making old h holds =
-    (between put : S) × (made : Instructions) × (notes : List (Option Counterpart)) × (kept : KeptMeaning) × Hardens opening old h between made notes kept
-    × making between h.output.now (image made.order made.list) true put × holds put
+-- it stands at OUT, and one of the texts can't be put at its name
+abbrev pub TextsFailBehind : {S : Type 0} → Opening S → Making S → S → Hardening → S → Failure → Type 0
+TextsFailBehind {S} opening making old h new failure =
+    (between put : S) × (made : Instructions) × (found : Option CertificateView) × (notes : Notes) × (kept : KeptMeaning) × (changes : List ℕ)
+    × Hardens opening old h between made found notes kept × making between h.output.now (image made.order made.list) true put
+    × TextsFail making put (texts_of h found (notes_text kept.bounds notes) changes) new failure
 
 -- the texts are written when OUT stands
 abbrev pub HardenFails : {S : Type 0} → Opening S → Making S → S → Hardening → S → Failure → Type 0
 HardenFails opening making old h new (CannotRead name) = ImageFails opening old h.input.now new (CannotRead name)
 HardenFails opening making old h new (CannotWrite name) =
-    ((name.now ≡ h.output.now) × NoOut opening making old h new)
-    ⊎ BehindOut opening making old h (λ put. NotBothPut making put h new (CannotWrite name))
+    ((name.now ≡ h.output.now) × NoOut opening making old h new) ⊎ TextsFailBehind opening making old h new (CannotWrite name)
 HardenFails opening making old h new NoMemory = ⊤
 HardenFails opening making old h new failure = ⊥
 
--- where that fails, the input was opened, or couldn't be, and nothing came to stand at OUT; or OUT stands, and not both texts do
+-- where that fails, the input was opened, or couldn't be, and nothing came to stand at OUT; or OUT stands, and not all of the texts do
 abbrev pub NotAllMade : {S : Type 0} → Opening S → Making S → S → Hardening → S → Type 0
 NotAllMade opening making old h new =
-    Tried opening old h.input.now new ⊎ NoOut opening making old h new ⊎ BehindOut opening making old h (λ put. NotBothStand making put h new)
+    Tried opening old h.input.now new ⊎ NoOut opening making old h new ⊎ ((failure : Failure) × TextsFailBehind opening making old h new failure)

@@ -1,5 +1,6 @@
 pub mod Advice
 pub mod Inferred
+pub mod Texts
 pub mod Hardened
 pub mod Names
 pub mod Explained

@@ -21,20 +21,25 @@ abbrev pub MeetEither : {S : Type 0} → Meeting S → S → (first second : Opt
 MeetEither meets s None second one = one ≡ false
 MeetEither meets s (Some first) second one = MeetsOne meets s first.now second one
 
--- What a hardening writes has places of its own, and its notes and changes don't come in the place of the image that is hardened; or some
--- of this isn't so.
+-- The notes and the changes of a hardening don't come in the place of other things that are written, or of the image that is hardened; or some of
+-- this isn't so.
 abbrev pub IsInTheWay : {S : Type 0} → Meeting S → S → Hardening → Bool → Type 0
 IsInTheWay meets s h one =
     (notes changes both image source : Bool)
     × MeetsOne meets s h.output.now h.notes notes × MeetsOne meets s h.output.now h.changes changes × MeetEither meets s h.notes h.changes both
     × MeetsOne meets s h.input.now h.notes image × MeetsOne meets s h.input.now h.changes source × (one ≡ (notes || changes || both || image || source))
 
--- a certificate doesn't come in the place of other things that are written, or of the image; or some of this isn't so
-abbrev pub IsCertificateInTheWay : {S : Type 0} → Meeting S → S → Certifying → Bool → Type 0
-IsCertificateInTheWay meets s c one =
+-- a certificate doesn't, if a name for it is given; or some of this isn't so
+abbrev pub IsCertificateInTheWay : {S : Type 0} → Meeting S → S → Option (Bor (List ℕ)) → Hardening → Bool → Type 0
+IsCertificateInTheWay meets s certificate h one =
     (output notes changes image : Bool)
-    × meets s c.certificate.now c.output.now output × MeetsOne meets s c.certificate.now c.notes notes × MeetsOne meets s c.certificate.now c.changes changes
-    × meets s c.input.now c.certificate.now image × (one ≡ (output || notes || changes || image))
+    × MeetEither meets s certificate (Some h.output) output × MeetEither meets s certificate h.notes notes × MeetEither meets s certificate h.changes changes
+    × MeetsOne meets s h.input.now certificate image × (one ≡ (output || notes || changes || image))
+
+-- what a hardening writes has places of its own; or some of this isn't so
+abbrev pub IsHardeningInTheWay : {S : Type 0} → Meeting S → S → Hardening → Bool → Type 0
+IsHardeningInTheWay meets s h one =
+    (texts certificate : Bool) × IsInTheWay meets s h texts × IsCertificateInTheWay meets s h.certificate h certificate × (one ≡ (texts || certificate))
 
 -- nothing that is written comes in the place of the lines of the source; or something does
 abbrev pub AreLinesInTheWay : {S : Type 0} → Meeting S → S → Certifying → Bool → Type 0
@@ -47,7 +52,7 @@ AreLinesInTheWay meets s c one =
 abbrev pub IsAnyInTheWay : {S : Type 0} → Meeting S → S → Certifying → Bool → Type 0
 IsAnyInTheWay meets s c one =
     (hardened certificate lines : Bool)
-    × IsInTheWay meets s (hardening_of c) hardened × IsCertificateInTheWay meets s c certificate × AreLinesInTheWay meets s c lines
+    × IsInTheWay meets s (hardening_of c) hardened × IsCertificateInTheWay meets s (Some c.certificate) (hardening_of c) certificate × AreLinesInTheWay meets s c lines
     × (one ≡ (hardened || certificate || lines))
 
 -- what a conversion writes has places of its own, and doesn't come in the place of the filter; or some of this isn't so
@@ -68,7 +73,7 @@ Obstructs meets s (RunChecked r) one = one ≡ false
 Obstructs meets s (Replay r) one = one ≡ false
 Obstructs meets s (Infer i) one = one ≡ false
 Obstructs meets s (Explain e) one = one ≡ false
-Obstructs meets s (Harden h) one = IsInTheWay meets s h one
+Obstructs meets s (Harden h) one = IsHardeningInTheWay meets s h one
 Obstructs meets s (Certify c) one = IsAnyInTheWay meets s c one
 Obstructs meets s (Convert c) one = IsConversionInTheWay meets s c one
 Obstructs meets s (ToC e) one = one ≡ false

@@ -10,8 +10,8 @@ use Rattle.bpf_answers.specs.declared.answer.Answer.{Answer}
 use Rattle.bpf_answers.specs.declared.answer.Answer.TheVariants.{NoCapture}
 use Rattle.bpf_answers.specs.declared.reply.Reply.TheVariants.{One}
 use Rattle.bpf_command_core.specs.declared.conversion.Conversion.TheVariants.{Refused}
-use Rattle.bpf_follows.specs.declared.mismatch.Mismatch.{Mismatch}
-use Rattle.bpf_follows.specs.declared.notes.Bounds.{Bounds}
+use Rattle.bpf_kept.specs.declared.bounds.Bounds.{Bounds}
+use Rattle.bpf_kept.specs.declared.mismatch.Mismatch.{Mismatch}
 use Rattle.bpf_command.specs.declared.commands.certify.Assessment.{Assessment}
 use Rattle.bpf_command.specs.declared.commands.certify.Assessment.TheVariants.{NoImage as NoImageThere, Refused as IsRefused, Passed}
 use Rattle.bpf_command.specs.declared.commands.harden.Attempt.{Attempt}

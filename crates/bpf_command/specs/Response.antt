@@ -130,7 +130,7 @@ NotMade n (Harden h) = NotAllMade n.opens n.makes n.old h n.new
 NotMade n (Certify c) = NotCertifiedWith n.opens n.puts n.old c n.new
 NotMade n (Convert c) = NotConverted n.opens n.places n.old c n.new
 NotMade n (ToC e) = NotEmitted n.opens n.makes n.old e n.new
-NotMade n (Follows f) = OpensFirst n.opens (f.original.now ∷ f.rewritten.now ∷ f.notes.now ∷ []) n.old n.new
+NotMade n (Follows f) = OpensFirst n.opens (f.original.now ∷ f.rewritten.now ∷ f.notes.now ∷ f.certificate.now ∷ []) n.old n.new
 NotMade n (Explain e) = OpensFirst n.opens (names_opened e) n.old n.new
 NotMade n (Migrate t) = NotMigrated n.opens n.makes n.old t.certificate.now t.output.now n.new
 

@@ -10,10 +10,10 @@ use crate::remark::Remark;
 use crate::shown::OneLine;
 use bpf_answers::{ContextError, Failure};
 use bpf_explain_harden::Unshown;
-use bpf_follows::{Bounds, Mismatch};
 use bpf_harden::HardenError;
 use bpf_infer::{ForeseenCondition, InferError};
 use bpf_insn::Order;
+use bpf_kept::{Bounds, Mismatch};
 use bpf_request::{Clash, Contexts, Hardening, Inferring, Request, Subject};
 use std::alloc::{AllocError, Global};
 use std::fmt::{self, Display};
@@ -218,13 +218,9 @@ pub(crate) fn after_proof<H: Terminal>(alloc: Global, aside: &H, remark: Remark<
     }
 }
 
-/// Tells what of the notes of a hardened program fails.
+/// Tells what of the notes of a hardened program fails, in a sentence.
 pub(crate) fn after_mismatch<H: Terminal>(aside: &H, mismatch: Mismatch) {
-    let (number, slot) = (mismatch.number(), mismatch.slot());
-    tell!(
-        aside,
-        "not shown to keep the meaning: M{number} at slot {slot}"
-    )
+    tell_line(aside, Unshown(mismatch));
 }
 
 // ---- failures
@@ -267,7 +263,7 @@ fn misfit_text(request: Request<'_>) -> Option<&'static str> {
             "--name is a letter, then up to 24 letters, digits and `_`, no keyword of C, and not `main`",
         ),
         Request::Harden(_) => Some(
-            "OUT, --notes and --changes lead to files of their own, and neither --notes nor --changes to IN",
+            "OUT, --certificate, --notes and --changes lead to files of their own, and but for OUT not to IN",
         ),
         _ => None,
     }

@@ -5,6 +5,7 @@ mod changes;
 mod explain;
 mod harden;
 mod infer;
+mod texts;
 mod trace;
 
 pub use certify::{Assessed, Assessment, certified};

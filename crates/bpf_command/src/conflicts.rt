@@ -1,11 +1,11 @@
 //! Which words of a request can't stand together.
 
 ghost use Rattle.std.specs.Prelude.{◌≡◌};
-ghost use Rattle.bpf_command.specs.Conflicts.{certify_conflict, conflict_of, conflict_with, conversion_conflict, dashed, dashed_if, emission_conflict, is_misfit, misplaced, misplaced_in, name_given, out_of_order, same_name, same_names, thrice, twice, written_twice};
+ghost use Rattle.bpf_command.specs.Conflicts.{certify_conflict, conflict_of, conflict_with, conversion_conflict, dashed, dashed_if, emission_conflict, harden_conflict, is_misfit, misplaced, misplaced_in, name_given, out_of_order, same_name, same_names, thrice, twice, twice_in_four, written_twice};
 
 use bpf_answers::Failure;
 use bpf_c::is_name;
-use bpf_request::{Aspect, Certifying, Converting, Emitting, Request, Subject};
+use bpf_request::{Aspect, Certifying, Converting, Emitting, Hardening, Request, Subject};
 
 /// Standard input can be read once.
 fn twice(first: &str, second: &str) -> Option<Failure<'static>>
@@ -25,6 +25,16 @@ fn thrice(first: &str, second: &str, third: &str) -> Option<Failure<'static>>
     twice(first, second)
         .or(twice(first, third))
         .or(twice(second, third))
+}
+
+/// So of four.
+fn twice_in_four(first: &str, second: &str, third: &str, fourth: &str) -> Option<Failure<'static>>
+    ensures { result ≡ twice_in_four first.now second.now third.now fourth.now }
+{
+    thrice(first, second, third)
+        .or(twice(first, fourth))
+        .or(twice(second, fourth))
+        .or(twice(third, fourth))
 }
 
 /// Source lines are given where none are shown.
@@ -96,6 +106,16 @@ fn written_twice(
     same_name(output, notes)
         .or(same_name(output, changes))
         .or(same_names(notes, changes))
+}
+
+/// The image, the certificate, the notes and the changes of a hardening are.
+fn harden_conflict(asked: Hardening<'_>) -> Option<Failure<'static>>
+    ensures { result ≡ harden_conflict asked.entry }
+{
+    written_twice(asked.output, asked.notes, asked.changes)
+        .or(same_name(asked.output, asked.certificate))
+        .or(same_names(asked.certificate, asked.notes))
+        .or(same_names(asked.certificate, asked.changes))
 }
 
 /// Standard output takes the line, and no file.
@@ -223,10 +243,17 @@ pub fn conflict_in(request: Request<'_>) -> Option<Failure<'static>>
             thrice(asked.input, asked.certificate, name_given(asked.packets))
         }
         Request::Infer(asked) => out_of_order(asked.least, asked.most),
-        Request::Harden(asked) => written_twice(asked.output, asked.notes, asked.changes),
+        Request::Harden(asked) => harden_conflict(asked),
         Request::Certify(asked) => certify_conflict(asked),
         Request::Convert(asked) => conversion_conflict(asked),
         Request::ToC(asked) => emission_conflict(asked),
-        Request::Follows(asked) => thrice(asked.original, asked.rewritten, asked.notes),
+        Request::Follows(asked) => {
+            twice_in_four(
+                asked.original,
+                asked.rewritten,
+                asked.notes,
+                asked.certificate,
+            )
+        }
     }
 }

@@ -1,7 +1,7 @@
 //! Which names of a request lead to one file where they may not.
 
-ghost use Rattle.std.specs.Prelude.{◌≡◌, IfOk};
-ghost use Rattle.bpf_command.specs.Obstacles.{AreLinesInTheWay, IsAnyInTheWay, IsCertificateInTheWay, IsConversionInTheWay, IsInTheWay, MeetEither, MeetsOne, Obstructs};
+ghost use Rattle.std.specs.Prelude.{◌≡◌, IfOk, Some};
+ghost use Rattle.bpf_command.specs.Obstacles.{AreLinesInTheWay, IsAnyInTheWay, IsCertificateInTheWay, IsConversionInTheWay, IsHardeningInTheWay, IsInTheWay, MeetEither, MeetsOne, Obstructs};
 
 use bpf_answers::Places;
 use bpf_request::{Certifying, Converting, Hardening, Request};
@@ -31,7 +31,7 @@ fn meet_either<P: Places>(
     }
 }
 
-/// Whether what is written of a hardening would come in the place of other things that are, or of the image.
+/// Whether the notes or the changes of a hardening would come in the place of other things that are written, or of the image.
 fn is_in_the_way<P: Places>(places: &P, asked: Hardening<'_>) -> Result<bool, AllocError>
     ensures { IfOk result (IsInTheWay P.meets places.now asked.entry) }
 {
@@ -43,18 +43,28 @@ fn is_in_the_way<P: Places>(places: &P, asked: Hardening<'_>) -> Result<bool, Al
     Ok(notes | changes | both | image | source)
 }
 
-/// Whether a certificate would come in the place of other things that are written, or of the image.
+/// Whether a certificate, if a name for it is given, would.
 fn is_certificate_in_the_way<P: Places>(
     places: &P,
-    asked: Certifying<'_>,
+    certificate: Option<&str>,
+    asked: Hardening<'_>,
 ) -> Result<bool, AllocError>
-    ensures { IfOk result (IsCertificateInTheWay P.meets places.now asked.entry) }
+    ensures { IfOk result (IsCertificateInTheWay P.meets places.now certificate.entry asked.entry) }
 {
-    let output = places.lead_to_one(asked.certificate, asked.output)?;
-    let notes = meets_one(places, asked.certificate, asked.notes)?;
-    let changes = meets_one(places, asked.certificate, asked.changes)?;
-    let image = places.lead_to_one(asked.input, asked.certificate)?;
+    let output = meet_either(places, certificate, Some(asked.output))?;
+    let notes = meet_either(places, certificate, asked.notes)?;
+    let changes = meet_either(places, certificate, asked.changes)?;
+    let image = meets_one(places, asked.input, certificate)?;
     Ok(output | notes | changes | image)
+}
+
+/// Whether what is written of a hardening would come in the place of other things that are, or of the image.
+fn is_hardening_in_the_way<P: Places>(places: &P, asked: Hardening<'_>) -> Result<bool, AllocError>
+    ensures { IfOk result (IsHardeningInTheWay P.meets places.now asked.entry) }
+{
+    let texts = is_in_the_way(places, asked)?;
+    let certificate = is_certificate_in_the_way(places, asked.certificate, asked)?;
+    Ok(texts | certificate)
 }
 
 /// Whether something that is written would come in the place of the lines of the source.
@@ -73,7 +83,11 @@ fn is_any_in_the_way<P: Places>(places: &P, asked: Certifying<'_>) -> Result<boo
     ensures { IfOk result (IsAnyInTheWay P.meets places.now asked.entry) }
 {
     let hardened = is_in_the_way(places, asked.hardening())?;
-    let certificate = is_certificate_in_the_way(places, asked)?;
+    let certificate = is_certificate_in_the_way(
+        places,
+        Some(asked.certificate),
+        asked.hardening(),
+    )?;
     let lines = are_lines_in_the_way(places, asked)?;
     Ok(hardened | certificate | lines)
 }
@@ -99,7 +113,7 @@ pub fn obstructs<P: Places>(places: &P, request: Request<'_>) -> Result<bool, Al
     ensures { IfOk result (Obstructs P.meets places.now request.entry) }
 {
     match request {
-        Request::Harden(asked) => is_in_the_way(places, asked),
+        Request::Harden(asked) => is_hardening_in_the_way(places, asked),
         Request::Certify(asked) => is_any_in_the_way(places, asked),
         Request::Convert(asked) => is_conversion_in_the_way(places, asked),
         Request::Groups(_) | Request::Asm(_) | Request::List(_) => Ok(false),

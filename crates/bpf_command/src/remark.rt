@@ -9,10 +9,10 @@ use bpf_answers::{Answer, REFUSED, Reply};
 use bpf_captures::CaptureRefusal;
 use bpf_certify::CertifyError;
 use bpf_command_core::{Conversion, Unconvertible};
-use bpf_follows::{Bounds, Mismatch};
 use bpf_harden::HardenError;
 use bpf_infer::InferError;
 use bpf_insn::{DecodeError, Order};
+use bpf_kept::{Bounds, Mismatch};
 use bpf_request::{Certifying, Hardening, Inferring, Request};
 
 /// What is told beside an answer.

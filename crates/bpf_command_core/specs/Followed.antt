@@ -1,34 +1,44 @@
--- What is said of two images and the notes that are to show that the one program keeps the meaning of the other.
-use Rattle.std.specs.Prelude.{◌≡◌, ◌⊎◌, List, Option}
+-- What is said of two images, of notes, and of the certificate beside which they are to show that the one program keeps the meaning of the other.
+use Rattle.std.specs.Prelude.{◌≡◌, ◌⊎◌}
 use Rattle.bpf_insn.specs.Instruction.{Instructions}
-use Rattle.bpf_follows.specs.declared.notes.Bounds.{Bounds}
-use Rattle.bpf_follows.specs.declared.notes.Counterpart.{Counterpart}
-use Rattle.bpf_follows.specs.Matching.{Matches}
-use Rattle.bpf_follows.specs.Mismatches.{IsMismatch}
-use Rattle.bpf_follows.specs.Meaning.{KeepsMeaning}
+use Rattle.bpf_kept.specs.Matching.{Notes}
+use Rattle.bpf_kept.specs.Mismatches.{MatchesBeside, IsMismatch}
+use Rattle.bpf_kept.specs.Shown.{Keeps}
+use Rattle.bpf_kept.specs.declared.bounds.Bounds.{Bounds}
+use Rattle.bpf_check.specs.CheckedProgram.{CheckedProgram}
 use Rattle.bpf_request.specs.declared.following.Following.{Following}
 use Rattle.bpf_answers.specs.Opened.{Opening}
-use Rattle.bpf_answers.specs.Loaded.{ImageFails, ImageRefused, LoadsImage}
+use Rattle.bpf_answers.specs.Loaded.{CertificateFails, ImageFails, ImageRefused, LoadsImage}
 use Rattle.bpf_answers.specs.Notes.{LoadsNotes, NotesFail, NotesRefused}
 use Rattle.bpf_answers.specs.declared.answer.Answer.{Answer}
 use Rattle.bpf_answers.specs.declared.answer.Answer.TheVariants.{Follows, NoNew, NoNotes, NoOld, NotFollowed}
 use Rattle.bpf_answers.specs.Told.{OutputFails}
 use Rattle.bpf_answers.specs.declared.failure.Failure.{Failure}
 use Rattle.bpf_answers.specs.declared.failure.Failure.TheVariants.{CannotRead}
+use Rattle.bpf_command_core.specs.Printed.{JudgedSays}
 
-abbrev pub bounds_of : Following → Bounds
-bounds_of f = record { length = f.length; padded = f.padded; turns = f.turns; untouched = f.untouched }
+-- Of an old program, notes for these runs, and a new one that its certificate certifies: what of the notes beside it fails, or that they match, by which
+-- the new program keeps the meaning of the old one; and the certificate's bound.
+abbrev pub ShownSays : Instructions → Bounds → Notes → CheckedProgram → Answer → Type 0
+ShownSays p runs notes k (NotFollowed m) = IsMismatch p k.program notes k.certificate runs m
+ShownSays p runs notes k (Follows bounds bound) =
+    (bounds ≡ runs) × (bound ≡ k.certificate.steps) × Keeps p k.program notes runs × MatchesBeside p k.program notes k.certificate runs
+ShownSays p runs notes k answer = ⊥
 
--- Of two programs and the notes at a name: why the text is refused, what of the notes fails, or that they match, by which the new program
--- keeps the meaning of the old one.
+-- Of two programs: why the text of notes is refused, or what is said of the notes and the certificate. The notes are judged before the certificate's name
+-- is opened.
 abbrev pub NotedSays : {S : Type 0} → Opening S → S → Following → S → (p q : Instructions) → Answer → Type 0
 NotedSays opening old f new p q (NoNotes e) = NotesRefused opening old f.notes.now new e
-NotedSays opening old f new p q (NotFollowed m) =
-    (notes : List (Option Counterpart)) × LoadsNotes opening old f.notes.now new notes × IsMismatch p q notes (bounds_of f) m
-NotedSays opening old f new p q (Follows bounds) =
-    (bounds ≡ bounds_of f) × KeepsMeaning p q (bounds_of f)
-    × ((notes : List (Option Counterpart)) × LoadsNotes opening old f.notes.now new notes × Matches p q notes (bounds_of f))
-NotedSays opening old f new p q answer = ⊥
+NotedSays {S} opening old f new p q answer =
+    (between : S) × (runs : Bounds) × (notes : Notes) × LoadsNotes opening old f.notes.now between runs notes
+    × JudgedSays opening between f.certificate.now new q (ShownSays p runs notes) answer
+
+abbrev pub NotedFails : {S : Type 0} → Opening S → S → Following → S → Failure → Type 0
+NotedFails {S} opening old f new (CannotRead name) =
+    NotesFail opening old f.notes.now new (CannotRead name)
+    ⊎ ((between : S) × (runs : Bounds) × (notes : Notes) × LoadsNotes opening old f.notes.now between runs notes
+    × CertificateFails opening between f.certificate.now new (CannotRead name))
+NotedFails opening old f new failure = OutputFails failure
 
 -- the new image is judged before the notes' name is opened
 abbrev pub RewrittenSays : {S : Type 0} → Opening S → S → Following → S → Instructions → Answer → Type 0
@@ -40,7 +50,7 @@ abbrev pub RewrittenFails : {S : Type 0} → Opening S → S → Following → S
 RewrittenFails {S} opening old f new (CannotRead name) =
     ImageFails opening old f.rewritten.now new (CannotRead name)
     ⊎ ((between : S) × (q : Instructions) × LoadsImage opening f.order old f.rewritten.now between q
-    × NotesFail opening between f.notes.now new (CannotRead name))
+    × NotedFails opening between f new (CannotRead name))
 RewrittenFails opening old f new failure = OutputFails failure
 
 -- the old image is judged before the new one's name is opened

@@ -4,8 +4,9 @@ ghost use Rattle.std.specs.Prelude.{◌≡◌, ◌≤◌, IfOk, IfErr, IfSome, I
 ghost use Rattle.bpf_insn.specs.Limits.{max_context};
 ghost use Rattle.bpf_safety.specs.Certified.{IsLeastFlaw};
 ghost use Rattle.bpf_check.specs.CheckedProgram.{IsCertifiedBy};
-ghost use Rattle.bpf_follows.specs.Meaning.{KeepsMeaning};
 ghost use Rattle.bpf_check.specs.RefusalNumbers.{refusal_number, refusal_slot};
+ghost use Rattle.bpf_kept.specs.Matching.{Notes};
+ghost use Rattle.bpf_kept.specs.Shown.{Keeps};
 ghost use Rattle.bpf_explain_harden.specs.Hardened.{IsMade, IsUnhardened, runs_of};
 
 use crate::lines::moved_lines;
@@ -15,11 +16,11 @@ use bpf_check::Refusal;
 use bpf_explain_program::{
     Shown, refusal_of, source_at, tell_reason, tell_shown, tell_sketch, tell_sketched_dot,
 };
-use bpf_follows::{Bounds, matching_keeps_meaning};
 use bpf_harden::{HardenError, Hardened, Options, harden};
-use bpf_harden_follows::evidence_of;
+use bpf_harden_kept::evidence_of;
 use bpf_infer::{InferError, SearchStop, Watch, search_or_stop};
 use bpf_insn::{Code, Program};
+use bpf_kept::Bounds;
 use bpf_semantics::HEAD_BYTES;
 use bpf_streams::{Page, Tell};
 use std::alloc::Global;
@@ -63,7 +64,7 @@ fn runs_of(asked: HardeningAsked<'_>, untouched: u32) -> Bounds
     Bounds {
         length: asked.length,
         padded: asked.padded,
-        turns: asked.turns,
+        turns: u64::from(asked.turns),
         untouched,
     }
 }
@@ -75,11 +76,10 @@ fn left_for(
     hardened: &Hardened,
     asked: HardeningAsked<'_>,
 ) -> Result<u32, Unhardened>
-    ensures keeps { IfOk result (λ untouched. KeepsMeaning program.now hardened.now.program (runs_of asked.entry untouched)) }
+    ensures keeps { IfOk result (λ untouched. (notes : Notes) × Keeps program.now hardened.now.program notes (runs_of asked.entry untouched)) }
     ensures err { IfErr result (IsUnhardened program.now asked.entry) }
 {
     let _slots = Code::slots(program);
-    matching_keeps_meaning();
     let Ok(found) = evidence_of(alloc, program, hardened, runs_of(asked, 0)) else {
         return Err(Unhardened::Refused(HardenError::Memory));
     };

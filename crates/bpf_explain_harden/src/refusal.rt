@@ -1,13 +1,14 @@
 //! Why no hardened program comes out, in a sentence.
 
-use bpf_follows::{Mismatch, mismatch_text};
 use bpf_harden::HardenError;
+use bpf_kept::{Mismatch, NoteFault, mismatch_text};
 use bpf_refusals::NOT_SHOWN;
 use std::fmt::{self, Display};
 
-/// The numbers of the mismatches where pointers are put in order: another instruction stands there, or it reads what may be
-/// something else.
-const OF_ORDER: [u8; 2] = [4, 5];
+/// What to change where an instruction reads what may be something else: pointers into the frame may be offsets in the new program, and their order
+/// isn't shown.
+const OF_ORDER: &str =
+    "; where it puts pointers into the frame in order, compare offsets, not pointers";
 
 /// Why no hardened program comes out.
 #[derive(Clone, Copy)]
@@ -65,10 +66,12 @@ impl Display for Unshown {
     fn fmt<W: fmt::Write>(&self, f: &mut fmt::Formatter<W>) -> fmt::Result {
         let (number, slot) = (self.0.number(), self.0.slot());
         let text = mismatch_text(u32::from(number)).unwrap_or("its notes fail");
-        let advice = if OF_ORDER.contains(&number) {
-            "; where it puts pointers in order, compare offsets, not pointers"
-        } else {
-            ""
+        let advice = match self.0 {
+            Mismatch::At {
+                fault: NoteFault::Read,
+                ..
+            } => OF_ORDER,
+            _ => "",
         };
         write!(
             f,

@@ -5,9 +5,11 @@
 mod brought;
 mod evidence;
 mod finder;
+mod functions;
 mod note;
 mod ranks;
 mod sites;
+mod states;
 mod turns;
 
-pub use evidence::{EvidenceOnAddresses, evidence_for, evidence_of};
+pub use evidence::{Evidence, evidence_for, evidence_of};

@@ -4,9 +4,10 @@ use crate::brought::brought;
 use crate::ranks::{RANKS, rank_of};
 use crate::sites::NewSite;
 use crate::turns::Head;
+use bpf_insn::Reg;
 use bpf_kept::{
-    COUNTERS, Change, FACTS, Fact, Holder, KnownHere, Note, SLOTS, TurnsLeft, constant,
-    counts_behind, end_facts, gives, holds_behind, is_told, is_zero_slot, known_number,
+    BACK, COUNTERS, Change, FACTS, Fact, Holder, KnownHere, Note, SLOTS, TurnsLeft, constant,
+    counts_behind, end_facts, gives, holds_behind, is_spared, is_told, is_zero_slot, known_number,
     same_holder, same_slot, zero,
 };
 use std::alloc::{AllocError, Global};
@@ -23,7 +24,7 @@ pub struct FlowEdge<'a> {
 
 impl<'a> FlowEdge<'a> {
     /// Whether a fact holds behind it.
-    fn gives(&self, fact: Fact) -> bool {
+    pub fn gives(&self, fact: Fact) -> bool {
         holds_behind(self.known.facts, self.change, fact)
     }
 
@@ -36,10 +37,20 @@ impl<'a> FlowEdge<'a> {
     fn counts(&self, counter: TurnsLeft) -> bool {
         counts_behind(self.known, self.change, self.step, Some(counter))
     }
+
+    /// The number that r0 isn't.
+    fn barred(&self) -> Option<u64> {
+        let number = self.known.barred?;
+        if is_spared(self.change, Holder::Register(Reg::R0)) {
+            Some(number)
+        } else {
+            None
+        }
+    }
 }
 
 /// That 0 is 0.
-fn nothing() -> Fact {
+pub fn nothing() -> Fact {
     known_number(None, zero())
 }
 
@@ -152,6 +163,9 @@ pub fn first_note(
         zeros: [false; SLOTS],
         facts: [nothing(); FACTS],
         counters: [None; COUNTERS],
+        back: [nothing(); BACK],
+        spare: None,
+        barred: way.barred(),
     };
     for slot in 0..SLOTS as u8 {
         set_noted(&mut note.apart, slot, way.parts(slot));
@@ -165,7 +179,7 @@ pub fn first_note(
 // ---- another way
 
 /// What is left of a fact: itself, that the low halves are the same, or nothing.
-fn left_of(fact: Fact, way: FlowEdge<'_>) -> Fact {
+pub fn left_of(fact: Fact, way: FlowEdge<'_>) -> Fact {
     let low = Fact { by: None, ..fact };
     if way.gives(fact) {
         fact
@@ -231,10 +245,20 @@ fn join_counters(note: &mut Note, way: FlowEdge<'_>) -> bool {
     is_less
 }
 
+/// Whether it is no longer known what r0 isn't.
+fn join_barred(note: &mut Note, way: FlowEdge<'_>) -> bool {
+    let is_less = note.barred.is_some() && note.barred != way.barred();
+    if is_less {
+        note.barred = None;
+    }
+    is_less
+}
+
 /// What a note says is cut to what holds behind a further way. Whether that is less.
 pub fn join(note: &mut Note, way: FlowEdge<'_>) -> bool {
     let slots = join_slots(note, way);
     let facts = join_facts(note, way);
     let counters = join_counters(note, way);
-    slots || facts || counters
+    let barred = join_barred(note, way);
+    slots || facts || counters || barred
 }

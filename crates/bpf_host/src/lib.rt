@@ -17,7 +17,7 @@ ghost use Rattle.bpf_host_calls.specs.Sizes.{infer_size, explain_size};
 ghost use Rattle.bpf_host_calls.specs.Texts.{refusal_text, answer_text, IsNumbered};
 ghost use Rattle.bpf_host_calls.specs.Proposals.{GivesProposal, WantsRoom, IsNotProposed};
 ghost use Rattle.bpf_host_calls.specs.Hardened.{bounds_of, GivesHardened, WantsHardenedRoom, IsNotHardened};
-ghost use Rattle.bpf_host_calls.specs.Followed.{bounds_followed, IsFollowed, IsNotFollowed};
+ghost use Rattle.bpf_host_calls.specs.Followed.{IsFollowed, IsNotFollowed};
 ghost use Rattle.bpf_host_calls.specs.declared.answers.TheConstants.{YES, NO, NO_MEMORY, BAD_CALL, TOO_SMALL, TOO_LONG, BAD_LENGTH, BAD_WORDS};
 
 mod certifying;
@@ -25,7 +25,8 @@ mod converting;
 mod explaining;
 
 use bpf_host_calls::{
-    BpfFollowing, BpfOutcome, BpfRefusal, BpfVerdict, HardenAsked, LoadAsked, RangeAsked,
+    BpfFollowing, BpfOutcome, BpfRefusal, BpfVerdict, FollowAsked, HardenAsked, LoadAsked,
+    RangeAsked,
 };
 pub use certifying::bpf_host_certify;
 pub use converting::{bpf_host_convert, bpf_host_convert_size};
@@ -286,16 +287,25 @@ pub extern "C" fn bpf_host_follows(
     new: &[u8],
     order: u32,
     notes: &[u8],
-    runs: &BpfFollowing,
+    certificate: &[u8],
+    following: &mut BpfFollowing,
     refusal: &mut BpfRefusal,
 ) -> i32
-    ensures yes { result ≡ YES → IsFollowed (order_named order) old.now new.now (bounds_followed runs.now) }
-    ensures no { result ≡ NO → IsNotFollowed (order_named order) old.now new.now notes.now (bounds_followed runs.now) refusal.new }
-    ensures call { (result ≡ BAD_CALL) ↔ ((1 < order) ⊎ ((max_context < runs.now.size) ⊎ ((1 < runs.now.padded) ⊎ (frame_bytes < runs.now.untouched)))) }
+    ensures yes { result ≡ YES → IsFollowed (order_named order) old.now new.now notes.now certificate.now following.new }
+    ensures no { result ≡ NO → IsNotFollowed (order_named order) old.now new.now notes.now certificate.now refusal.new }
+    ensures call { (result ≡ BAD_CALL) ↔ (1 < order) }
     ensures answers { (result ≡ YES) ⊎ (result ≡ NO) ⊎ (result ≡ NO_MEMORY) ⊎ (result ≡ BAD_CALL) }
+    ensures following_kept { (result ≡ YES) ⊎ (following.new ≡ following.old) }
     ensures refusal_kept { (result ≡ NO) ⊎ (refusal.new ≡ refusal.old) }
 {
-    bpf_host_calls::follows(alloc, old, new, order, notes, *runs, refusal)
+    let asked = FollowAsked {
+        old,
+        new,
+        order,
+        notes,
+        certificate,
+    };
+    bpf_host_calls::follows(alloc, asked, following, refusal)
 }
 
 /// `refusal_text` of `bpf_host_calls`, for C.

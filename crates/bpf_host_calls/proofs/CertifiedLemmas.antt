@@ -6,23 +6,23 @@ use Rattle.bpf_insn.specs.Laws.{IsImageOfProgram}
 use Rattle.bpf_insn.specs.Limits.{frame_bytes}
 use Rattle.bpf_insn.specs.declared.order.Order.{Order}
 use Rattle.bpf_cert.specs.Spelling.{certificate_text}
-use Rattle.bpf_check.specs.Verdicts.{Promises, program_in}
+use Rattle.bpf_check.specs.Verdicts.{Promises}
 use Rattle.bpf_safety.specs.Certified.{Certified as IsCertified}
-use Rattle.bpf_follows.specs.Meaning.{KeepsMeaning}
-use Rattle.bpf_certify.specs.Certified.{IsPaid, StandsFor}
+use Rattle.bpf_cert.specs.Certificates.{Spells}
+use Rattle.bpf_kept_notes.specs.NotesText.{notes_text}
+use Rattle.bpf_certify.specs.Certified.{IsPaid, IsRewritten, StandsFor}
 use Rattle.bpf_certify.specs.declared.certified.Certified.{Certified}
 use Rattle.bpf_certify.specs.declared.certified.Rewritten.{Rewritten}
 use Rattle.bpf_certify.specs.declared.error.CertifyError.{CertifyError}
-use Rattle.bpf_host_calls.specs.Certified.{IsCertifiedAs, IsImageMade, TellsMade, number_of, turns_wished, wish_of}
+use Rattle.bpf_host_calls.specs.Certified.{IsCertifiedAs, IsImageMade, TellsMade, turns_wished, wish_of}
+use Rattle.bpf_host_calls.specs.Followed.{IsFollowed, following_of}
 use Rattle.bpf_host_calls.specs.Hardened.{bounds_of}
+use Rattle.bpf_host_calls.specs.Told.{number_of}
 use Rattle.bpf_host_calls.specs.ToldAdvice.{TellsCertify}
 use Rattle.bpf_host_calls.specs.declared.certification.BpfWish.{BpfWish}
 use Rattle.bpf_host_calls.specs.declared.certification.BpfCertified.{BpfCertified}
 use Rattle.bpf_host_calls.specs.declared.refusals.Unmade.{Unmade}
-
--- a program is its list in its order
-in_order : (order : Order) (p : Instructions) → p.order ≡ order → p ≡ program_in order p.list
-in_order order p same = ap (λ o. program_in o p.list) same
+use Rattle.bpf_host_calls.proofs.FollowedLemmas.{IsReadFrom, followed_by, in_order, read_from}
 
 -- ---- what is told
 
@@ -58,6 +58,16 @@ promised order size most bound q c bytes text same is_image paid text_is =
       bound_is = sym paid.bound_is;
     }
 
+-- ---- what is shown of a hardened one
+
+kept : (order : Order) (image : List ℕ) (size : ℕ) (w : BpfWish) (told : BpfCertified) (bytes text : List ℕ) (p : Instructions) (c : Certified) (r : Rewritten) → IsReadFrom order image p → IsReadFrom order bytes r.hardened.program → IsRewritten p size (wish_of w) c r → text ≡ certificate_text c.certificate → told.bound ≡ c.bound → TellsMade (Some r) told → IsTrue r.is_shown → (notes : List ℕ) × IsFollowed order image bytes notes text (following_of (bounds_of size w.padded told.turns told.untouched) told.bound)
+kept order image size w told bytes text p c r old_read new_read stands text_is bound_is tells shown =
+    let runs = bounds_of size w.padded r.turns r.untouched in
+    let by = stands.paid.certified in
+    let bound : told.bound ≡ c.certificate.steps = bound_is ∙ sym stands.paid.bound_is in
+    let told_is : following_of (bounds_of size w.padded told.turns told.untouched) told.bound ≡ following_of runs c.certificate.steps = cc (tells.2, tells.3, bound) in
+    (notes_text runs r.notes.items, followed_by order image bytes (notes_text runs r.notes.items) text p r.hardened.program runs r.notes.items c.certificate (following_of (bounds_of size w.padded told.turns told.untouched) told.bound) old_read new_read refl (record { valid = by.certificate; spelled = text_is }) by (stands.matches shown) (stands.keeps shown) told_is)
+
 -- ---- the image that stands as it is, and a hardened one
 
 pub certified_as : (order : Order) (image : List ℕ) (size : ℕ) (w : BpfWish) (told : BpfCertified) (bytes text : List ℕ) (p : Instructions) (c : Certified) (rewritten : Option Rewritten) → IsImage order p.list image → p.order ≡ order → IsProgram p.list → StandsFor p size (wish_of w) c rewritten → ((w.unproved == 1) ≡ false → IfSome rewritten (λ r. IsTrue r.is_shown)) → IsImageMade image rewritten bytes → text ≡ certificate_text c.certificate → told.image_len ≡ length bytes → told.certificate_len ≡ length text → told.bound ≡ c.bound → TellsMade rewritten told → IsCertifiedAs order image size w told bytes text
@@ -75,12 +85,11 @@ certified_as order image size w told bytes text p c (Some r) is_image same progr
     let q = r.hardened.program in
     let order_is : q.order ≡ order = stands.order_is ∙ same in
     let is_new : IsImageOfProgram order bytes q.list = subst (λ o. IsImageOfProgram o bytes q.list) order_is made in
-    let is_old : IsImageOfProgram order image p.list = record { program = program; bytes_are = is_image.bytes_are } in
-    let keeps_in : KeepsMeaning p q (bounds_of size w.padded r.turns r.untouched) → KeepsMeaning (program_in order p.list) (program_in order q.list) (bounds_of size w.padded r.turns r.untouched) =
-    λ keeps. subst (λ i. KeepsMeaning i (program_in order q.list) (bounds_of size w.padded r.turns r.untouched)) (in_order order p same) (subst (λ i. KeepsMeaning p i (bounds_of size w.padded r.turns r.untouched)) (in_order order q order_is) keeps) in
+    let old_read : IsReadFrom order image p = read_from order image p is_image same program in
+    let new_read : IsReadFrom order bytes q = record { is_image = is_new; order_is = order_is } in
     record {
       program = p.list;
-      is_image = is_old;
+      is_image = record { program = program; bytes_are = is_image.bytes_are };
       image_length = image_length;
       text_length = text_length;
       promises = subst (Promises order bytes text size size) (sym bound_is) (promised order size w.bound c.bound q c bytes text order_is is_new stands.paid text_is);
@@ -90,13 +99,7 @@ certified_as order image size w told bytes text p c (Some r) is_image same progr
         turns_are = λ some. tells.2 ∙ turns_told w.turns r.turns stands.turns_are some;
         few = subst (λ n. n ≤ frame_bytes) (sym tells.3) stands.few;
         shown = λ asked. tells.1 ∙ shown_told r.is_shown (shown asked);
-        keeps = λ one. record {
-          program = p.list;
-          is_old = is_old;
-          made = q.list;
-          is_new = is_new;
-          keeps = subst (λ t. KeepsMeaning (program_in order p.list) (program_in order q.list) (bounds_of size w.padded t told.untouched)) (sym tells.2) (subst (λ u. KeepsMeaning (program_in order p.list) (program_in order q.list) (bounds_of size w.padded r.turns u)) (sym tells.3) (keeps_in (stands.keeps (told_shown r.is_shown (sym tells.1 ∙ one)))));
-        };
+        keeps = λ one. kept order image size w told bytes text p c r old_read new_read stands text_is bound_is tells (told_shown r.is_shown (sym tells.1 ∙ one));
       });
     }
 

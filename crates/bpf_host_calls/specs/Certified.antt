@@ -1,5 +1,5 @@
 -- Images that are certified: as they stand, or hardened.
-use Rattle.std.specs.Prelude.{◌≡◌, ◌≢◌, ◌<◌, ◌≤◌, ◌⊎◌, ◌++◌, ◌==◌, ℕ, List, Option, Some, None, if◌then◌else◌, Bool, false, length, drop}
+use Rattle.std.specs.Prelude.{◌≡◌, ◌≢◌, ◌<◌, ◌≤◌, ◌⊎◌, ◌++◌, ◌==◌, ℕ, List, Option, Some, None, if◌then◌else◌, false, length, drop}
 use Rattle.bpf_insn.specs.Instruction.{slots}
 use Rattle.bpf_insn.specs.Laws.{IsImageOfProgram}
 use Rattle.bpf_insn.specs.Limits.{frame_bytes}
@@ -14,9 +14,9 @@ use Rattle.bpf_certify.specs.declared.certified.Rewritten.{Rewritten}
 use Rattle.bpf_certify.specs.declared.error.CertifyError.{CertifyError}
 use Rattle.bpf_certify.specs.declared.error.CertifyError.TheVariants.{Unhardened}
 use Rattle.bpf_changes.specs.declared.error.HardenError.TheVariants.{Memory as NoRoomLeft}
-use Rattle.bpf_host_calls.specs.Told.{TellsImage}
+use Rattle.bpf_host_calls.specs.Told.{TellsImage, number_of}
 use Rattle.bpf_host_calls.specs.declared.answers.BpfRefusal.{BpfRefusal}
-use Rattle.bpf_host_calls.specs.Followed.{IsFollowed}
+use Rattle.bpf_host_calls.specs.Followed.{IsFollowed, following_of}
 use Rattle.bpf_host_calls.specs.Hardened.{bounds_of}
 use Rattle.bpf_host_calls.specs.ToldAdvice.{TellsCertifying}
 use Rattle.bpf_host_calls.specs.declared.certification.BpfWish.{BpfWish}
@@ -33,9 +33,6 @@ abbrev pub wish_of : BpfWish → Wish
 wish_of w = record { bound = w.bound; turns = turns_wished w.turns; otherwise = w.otherwise; padded = w.padded == 1; unproved = w.unproved == 1; notes = false }
 
 -- ---- what is told of what was made
-
-abbrev pub number_of : Bool → ℕ
-number_of b = if b then 1 else 0
 
 abbrev pub TellsMade : Option Rewritten → BpfCertified → Type 0
 TellsMade None told = (told.is_rewritten ≡ 0) × (told.is_shown ≡ 1) × (told.turns ≡ 0) × (told.untouched ≡ 0)
@@ -54,14 +51,14 @@ pub record IsAsGiven (image : List ℕ) (wish : BpfWish) (told : BpfCertified) (
   pub same : bytes ≡ image
   pub told_is : (told.is_rewritten ≡ 0) × (told.is_shown ≡ 1) × (told.turns ≡ 0) × (told.untouched ≡ 0)
 
--- It is that of a hardened program, for the turns that are wished; and where it is told so, it keeps the meaning of the one that was given, for the
--- turns and the bytes that are told.
-pub record IsRemade (order : Order) (image : List ℕ) (size : ℕ) (wish : BpfWish) (told : BpfCertified) (bytes : List ℕ) : Type 0 where
+-- It is that of a hardened program, for the turns that are wished. Where it is told so, notes beside the certificate show that it keeps the meaning of
+-- the one that was given, for the turns and the bytes that are told.
+pub record IsRemade (order : Order) (image : List ℕ) (size : ℕ) (wish : BpfWish) (told : BpfCertified) (bytes text : List ℕ) : Type 0 where
   pub told_is : told.is_rewritten ≡ 1
   pub turns_are : 0 < wish.turns → told.turns ≡ wish.turns
   pub few : told.untouched ≤ frame_bytes
   pub shown : (wish.unproved == 1) ≡ false → told.is_shown ≡ 1
-  pub keeps : told.is_shown ≡ 1 → IsFollowed order image bytes (bounds_of size wish.padded told.turns told.untouched)
+  pub keeps : told.is_shown ≡ 1 → (notes : List ℕ) × IsFollowed order image bytes notes text (following_of (bounds_of size wish.padded told.turns told.untouched) told.bound)
 
 -- The image that was given is a program's. The text spells a certificate which certifies the program of the one that is made of it, for contexts
 -- of exactly so many bytes, with the bound that is told, at most the one that was asked for.
@@ -72,7 +69,7 @@ pub record IsCertifiedAs (order : Order) (image : List ℕ) (size : ℕ) (wish :
   pub text_length : told.certificate_len ≡ length text
   pub promises : Promises order bytes text size size told.bound
   pub paid : told.bound ≤ wish.bound
-  pub is_made : IsAsGiven image wish told bytes ⊎ IsRemade order image size wish told bytes
+  pub is_made : IsAsGiven image wish told bytes ⊎ IsRemade order image size wish told bytes text
 
 -- memory was given both, and each is behind that as it was
 pub record GivesCertified (order : Order) (image : List ℕ) (size : ℕ) (wish : BpfWish) (told : BpfCertified) (old_made new_made old_text new_text : List ℕ) : Type 0 where

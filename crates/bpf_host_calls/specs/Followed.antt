@@ -1,58 +1,101 @@
--- Whether notes show that a new image keeps the meaning of an old one.
-use Rattle.std.specs.Prelude.{◌≡◌, ◌≢◌, ◌⊎◌, ℕ, List, Option}
+-- Whether notes and a certificate show that a new image keeps the meaning of an old one.
+use Rattle.std.specs.Prelude.{◌≡◌, ◌⊎◌, ℕ, List}
 use Rattle.bpf_insn.specs.Laws.{IsImageOfProgram}
 use Rattle.bpf_insn.specs.Refusal.{IsRefused}
 use Rattle.bpf_insn.specs.declared.order.Order.{Order}
 use Rattle.bpf_insn.specs.declared.instruction.Insn.{Insn}
 use Rattle.bpf_insn.specs.declared.refusal.DecodeError.{DecodeError}
-use Rattle.bpf_check.specs.Verdicts.{program_in}
-use Rattle.bpf_follows.specs.declared.notes.Bounds.{Bounds}
-use Rattle.bpf_follows.specs.declared.notes.Counterpart.{Counterpart}
-use Rattle.bpf_follows.specs.Meaning.{KeepsMeaning}
-use Rattle.bpf_follows.specs.Mismatches.{IsMismatch}
-use Rattle.bpf_follows.specs.declared.mismatch.Mismatch.{Mismatch}
-use Rattle.bpf_follows.specs.NotesText.{notes_text}
-use Rattle.bpf_follows.specs.Refused.{IsRefused as AreRefused}
-use Rattle.bpf_follows.specs.declared.error.NotesError.{NotesError}
-use Rattle.bpf_host_calls.specs.Told.{TellsImage}
+use Rattle.bpf_cert.specs.View.{CertificateView}
+use Rattle.bpf_cert.specs.Certificates.{Spells}
+use Rattle.bpf_cert.specs.ReadAnswers.{IsFaultOf, IsFromOutside}
+use Rattle.bpf_cert.specs.declared.error.CertError.{CertError}
+use Rattle.bpf_check.specs.CheckedProgram.{IsCertifiedBy}
+use Rattle.bpf_check.specs.Verdicts.{HasFlaw, program_in}
+use Rattle.bpf_check.specs.declared.refusal.Refusal.{Refusal}
+use Rattle.bpf_kept.specs.Matching.{Notes}
+use Rattle.bpf_kept.specs.Mismatches.{MatchesBeside, IsMismatch}
+use Rattle.bpf_kept.specs.Shown.{Keeps}
+use Rattle.bpf_kept.specs.declared.bounds.Bounds.{Bounds}
+use Rattle.bpf_kept.specs.declared.mismatch.Mismatch.{Mismatch}
+use Rattle.bpf_kept_notes.specs.NotesText.{notes_text}
+use Rattle.bpf_kept_notes.specs.Refused.{IsRefused as AreRefused}
+use Rattle.bpf_kept_notes.specs.declared.error.NotesError.{NotesError}
+use Rattle.bpf_host_calls.specs.Told.{TellsImage, TellsCertificate, TellsCheck, number_of}
+use Rattle.bpf_host_calls.specs.Explained.{IsSomeImage, IsRefusedImage}
 use Rattle.bpf_host_calls.specs.declared.answers.BpfRefusal.{BpfRefusal}
 use Rattle.bpf_host_calls.specs.ToldAdvice.{TellsNewImage, TellsNotes, TellsMatch}
 use Rattle.bpf_host_calls.specs.declared.refusals.Unmade.TheVariants.{Refused}
 use Rattle.bpf_host_calls.specs.declared.host_advice_asked.BpfFollowing.{BpfFollowing}
-use Rattle.bpf_host_calls.specs.Hardened.{bounds_of}
 
--- the contexts and runs that C asks for
-abbrev pub bounds_followed : BpfFollowing → Bounds
-bounds_followed asked = bounds_of asked.size asked.padded asked.turns asked.untouched
+-- ---- what is shown
 
--- both are images, and the program of the new one keeps the meaning of the other's
-pub record IsFollowed (order : Order) (old new : List ℕ) (bounds : Bounds) : Type 0 where
+-- the contexts and runs, and the bound, as C sees them
+abbrev pub following_of : Bounds → ℕ → BpfFollowing
+following_of runs bound = record { size = runs.length; padded = number_of runs.padded; turns = runs.turns; untouched = runs.untouched; bound = bound }
+
+-- Both are images. One text is that of notes, and another one spells a certificate, which certifies the new program. Beside it the notes match, so the new
+-- program keeps the old one's meaning on the runs of which they speak. These are told, and the certificate's bound.
+pub record IsFollowed (order : Order) (old new notes text : List ℕ) (told : BpfFollowing) : Type 0 where
   pub program : List Insn
   pub is_old : IsImageOfProgram order old program
   pub made : List Insn
   pub is_new : IsImageOfProgram order new made
-  pub keeps : KeepsMeaning (program_in order program) (program_in order made) bounds
+  pub runs : Bounds
+  pub noted : Notes
+  pub notes_are : notes ≡ notes_text runs noted
+  pub certificate : CertificateView
+  pub spelled : Spells text certificate
+  pub certified : IsCertifiedBy (program_in order made) certificate
+  pub matches : MatchesBeside (program_in order program) (program_in order made) noted certificate runs
+  pub keeps : Keeps (program_in order program) (program_in order made) noted runs
+  pub told_is : told ≡ following_of runs certificate.steps
 
--- a text is refused as notes, as is told
-abbrev pub IsNoNotes : List ℕ → BpfRefusal → Type 0
-IsNoNotes text told = (e : NotesError) × AreRefused text e × TellsNotes e (Refused told)
+-- ---- what is refused: the first of both images, the notes, the certificate, what it certifies, and what the notes show
 
--- it is that of notes, of which this fails
-pub record IsMismatched (order : Order) (old new text : List ℕ) (bounds : Bounds) (told : BpfRefusal) : Type 0 where
+abbrev pub AreImages : Order → (old new : List ℕ) → Type 0
+AreImages order old new = IsSomeImage order old × IsSomeImage order new
+
+-- a text is that of notes
+abbrev pub AreSomeNotes : List ℕ → Type 0
+AreSomeNotes notes = (runs : Bounds) × (noted : Notes) × (notes ≡ notes_text runs noted)
+
+abbrev pub IsNoNewImage : Order → (old new : List ℕ) → BpfRefusal → Type 0
+IsNoNewImage order old new told = IsSomeImage order old × ((e : DecodeError) × IsRefused order new e × TellsNewImage e told)
+
+abbrev pub AreNoNotes : Order → (old new notes : List ℕ) → BpfRefusal → Type 0
+AreNoNotes order old new notes told = AreImages order old new × ((e : NotesError) × AreRefused notes e × TellsNotes e (Refused told))
+
+-- that memory ran out is no refusal
+abbrev pub IsNoCertificate : Order → (old new notes text : List ℕ) → BpfRefusal → Type 0
+IsNoCertificate order old new notes text told =
+    AreImages order old new × AreSomeNotes notes × ((e : CertError) × IsFaultOf text e × ¬ (IsFromOutside e) × TellsCertificate e told)
+
+abbrev pub IsFlawedNew : Order → (old new notes text : List ℕ) → BpfRefusal → Type 0
+IsFlawedNew order old new notes text told =
+    IsSomeImage order old × AreSomeNotes notes × ((r : Refusal) × HasFlaw order new text r × TellsCheck r told)
+
+-- all that is well, and this fails of the notes beside the certificate
+pub record IsMismatched (order : Order) (old new notes text : List ℕ) (told : BpfRefusal) : Type 0 where
   pub program : List Insn
   pub is_old : IsImageOfProgram order old program
   pub made : List Insn
   pub is_new : IsImageOfProgram order new made
-  pub notes : List (Option Counterpart)
-  pub text_is : text ≡ notes_text notes
+  pub runs : Bounds
+  pub noted : Notes
+  pub notes_are : notes ≡ notes_text runs noted
+  pub certificate : CertificateView
+  pub spelled : Spells text certificate
+  pub certified : IsCertifiedBy (program_in order made) certificate
   pub mismatch : Mismatch
-  pub fails : IsMismatch (program_in order program) (program_in order made) notes bounds mismatch
+  pub fails : IsMismatch (program_in order program) (program_in order made) noted certificate runs mismatch
   pub tells : TellsMatch mismatch told
 
--- the first of both images, the text and its notes that is at fault, as is told
-abbrev pub IsNotFollowed : Order → (old new text : List ℕ) → Bounds → BpfRefusal → Type 0
-IsNotFollowed order old new text bounds told =
-    ((e : DecodeError) × IsRefused order old e × TellsImage e told)
-    ⊎ ((e : DecodeError) × IsRefused order new e × TellsNewImage e told)
-    ⊎ IsNoNotes text told
-    ⊎ IsMismatched order old new text bounds told
+-- as is told
+abbrev pub IsNotFollowed : Order → (old new notes text : List ℕ) → BpfRefusal → Type 0
+IsNotFollowed order old new notes text told =
+    IsRefusedImage order old told
+    ⊎ IsNoNewImage order old new told
+    ⊎ AreNoNotes order old new notes told
+    ⊎ IsNoCertificate order old new notes text told
+    ⊎ IsFlawedNew order old new notes text told
+    ⊎ IsMismatched order old new notes text told

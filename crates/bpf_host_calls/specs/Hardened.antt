@@ -6,12 +6,13 @@ use Rattle.bpf_insn.specs.Refusal.{IsRefused}
 use Rattle.bpf_insn.specs.declared.order.Order.{Order}
 use Rattle.bpf_insn.specs.declared.instruction.Insn.{Insn}
 use Rattle.bpf_insn.specs.declared.refusal.DecodeError.{DecodeError}
+use Rattle.bpf_cert.specs.View.{CertificateView}
 use Rattle.bpf_check.specs.Verdicts.{program_in}
-use Rattle.bpf_follows.specs.declared.notes.Bounds.{Bounds}
-use Rattle.bpf_follows.specs.declared.notes.Counterpart.{Counterpart}
-use Rattle.bpf_follows.specs.Meaning.{KeepsMeaning}
-use Rattle.bpf_follows.specs.Mismatches.{IsMismatch}
-use Rattle.bpf_follows.specs.declared.mismatch.Mismatch.{Mismatch}
+use Rattle.bpf_kept.specs.Matching.{Notes}
+use Rattle.bpf_kept.specs.Shown.{Keeps}
+use Rattle.bpf_kept.specs.declared.bounds.Bounds.{Bounds}
+use Rattle.bpf_kept.specs.declared.mismatch.Mismatch.{Mismatch}
+use Rattle.bpf_harden_kept.specs.Evidence.{Fails}
 use Rattle.bpf_changes.specs.RefusalNumbers.{harden_slot}
 use Rattle.bpf_changes.specs.declared.error.HardenError.{HardenError}
 use Rattle.bpf_changes.specs.declared.error.HardenError.TheVariants.{Memory as NoRoomLeft}
@@ -29,10 +30,11 @@ bounds_of size padded turns untouched = record { length = size; padded = padded 
 abbrev pub bounds_asked : HardenAsked → Bounds
 bounds_asked a = bounds_of a.size a.padded a.turns a.untouched
 
--- a program keeps the meaning of another one on these, and runs in the same byte order
-pub record Keeps (old made : Instructions) (bounds : Bounds) : Type 0 where
+-- by notes a program keeps the meaning of another one on these, and runs in the same byte order
+pub record IsKeptBy (old made : Instructions) (bounds : Bounds) : Type 0 where
   pub order_is : made.order ≡ old.order
-  pub keeps : KeepsMeaning old made bounds
+  pub notes : Notes
+  pub keeps : Keeps old made notes bounds
 
 -- bytes are the image of what the program of an image became, which keeps its meaning unless that wasn't asked for
 pub record IsHardenedAs (order : Order) (image : List ℕ) (bounds : Bounds) (unproved : Bool) (bytes : List ℕ) : Type 0 where
@@ -40,7 +42,7 @@ pub record IsHardenedAs (order : Order) (image : List ℕ) (bounds : Bounds) (un
   pub is_image : IsImageOfProgram order image program
   pub made : Instructions
   pub is_made : IsImageOfProgram made.order bytes made.list
-  pub keeps : unproved ≡ false → Keeps (program_in order program) made bounds
+  pub keeps : unproved ≡ false → IsKeptBy (program_in order program) made bounds
 
 -- memory was given such an image of so many bytes, and is behind that as it was
 abbrev pub GivesHardened : Order → List ℕ → Bounds → Bool → ℕ → List ℕ → List ℕ → Type 0
@@ -60,12 +62,13 @@ pub record IsUnhardened (order : Order) (image : List ℕ) (told : BpfRefusal) :
   pub other : error ≢ NoRoomLeft
   pub tells : TellsHardening error told
 
--- what it became isn't shown to keep its meaning, though that was asked for: what fails first of notes is told
+-- What it became isn't shown to keep its meaning, though that was asked for. What fails first of notes beside the certificate that was found is told.
 pub record IsUnshown (old made : Instructions) (bounds : Bounds) (unproved : Bool) (told : BpfRefusal) : Type 0 where
   pub asked : unproved ≡ false
-  pub notes : List (Option Counterpart)
+  pub found : Option CertificateView
+  pub notes : Notes
   pub mismatch : Mismatch
-  pub fails : IsMismatch old made notes bounds mismatch
+  pub fails : Fails old made found notes bounds mismatch
   pub tells : TellsUnshown mismatch told
 
 abbrev pub IsNotShown : Order → List ℕ → Bounds → Bool → BpfRefusal → Type 0

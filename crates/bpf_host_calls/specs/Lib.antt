@@ -15,7 +15,7 @@ pub mod Texts
 pub mod Sizes
 pub mod ToldAdvice
 pub mod Proposals
+pub mod Explained
 pub mod Hardened
 pub mod Followed
 pub mod Certified
-pub mod Explained

@@ -1,5 +1,5 @@
 -- What the numbers that C sees tell.
-use Rattle.std.specs.Prelude.{◌≡◌, ◌⊎◌, ℕ, ℤ, zero, suc}
+use Rattle.std.specs.Prelude.{◌≡◌, ◌⊎◌, ℕ, ℤ, zero, suc, Bool, if◌then◌else◌}
 use Rattle.bpf_insn.specs.RefusalNumbers.{decode_number, decode_slot}
 use Rattle.bpf_insn.specs.declared.order.Order.{Order}
 use Rattle.bpf_insn.specs.declared.order.Order.TheVariants.{Little, Big}
@@ -25,6 +25,10 @@ use Rattle.bpf_host_calls.specs.declared.answers.BpfOutcome.{BpfOutcome}
 abbrev pub order_named : ℕ → Order
 order_named zero = Little
 order_named (suc n) = Big
+
+-- 1 for yes
+abbrev pub number_of : Bool → ℕ
+number_of b = if b then 1 else 0
 
 -- a verdict says what a certificate claims
 abbrev pub IsVerdictOf : CertificateView → BpfVerdict → Type 0

@@ -7,12 +7,14 @@ use Rattle.bpf_changes.specs.declared.error.HardenError.TheVariants.{Memory as N
 use Rattle.bpf_certify.specs.Certified.{told_certifying}
 use Rattle.bpf_certify.specs.declared.error.CertifyError.{CertifyError}
 use Rattle.bpf_certify.specs.declared.error.CertifyError.TheVariants.{Unhardened}
-use Rattle.bpf_follows.specs.declared.mismatch.Mismatch.{Mismatch}
-use Rattle.bpf_follows.specs.declared.error.NotesError.{NotesError}
-use Rattle.bpf_follows.specs.declared.error.NotesError.TheVariants.{Form, Memory as NoNotesMemory}
+use Rattle.bpf_cert.specs.ReadAnswers.{IsFromOutside}
+use Rattle.bpf_cert.specs.declared.error.CertError.{CertError}
+use Rattle.bpf_kept.specs.declared.mismatch.Mismatch.{Mismatch}
+use Rattle.bpf_kept_notes.specs.declared.error.NotesError.{NotesError}
+use Rattle.bpf_kept_notes.specs.declared.error.NotesError.TheVariants.{Form, Memory as NoNotesMemory}
 use Rattle.bpf_insn.specs.declared.refusal.DecodeError.{DecodeError}
 use Rattle.bpf_refusals.specs.Told.{told_hardening, told_image, told_inference, told_mismatch, told_not_shown, told_notes}
-use Rattle.bpf_host_calls.specs.Told.{refusal_of}
+use Rattle.bpf_host_calls.specs.Told.{TellsCertificate, refusal_of}
 use Rattle.bpf_host_calls.specs.declared.answers.BpfRefusal.{BpfRefusal}
 use Rattle.bpf_host_calls.specs.declared.refusals.Unmade.{Unmade}
 use Rattle.bpf_host_calls.specs.declared.refusals.Unmade.TheVariants.{Memory as NoMemory, Refused as RefusedAs}
@@ -56,6 +58,11 @@ TellsNewImage e r = r ≡ record (refusal_of (told_image e)) { condition = 1 }
 abbrev pub TellsNotes : NotesError → Unmade → Type 0
 TellsNotes (Form line) u = u ≡ RefusedAs (refusal_of (told_notes (Form line)))
 TellsNotes NoNotesMemory u = u ≡ NoMemory
+
+-- of a text that is no certificate; of one that wasn't read to its end nothing, since that is for want of memory
+abbrev pub TellsText : CertError → Unmade → Type 0
+TellsText e NoMemory = IsFromOutside e
+TellsText e (RefusedAs told) = TellsCertificate e told × ¬ (IsFromOutside e)
 
 -- of notes that don't show it
 abbrev pub TellsMatch : Mismatch → BpfRefusal → Type 0

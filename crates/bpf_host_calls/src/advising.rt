@@ -12,12 +12,11 @@ ghost use Rattle.bpf_host_calls.specs.declared.answers.TheConstants.{YES, NO, NO
 
 use crate::answers::{BAD_CALL, BpfRefusal, NO, NO_MEMORY, order_of};
 use crate::explanation::Given;
-use crate::hardening::{Asked, hardened};
+use crate::hardening::hardened;
 use crate::host_advice_asked::{HardenAsked, RangeAsked};
 use crate::proposal::{give, proposal};
 use crate::refusals::Unmade;
 use crate::texts::{answer_words, give_beginning, text_of};
-use bpf_follows::Bounds;
 use bpf_infer::WantedCertificate;
 use bpf_insn::{FRAME_BYTES, MAX_CONTEXT};
 use std::alloc::Global;
@@ -101,18 +100,7 @@ pub fn harden(
     if asked.untouched > FRAME_BYTES as u32 {
         return BAD_CALL;
     }
-    let bounds = Bounds {
-        length: asked.size,
-        padded: asked.padded == 1,
-        turns: asked.turns,
-        untouched: asked.untouched,
-    };
-    let wanted_of = Asked {
-        bounds,
-        otherwise: asked.otherwise,
-        unproved: asked.unproved == 1,
-    };
-    match hardened(alloc, Given { image, order }, wanted_of) {
+    match hardened(alloc, Given { image, order }, asked) {
         Ok(bytes) => give(&bytes, text, wanted),
         Err(Unmade::Memory) => NO_MEMORY,
         Err(Unmade::Refused(told)) => {

@@ -1,4 +1,4 @@
-//! What is asked of the calls, in numbers as C hands them over. Each call says which of them it takes.
+//! What is asked of the calls, as C hands it over, and what is shown of two images. Each call says which numbers it takes.
 
 use crate::certification::BpfWish;
 
@@ -13,7 +13,19 @@ pub struct RangeAsked {
     pub deep: u32,
 }
 
-/// The contexts and runs on which a program is to keep the meaning of another one, as C sees them.
+/// An old image and a new one, and the texts that are to show that the new one keeps the meaning of the old one.
+#[derive(Clone, Copy)]
+pub struct FollowAsked<'a> {
+    pub old: &'a [u8],
+    pub new: &'a [u8],
+    /// The byte order of both images, 0 little-endian or 1 big-endian.
+    pub order: u32,
+    pub notes: &'a [u8],
+    /// A certificate of the new image.
+    pub certificate: &'a [u8],
+}
+
+/// On which contexts and runs a new image keeps the meaning of an old one, and its bound, as C sees them.
 #[repr(C)]
 #[derive(Clone, Copy)]
 pub struct BpfFollowing {
@@ -21,10 +33,12 @@ pub struct BpfFollowing {
     pub size: u32,
     /// 1 where contexts are blocks, else 0.
     pub padded: u32,
-    /// How often a run may come to an instruction.
-    pub turns: u32,
-    /// How many of the lowest bytes of each frame are left to r10, from 0 to 512.
+    /// How often a run of the old image may come to an instruction.
+    pub turns: u64,
+    /// How many of the lowest bytes of each frame are left to r10.
     pub untouched: u32,
+    /// The greatest number of instructions that a run of the new image takes.
+    pub bound: u32,
 }
 
 /// What is asked of a hardening.

@@ -42,7 +42,9 @@ pub use convert_sizes::convert_size;
 pub use converting::convert;
 pub use explaining::{explain, explain_image, explain_search};
 pub use following::follows;
-pub use host_advice_asked::{BpfFollowing, CertifyAsked, ExplainAsked, HardenAsked, RangeAsked};
+pub use host_advice_asked::{
+    BpfFollowing, CertifyAsked, ExplainAsked, FollowAsked, HardenAsked, RangeAsked,
+};
 pub use running::{
     LoadAsked, load, loaded_size, prepare, prepared_size, run, run_checked, run_loaded,
     run_prepared, verify, version,

@@ -25,8 +25,8 @@ use crate::runs::{outcome_of, outcome_of_prepared};
 use bpf_insn::{MAX_CONTEXT, MAX_IMAGE, ProgramView};
 use std::alloc::Global;
 
-/// Version 0.3.1.
-pub(crate) const VERSION: u32 = 301;
+/// Version 0.3.2.
+pub(crate) const VERSION: u32 = 302;
 
 /// The library's version as one number: 10,000 times its first part, 100 times its second, and its third, together.
 pub fn version() -> u32

@@ -95,11 +95,12 @@ pub onward : (place : Placement) (p : Instructions) (first f g : FlatState) (j :
 unfolding zero_after
 onward place p first f g j e h = ap (option_and_then (zero_step place p)) (sym e) ∙ h
 
--- an access by a register that has y stays inside, and by another one than r10 above the lowest bytes of the frame
-pub record Inside (place : Placement) (len untouched : ℕ) (r : Reg) (y : ℕ) (a : Access) : Type 0 where
+-- an access by a register that has y, where so many frames wait, stays inside, and by another one than r10 above the lowest bytes of the own frame
+pub record Inside (place : Placement) (len untouched deep : ℕ) (r : Reg) (y : ℕ) (a : Access) : Type 0 where
   pub near : FitsSigned w16 a.offset
-  pub there : (b : ℕ) → b < byte_count a.size → IsInMemory place len 0 ((modulo (pos y +ℤ a.offset) addresses + b) % addresses)
-  pub above : is_frame_pointer r ≡ false → (b : ℕ) → b < byte_count a.size → IsAmong (frame_start place 0) untouched ((modulo (pos y +ℤ a.offset) addresses + b) % addresses) → ⊥
+  pub there : (b : ℕ) → b < byte_count a.size → IsInMemory place len deep ((modulo (pos y +ℤ a.offset) addresses + b) % addresses)
+  pub above : is_frame_pointer r ≡ false → (b : ℕ) → b < byte_count a.size
+      → IsAmong (frame_start place deep) untouched ((modulo (pos y +ℤ a.offset) addresses + b) % addresses) → ⊥
 
 module _ (place : Placement) (old : Instructions) (program : IsProgram old.list) (own : List ℕ) (bounds : Bounds) (v k : ℕ) (ends : FlatEnds place old own bounds v k) where
   abbrev pub begin : FlatState
@@ -114,6 +115,17 @@ module _ (place : Placement) (old : Instructions) (program : IsProgram old.list)
           let last : f ≡ ends.last = same_Some f ends.last (sym run ∙ subst (λ n. zero_after place old n begin ≡ Some ends.last) (sym same) ends.run) in
           absurd (other (same_Some i Exit (sym stands ∙ ap (λ s. insn_at old.list s.slot) last ∙ ends.finish.stands)))
       by_order (inr (inl less)) = let g = earlier place old begin k (suc j) ends.last ends.run less in (g.0, onward place old begin f g.0 j run g.1, g.1, less)
+      by_order (inr (inr more)) = absurd (omega arith)
+
+  -- it ends in the outermost frame alone
+  pub goes_back : (j : ℕ) (f : FlatState) → zero_after place old j begin ≡ Some f → j ≤ k → (f.returns ≡ [] → ⊥) → suc j ≤ k
+  goes_back j f run le inner = by_order (cases_order j k)
+    where
+      by_order : (j ≡ k) ⊎ ((j < k) ⊎ (k < j)) → suc j ≤ k
+      by_order (inl same) =
+          let last : f ≡ ends.last = same_Some f ends.last (sym run ∙ subst (λ n. zero_after place old n begin ≡ Some ends.last) (sym same) ends.run) in
+          absurd (inner (ap (λ s. s.returns) last ∙ ends.finish.outermost))
+      by_order (inr (inl less)) = less
       by_order (inr (inr more)) = absurd (omega arith)
 
   -- where EXIT stands in the outermost frame, the run is at its end
@@ -138,12 +150,12 @@ module _ (place : Placement) (old : Instructions) (program : IsProgram old.list)
   record Passed (r : Reg) (i : Insn) (f g : FlatState) : Type 0 where
     same : flat_register g r ≡ flat_register f r
     slot : g.slot ≡ f.slot + slot_count i
-    outermost : g.returns ≡ []
+    level : length g.returns ≡ length f.returns
     state : IsZeroState g
 
-  passes : (r : Reg) (i : Insn) (f g : FlatState) → insn_at old.list f.slot ≡ Some i → is_passed r i ≡ true → IsZeroState f → f.returns ≡ [] → zero_step place old f ≡ Some g → Passed r i f g
+  passes : (r : Reg) (i : Insn) (f g : FlatState) → insn_at old.list f.slot ≡ Some i → is_passed r i ≡ true → IsZeroState f → zero_step place old f ≡ Some g → Passed r i f g
   unfolding zero_step
-  passes r i f g stands passed state outermost e =
+  passes r i f g stands passed state e =
       let h = and_parts (is_straight i) (not (option_map_or (λ w. register_number w == register_number r) (register_written i) false)) passed in
       let enc : HasEncoding i = encoding_at old.list program.encoding f.slot i stands in
       let z : zero_does place old.order i f ≡ Some g = ap (option_and_then (λ i. zero_does place old.order i f)) (sym stands) ∙ e in
@@ -152,7 +164,7 @@ module _ (place : Placement) (old : Instructions) (program : IsProgram old.list)
       record {
         same = flat_writes_one_register old.order i f g r d (λ w ew. unwritten w ew h.1);
         slot = straight_slot old.order i f g h.0 d;
-        outermost = k.returns_same ∙ outermost;
+        level = ap length k.returns_same;
         state = (zero_step_is_step place old f g program state e).1;
       }
     where
@@ -165,17 +177,17 @@ module _ (place : Placement) (old : Instructions) (program : IsProgram old.list)
   all_append P [] ys h k = k
   all_append P (x ∷ xs) ys h k = (h.0, all_append P xs ys h.1 k)
 
-  pub all_inside : (r : Reg) (n j : ℕ) (f : FlatState) → zero_after place old j begin ≡ Some f → j ≤ k → f.returns ≡ [] → IsZeroState f
-      → AllByRecursion (Inside place (length own) bounds.untouched r (flat_register f r)) (accesses_ahead old r n f.slot)
+  pub all_inside : (deep : ℕ) (r : Reg) (n j : ℕ) (f : FlatState) → zero_after place old j begin ≡ Some f → j ≤ k → length f.returns ≡ deep → IsZeroState f
+      → AllByRecursion (Inside place (length own) bounds.untouched deep r (flat_register f r)) (accesses_ahead old r n f.slot)
   unfolding accesses_ahead
-  all_inside r zero j f run le outermost state = tt
-  all_inside r (suc n) j f run le outermost state = by_insn (λ m g. all_inside r n m g) (insn_at old.list f.slot) refl
+  all_inside deep r zero j f run le level state = tt
+  all_inside deep r (suc n) j f run le level state = by_insn (λ m g. all_inside deep r n m g) (insn_at old.list f.slot) refl
     where
       here : (i : Insn) → insn_at old.list f.slot ≡ Some i → (o : Option Access) → access_of i ≡ o
-          → AllByRecursion (Inside place (length own) bounds.untouched r (flat_register f r)) (option_map_or (if_by r) o [])
+          → AllByRecursion (Inside place (length own) bounds.untouched deep r (flat_register f r)) (option_map_or (if_by r) o [])
       here i stands None eo = tt
       here i stands (Some a) eo =
-          cond_both (register_number a.base == register_number r) (a ∷ []) [] (AllByRecursion (Inside place (length own) bounds.untouched r (flat_register f r)))
+          cond_both (register_number a.base == register_number r) (a ∷ []) [] (AllByRecursion (Inside place (length own) bounds.untouched deep r (flat_register f r)))
           (λ e. let same : register_number a.base ≡ register_number r = eqb-true (register_number a.base) (register_number r) e in
           let base : flat_register f a.base ≡ flat_register f r = ap (λ n. get_or f.registers n 0) same in
           let stay = ends.stays j f le run in
@@ -185,29 +197,31 @@ module _ (place : Placement) (old : Instructions) (program : IsProgram old.list)
           ] in (
             record {
               near = access_near i a (encoding_at old.list program.encoding f.slot i stands) eo;
-              there = λ b lt. subst (λ y. IsInMemory place (length own) 0 ((modulo (pos y +ℤ a.offset) addresses + b) % addresses)) base
-                  (subst (λ rs. IsInMemory place (length own) (length rs) ((address f a.base a.offset + b) % addresses)) outermost (inside b lt));
-              above = λ other b lt among. ends.leaves j f le run i a b 0 stands eo (λ ten. false≢true (sym other ∙ eq-eqb (register_number r) 10 (sym same ∙ ten))) lt (omega arith)
-                  (subst (λ y. IsAmong (frame_start place 0) bounds.untouched ((modulo (pos y +ℤ a.offset) addresses + b) % addresses)) (sym base) among);
+              there = λ b lt. subst (λ y. IsInMemory place (length own) deep ((modulo (pos y +ℤ a.offset) addresses + b) % addresses)) base
+                  (subst (λ live. IsInMemory place (length own) live ((address f a.base a.offset + b) % addresses)) level (inside b lt));
+              above = λ other b lt among. ends.leaves j f le run i a b deep stands eo (λ ten. false≢true (sym other ∙ eq-eqb (register_number r) 10 (sym same ∙ ten))) lt (omega arith)
+                  (subst (λ y. IsAmong (frame_start place deep) bounds.untouched ((modulo (pos y +ℤ a.offset) addresses + b) % addresses)) (sym base) among);
             },
             tt,
           ))
           (λ e. tt)
 
-      later : ((m : ℕ) (g : FlatState) → zero_after place old m begin ≡ Some g → m ≤ k → g.returns ≡ [] → IsZeroState g → AllByRecursion (Inside place (length own) bounds.untouched r (flat_register g r)) (accesses_ahead old r n g.slot))
+      later : ((m : ℕ) (g : FlatState) → zero_after place old m begin ≡ Some g → m ≤ k → length g.returns ≡ deep → IsZeroState g
+          → AllByRecursion (Inside place (length own) bounds.untouched deep r (flat_register g r)) (accesses_ahead old r n g.slot))
           → (i : Insn) → insn_at old.list f.slot ≡ Some i → is_passed r i ≡ true
-          → AllByRecursion (Inside place (length own) bounds.untouched r (flat_register f r)) (accesses_ahead old r n (f.slot + slot_count i))
+          → AllByRecursion (Inside place (length own) bounds.untouched deep r (flat_register f r)) (accesses_ahead old r n (f.slot + slot_count i))
       later again i stands passed =
           let h = and_parts (is_straight i) (not (option_map_or (λ w. register_number w == register_number r) (register_written i) false)) passed in
           let g = goes_on j f i run le stands (exit_turns i h.0) in
-          let p = passes r i f g.0 stands passed state outermost g.1 in
-          subst (λ slot. AllByRecursion (Inside place (length own) bounds.untouched r (flat_register f r)) (accesses_ahead old r n slot)) p.slot
-          (subst (λ y. AllByRecursion (Inside place (length own) bounds.untouched r y) (accesses_ahead old r n g.0.slot)) p.same (again (suc j) g.0 g.2 g.3 p.outermost p.state))
+          let p = passes r i f g.0 stands passed state g.1 in
+          subst (λ slot. AllByRecursion (Inside place (length own) bounds.untouched deep r (flat_register f r)) (accesses_ahead old r n slot)) p.slot
+          (subst (λ y. AllByRecursion (Inside place (length own) bounds.untouched deep r y) (accesses_ahead old r n g.0.slot)) p.same (again (suc j) g.0 g.2 g.3 (p.level ∙ level) p.state))
 
-      by_insn : ((m : ℕ) (g : FlatState) → zero_after place old m begin ≡ Some g → m ≤ k → g.returns ≡ [] → IsZeroState g → AllByRecursion (Inside place (length own) bounds.untouched r (flat_register g r)) (accesses_ahead old r n g.slot))
+      by_insn : ((m : ℕ) (g : FlatState) → zero_after place old m begin ≡ Some g → m ≤ k → length g.returns ≡ deep → IsZeroState g
+          → AllByRecursion (Inside place (length own) bounds.untouched deep r (flat_register g r)) (accesses_ahead old r n g.slot))
           → (o : Option Insn) → insn_at old.list f.slot ≡ o
-          → AllByRecursion (Inside place (length own) bounds.untouched r (flat_register f r)) (option_map_or (λ i. accesses_by r i ++ (if is_passed r i then accesses_ahead old r n (f.slot + slot_count i) else [])) o [])
+          → AllByRecursion (Inside place (length own) bounds.untouched deep r (flat_register f r)) (option_map_or (λ i. accesses_by r i ++ (if is_passed r i then accesses_ahead old r n (f.slot + slot_count i) else [])) o [])
       by_insn again None eo = tt
       by_insn again (Some i) eo =
-          all_append (Inside place (length own) bounds.untouched r (flat_register f r)) (accesses_by r i) (if is_passed r i then accesses_ahead old r n (f.slot + slot_count i) else []) (here i eo (access_of i) refl)
-          (cond_both (is_passed r i) (accesses_ahead old r n (f.slot + slot_count i)) [] (AllByRecursion (Inside place (length own) bounds.untouched r (flat_register f r))) (later again i eo) (λ e. tt))
+          all_append (Inside place (length own) bounds.untouched deep r (flat_register f r)) (accesses_by r i) (if is_passed r i then accesses_ahead old r n (f.slot + slot_count i) else []) (here i eo (access_of i) refl)
+          (cond_both (is_passed r i) (accesses_ahead old r n (f.slot + slot_count i)) [] (AllByRecursion (Inside place (length own) bounds.untouched deep r (flat_register f r))) (later again i eo) (λ e. tt))

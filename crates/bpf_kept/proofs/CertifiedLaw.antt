@@ -6,15 +6,17 @@ use Rattle.bpf_semantics.specs.MachineLaws.{FinishIsLast, RunsAreOne}
 use Rattle.bpf_semantics.specs.State.{State, start}
 use Rattle.bpf_semantics.specs.Step.{Step, Finish}
 use Rattle.bpf_semantics.specs.Run.{Steps}
-use Rattle.bpf_safety.specs.Theorems.{CertifiedIsSafe}
+use Rattle.bpf_safety.specs.Theorems.{CertifiedIsSafe, CertifiedDescribes}
+use Rattle.bpf_kept.proofs.StatesLaw.{states_from}
 use Rattle.bpf_kept.specs.Laws.{CertifiedKeepsFlatMeaning, OtherExitsAreTraps}
 use Rattle.bpf_kept.specs.Matching.{StandsForExit}
 use Rattle.bpf_kept.proofs.Law.{matching_keeps_flat_meaning}
 
-pub certified_keeps_flat_meaning : CertifiedIsSafe → CertifiedKeepsFlatMeaning
-certified_keeps_flat_meaning safe old new notes bounds c old_valid new_valid limits certified least most matches =
-    matching_keeps_flat_meaning old new notes bounds old_valid new_valid matches
+pub certified_keeps_flat_meaning : CertifiedIsSafe → CertifiedDescribes → CertifiedKeepsFlatMeaning
+certified_keeps_flat_meaning safe describes old new notes bounds states c old_valid new_valid limits certified least most from matches =
+    matching_keeps_flat_meaning old new notes bounds states old_valid new_valid matches
     (λ context k s bytes long run stuck. (safe new c new_valid limits certified).never_stuck context k s (record { bytes = bytes; length_within = (subst (λ n. c.least ≤ n) (sym long) least, subst (λ n. n ≤ c.most) (sym long) most) }) run stuck)
+    (states_from describes new c bounds.length states new_valid limits certified least most from)
 
 -- a run that is longer has a step there
 pub goes_on : RunsAreOne → (p : Instructions) (j k : ℕ) (s t u : State) → Steps p j s t → Steps p k s u → j < k → (v : State) × Step p t v

@@ -1,5 +1,5 @@
 -- Guards by the packet's end pass: where the old program's accesses follow, what is tested isn't behind that end.
-use Rattle.std.proofs.Common.{◌≡◌, ℕ, ◌+◌, ◌-◌, ◌%◌, ◌^◌, ◌<◌, ◌≤◌, ◌==◌, refl, ap, ◌∙◌, subst, arith, Bool, true, false, Option, Some, None}
+use Rattle.std.proofs.Common.{◌≡◌, ℕ, ◌+◌, ◌%◌, ◌^◌, ◌<◌, ◌≤◌, ◌==◌, refl, ap, ◌∙◌, subst, arith, Bool, true, false, Option, Some, None}
 use Rattle.std.specs.Prelude.{ℤ, pos, ◌+ℤ◌, ◌-ℤ◌, ◌≤ℤ◌, ◌&&◌}
 use Rattle.std.specs.Int.{w64, cast_signed}
 use Rattle.std.specs.Option.{option_map_or}
@@ -8,6 +8,7 @@ use Rattle.std.proofs.lemmas.Bool.{and_parts, eqb-true, false≢true}
 use Rattle.std.proofs.lemmas.Int.{ints}
 use Rattle.bpf_insn.specs.Arithmetic.{modulo}
 use Rattle.bpf_insn.specs.Effects.{Access}
+use Rattle.bpf_insn.specs.Limits.{max_frames}
 use Rattle.bpf_insn.specs.Instruction.{Instructions, register_number, byte_count}
 use Rattle.bpf_insn.specs.declared.order.Order.{Order}
 use Rattle.bpf_insn.specs.declared.instruction.Reg.{Reg}
@@ -60,27 +61,27 @@ few_before false = omega arith
 not_behind : (h len : ℕ) (moved e : ℤ) → h ≤ 8 → moved ≤ℤ e → ((pos (h + len) +ℤ moved) -ℤ pos (len + 8)) ≤ℤ e
 not_behind h len moved e le t = omega (arith, ints)
 
-module _ (bounds : Bounds) (packet : Packet) (old : Instructions) (slot x : ℕ) (fn fw : FlatState) (short : bounds.length < 2 ^ 32) (few : bytes_before bounds.padded + packet.length ≤ bounds.length) (small : x < addresses) (flat : IsFlat fn) (flat' : IsFlat fw)
-    (inside : (r : Reg) → AllByRecursion (Inside (near bounds.padded) packet.length bounds.untouched r (flat_register fn r)) (accesses_ahead old r farthest_ahead slot))
-    (inside' : (r : Reg) → AllByRecursion (Inside (wide bounds.padded) packet.length bounds.untouched r (flat_register fw r)) (accesses_ahead old r farthest_ahead slot)) where
+module _ (deep : ℕ) (shallow : deep < max_frames) (bounds : Bounds) (packet : Packet) (old : Instructions) (slot x : ℕ) (fn fw : FlatState) (short : bounds.length < 2 ^ 32) (few : bytes_before bounds.padded + packet.length ≤ bounds.length) (small : x < addresses) (flat : IsFlat fn) (flat' : IsFlat fw)
+    (inside : (r : Reg) → AllByRecursion (Inside (near bounds.padded) packet.length bounds.untouched deep r (flat_register fn r)) (accesses_ahead old r farthest_ahead slot))
+    (inside' : (r : Reg) → AllByRecursion (Inside (wide bounds.padded) packet.length bounds.untouched deep r (flat_register fw r)) (accesses_ahead old r farthest_ahead slot)) where
   abbrev front : Front
   front = record { old = old; slot = slot; bounds = bounds }
 
   abbrev start : ℕ
-  start = frame_start (near false) 0
+  start = frame_start (near false) deep
 
   abbrev other : ℕ
-  other = frame_start (wide false) 0
+  other = frame_start (wide false) deep
 
   abbrev before : ℕ
   before = bytes_before bounds.padded
 
   -- an access by a register stays inside at both placements
   abbrev InsideNear : Reg → Access → Type 0
-  InsideNear r a = Inside (near bounds.padded) packet.length bounds.untouched r (flat_register fn r) a
+  InsideNear r a = Inside (near bounds.padded) packet.length bounds.untouched deep r (flat_register fn r) a
 
   abbrev InsideWide : Reg → Access → Type 0
-  InsideWide r a = Inside (wide bounds.padded) packet.length bounds.untouched r (flat_register fw r) a
+  InsideWide r a = Inside (wide bounds.padded) packet.length bounds.untouched deep r (flat_register fw r) a
 
   by_accesses : (t : Term) (r : Reg) → flat_register fw r ≡ flat_register fn r
       → Same (pos x) (pos (flat_register fn r) +ℤ (pos (2 ^ 63) +ℤ (in_context bounds t).moved)) → is_reached_by front r (in_context bounds t) ≡ true
@@ -94,7 +95,7 @@ module _ (bounds : Bounds) (packet : Packet) (old : Instructions) (slot x : ℕ)
       let a = any_of (is_met (Below low)) (InsideNear r) (InsideWide r) accesses h.0 (inside r) (inside' r) in
       let b = any_of (is_met (Above moved)) (InsideNear r) (InsideWide r) accesses h.1 (inside r) (inside' r) in
       let lies : (a : Access) → InsideNear r a → InsideWide r a → Lies x before (before + packet.length) moved a =
-      λ a h k. in_packet bounds.padded packet.length bounds.untouched x (flat_register fn r) (flat_register fw r) moved r a same s h k in
+      λ a h k. in_packet deep shallow bounds.padded packet.length bounds.untouched x (flat_register fn r) (flat_register fw r) moved r a same s h k in
       let near : before + packet.length < 2 ^ 32 = omega arith in
       let first = begins x before (before + packet.length) 0 moved a.0 small near (signed_top (t.moved + middle)) (lies a.0 a.2 a.3) (le_of a.0.offset low a.1) in
       at_most x before (before + packet.length) (packet.length + 8) moved a.0 b.0 near first a.2.near (lies b.0 b.2 b.3)

@@ -1,6 +1,6 @@
 -- A run that ends on the exact machine ends so on plain addresses.
-use Rattle.std.proofs.Common.{◌≡◌, ℕ, zero, suc, ◌+◌, ◌%◌, ◌<◌, ◌≤◌, ◌==◌, inl, inr, refl, sym, ap, ◌∙◌, subst, arith, Bool, true, false, List, [], ◌∷◌, length, Some, None}
-use Rattle.std.specs.Prelude.{take, drop, ltb, ◌&&◌, option_and_then, option_map, if◌then◌else◌}
+use Rattle.std.proofs.Common.{◌≡◌, ℕ, zero, suc, ◌+◌, ◌%◌, ◌<◌, ◌≤◌, ◌==◌, inl, inr, refl, sym, ap, ◌∙◌, subst, arith, true, List, ◌∷◌, length, Some, None}
+use Rattle.std.specs.Prelude.{ltb, ◌&&◌, option_and_then, option_map, if◌then◌else◌}
 use Rattle.std.proofs.lemmas.Bool.{cond_both, cond-true, lt-ltb, and_parts, cases_order, cases_eq}
 use Rattle.std.proofs.lemmas.Option.{none-some, same_Some}
 use Rattle.bpf_insn.specs.Effects.{Access, access_of}
@@ -29,7 +29,7 @@ use Rattle.bpf_semantics.proofs.SlotLaw.{step_keeps_context}
 use Rattle.bpf_semantics.proofs.StateLemmas.{IsGood}
 use Rattle.bpf_kept.specs.Zero.{zero_start, zero_entered, zero_left, zero_does, zero_step, zero_after, IsZeroState}
 use Rattle.bpf_kept.specs.Far.{near, wide}
-use Rattle.bpf_kept.specs.Meaning.{Bounds, AreGiven, FlatEnds, LeavesLowestFlat, counted, turns_to, turns_in_call}
+use Rattle.bpf_kept.specs.Meaning.{Bounds, FlatEnds, LeavesLowestFlat, counted, turns_to, turns_in_call}
 use Rattle.bpf_kept.specs.Exact.{is_at, visits, LeavesLowest}
 use Rattle.bpf_kept.specs.Laws.{ExactRunsAreFlat, FlatMeaningIsExact}
 use Rattle.bpf_kept.proofs.AccessesLemmas.{goes}

@@ -31,7 +31,8 @@ use Rattle.bpf_kept.specs.declared.notes.Fact.{Fact}
 use Rattle.bpf_kept.specs.declared.notes.Change.TheVariants.{Kept, Put, Stored, Made}
 use Rattle.bpf_kept.specs.Terms.{Packet, Facts, Values, Differs, DiffersBy, Holds, AllHold, value_in, shift, constant, zero_term, frame_end, plus, minus, number_pin}
 use Rattle.bpf_kept.specs.Slots.{slot_at, is_clear}
-use Rattle.bpf_kept.specs.Rules.{is_holder, is_register, is_base, is_enough, gives, sum_base, difference_base, both, is_known, is_sum, is_difference, is_moved, made_by, made_from, of_slot, known_number, known_operand, pinned, pins, of_number, of_operand, by_operand, made, stays, outlives, put_gives, made_gives, stored_gives, holds_behind}
+use Rattle.bpf_kept.specs.Rules.{is_holder, is_register, is_base, is_enough, gives, both, pinned}
+use Rattle.bpf_kept.specs.Behind.{sum_base, difference_base, is_known, is_sum, is_difference, is_moved, made_by, made_from, of_slot, known_number, known_operand, pins, of_number, of_operand, by_operand, made, stays, outlives, put_gives, made_gives, stored_gives, holds_behind}
 use Rattle.bpf_kept.proofs.TermLaw.{shift_plus, shift_minus, shift_constant, differs_same, same_differs, same_number, opposite_differs}
 use Rattle.bpf_kept.proofs.HoldsLaw.{IsHigh, Elsewhere, any_holds, pinned_differs, held, none_is, base_same, enough_differs, gives_holds, stays_holds, other_holds}
 use Rattle.bpf_kept.proofs.FrameLaw.{IsRoomy, IsEnd, slot_access, slot_loaded}

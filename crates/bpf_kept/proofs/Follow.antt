@@ -1,8 +1,8 @@
--- Each instruction of the old program is followed by one of the new one's, to the end.
-use Rattle.std.proofs.Common.{◌≡◌, ℕ, zero, suc, ◌+◌, ◌*◌, ◌^◌, ◌<◌, ◌≤◌, ◌⊎◌, inl, inr, refl, sym, ap, ◌∙◌, subst, arith, Bool, true, false, length, Option, Some, None, cond}
-use Rattle.std.specs.Prelude.{ℤ, ◌↔◌, IsTrue, not, ◌&&◌, ◌||◌, option_and_then, option_map}
+-- Each instruction of the old program that neither calls nor ends a function is followed by one of the new one's.
+use Rattle.std.proofs.Common.{◌≡◌, ℕ, suc, ◌+◌, ◌*◌, ◌^◌, ◌<◌, ◌≤◌, inl, inr, refl, sym, ap, ◌∙◌, subst, arith, Bool, true, false, length, Option, Some, None, cond}
+use Rattle.std.specs.Prelude.{ℤ, ◌↔◌, IsTrue, not, ◌&&◌, ◌||◌, option_map}
 use Rattle.std.specs.Option.{option_map_or, option_or}
-use Rattle.std.proofs.lemmas.Bool.{and_parts, or_cases, cond-true, cond-false, cases_order, false≢true}
+use Rattle.std.proofs.lemmas.Bool.{and_parts, or_cases, cond-true, cond-false, false≢true}
 use Rattle.std.proofs.lemmas.Option.{none-some, same_Some, option_and_then_some}
 use Rattle.bpf_insn.specs.Arithmetic.{jumps}
 use Rattle.bpf_insn.specs.Image.{HasEncoding}
@@ -18,31 +18,32 @@ use Rattle.bpf_insn.specs.declared.instruction.Cond.{Cond}
 use Rattle.bpf_insn.specs.declared.instruction.AluOp.TheVariants.{Mov}
 use Rattle.bpf_insn.specs.declared.instruction.Insn.{Insn}
 use Rattle.bpf_insn.specs.declared.instruction.Insn.TheVariants.{Alu, Load, LoadSx, Store, StoreImm, Ja, JaLong, JumpIf, CallLocal, Exit}
-use Rattle.bpf_semantics.specs.Step.{Finish}
 use Rattle.bpf_semantics.specs.Flat.{FlatState, flat_register, flat_operand, flat_at, flat_does}
-use Rattle.bpf_semantics.proofs.FlatInsn.{number_stands}
 use Rattle.bpf_semantics.proofs.StateLemmas.{cond_option, encoding_at, option_map_some}
 use Rattle.bpf_kept.specs.Far.{near, wide}
-use Rattle.bpf_kept.specs.Zero.{zero_start, zero_does, zero_step, zero_after}
-use Rattle.bpf_kept.specs.Meaning.{EndsAt, most_for_one}
+use Rattle.bpf_kept.specs.Meaning.{most_for_one}
 use Rattle.bpf_kept.specs.declared.notes.Holder.TheVariants.{Register}
 use Rattle.bpf_kept.specs.declared.notes.Term.{Term}
 use Rattle.bpf_kept.specs.declared.notes.Change.{Change}
 use Rattle.bpf_kept.specs.declared.notes.Change.TheVariants.{Kept}
 use Rattle.bpf_kept.specs.Terms.{Packet, Facts, value_in, zero_term, frame_offset}
-use Rattle.bpf_kept.specs.Rules.{Known, same_register, is_same, put_into, loads_alike, is_framed, turned_test, are_offsets, are, by_order, undirected, is_jump, is_kept, keeps, put_by, pin_of, put, puts, puts_slot, stores_alike, reached, stores, paired}
-use Rattle.bpf_kept.specs.Ways.{surely_jumps, surely_falls}
-use Rattle.bpf_kept.specs.Matching.{most_extras, most_at_start, facts_at, known_at, arrives, led, may_fall, may_lead, falls, leads_to, leads, goes, stands, IsBody, IsEither, StandsForExit}
+use Rattle.bpf_kept.specs.Rules.{Known, same_register, put_into, loads_alike, is_widened, is_framed, turned_test, are_offsets, are, by_order, undirected, is_jump, is_kept, keeps, put_by, pin_of, put, puts, puts_slot, stores_alike, reached, stores, paired}
+use Rattle.bpf_kept.specs.Ways.{is_dead}
+use Rattle.bpf_kept.specs.Matching.{most_extras, most_at_start, facts_at, arrives, led, may_fall, may_lead, falls, leads_to, leads, goes}
 use Rattle.bpf_kept.proofs.HoldsLaw.{register_is}
-use Rattle.bpf_kept.proofs.PutLaw.{AtOnce, plain_is, put_both}
-use Rattle.bpf_kept.proofs.TestLaw.{same_test, order_test, always_jumps, never_jumps}
+use Rattle.bpf_kept.proofs.PutLaw.{AtOnce}
+use Rattle.bpf_kept.proofs.BothLaw.{plain_is, put_both}
+use Rattle.bpf_kept.proofs.WayLaw.{widened_moved, jump_alive, test_alive}
+use Rattle.bpf_kept.proofs.TestLaw.{same_test, order_test}
 use Rattle.bpf_kept.proofs.CountLaw.{kept_counts}
-use Rattle.bpf_kept.proofs.AheadLaw.{earlier, onward, goes_on, ends_here}
-use Rattle.bpf_kept.proofs.StoreLaw.{Paired, register_same, at_same, kept_there, both_put, slots_put, stores_there}
-use Rattle.bpf_kept.proofs.Simulation.{more, in_time, none_first, program, not_exit, zero_plain, answers, test_jumps, test_jumps_back, test_falls, jump_does, jump_back, test_back, jump_turns, test_turns, put_turns, does_there, steps_on, ends_on, answers_same, same_tests, same_exit}
-use Rattle.bpf_kept.proofs.Setting.{Setting, packet_of}
-use Rattle.bpf_kept.proofs.Beside.{OldAt, new_next, near_does, old_next, near_own, wide_own, near_leaves, wide_leaves, made_before}
-use Rattle.bpf_kept.proofs.Extras.{Ready, arrived, extra_step, turn_advances}
+use Rattle.bpf_kept.proofs.AheadLaw.{goes_on}
+use Rattle.bpf_kept.proofs.StoreLaw.{Paired, at_same, kept_there, both_put, slots_put, stores_there}
+use Rattle.bpf_kept.proofs.Simulation.{more, none_first, program, not_exit, zero_plain, answers, test_jumps, test_jumps_back, test_falls, jump_does, jump_back, test_back, jump_turns, test_turns, put_turns, does_there, steps_on, answers_same, same_tests}
+use Rattle.bpf_kept.proofs.Setting.{Setting}
+use Rattle.bpf_kept.proofs.Beside.{new_next, near_does, old_next, near_own, wide_own, near_packet, wide_packet, near_leaves, wide_leaves, made_before}
+use Rattle.bpf_kept.proofs.Waiting.{Stays, step_waits}
+use Rattle.bpf_kept.proofs.Extras.{turn_advances}
+use Rattle.bpf_kept.proofs.Arrivals.{Ready, known_there, arrived}
 
 -- a store is the same where it is the same but for where it leads
 abbrev is_store : Insn → Bool
@@ -67,18 +68,8 @@ store_again i moved e same =
     let there : is_store moved ≡ true = sym (undirected_store moved) ∙ ap is_store same ∙ undirected_store i ∙ e in
     sym (store_plain moved there) ∙ same ∙ store_plain i e
 
--- what jumps without a test leads there
-jump_leads : (facts : Facts) (i : Insn) (slot : ℕ) → is_jump i ≡ true → may_lead facts slot i ≡ led slot i
-jump_leads facts (Ja off) slot e = refl
-jump_leads facts (JaLong off) slot e = refl
-jump_leads facts i slot e = absurd (false≢true e)
-
-only_false : (b : Bool) → (b ≡ true → ⊥) → b ≡ false
-only_false true h = absurd (h refl)
-only_false false h = refl
-
-module _ (given : Setting) where
-  open given use {order, is, js, notes, bounds, old_valid, new_valid, matches, own, own_is, context, bytes, long, never, v, k, l, near_ends, wide_ends}
+module _ (given : Setting) (deep : ℕ) where
+  open given use {order, is, js, notes, bounds, states, old_valid, new_valid, matches, own, own_is, context, bytes, long, never, v, k, l, near_ends, wide_ends}
 
   abbrev pub old : Instructions
   old = program order is
@@ -86,51 +77,54 @@ module _ (given : Setting) where
   abbrev pub new : Instructions
   new = program order js
 
-  abbrev packet : Packet
-  packet = packet_of given
-
   short : length context < 2 ^ 32
   short = subst (λ n. n < 2 ^ 32) (sym long) matches.short
 
   -- in front of the old instruction itself, and what stands for it
-  record At (j : ℕ) (i moved : Insn) : Type 0 where
-    ready : Ready given j
-    body : ready.note.extras ≡ 0
-    here : insn_at is ready.fn.slot ≡ Some i
-    there : insn_at js ready.state.top.slot ≡ Some moved
+  pub record At (j : ℕ) (i moved : Insn) : Type 0 where
+    pub ready : Ready given deep j
+    pub body : ready.note.extras ≡ 0
+    pub here : insn_at is ready.fn.slot ≡ Some i
+    pub there : insn_at js ready.state.top.slot ≡ Some moved
 
-  few_at : (j : ℕ) (i moved : Insn) (at : At j i moved) → at.ready.n ≤ most_at_start + most_for_one * j
+  pub few_at : (j : ℕ) (i moved : Insn) (at : At j i moved) → at.ready.n ≤ most_at_start + most_for_one * j
   few_at j i moved at = let few = at.ready.few in let body = at.body in omega arith
 
   -- what is known there
-  abbrev known : {j : ℕ} → Ready given j → Known
-  known q = known_at new bounds q.note
+  abbrev pub known : {j : ℕ} → Ready given deep j → Known
+  known q = known_there given deep q
 
   -- both put a number into a register or a slot, or store the same
-  by_pairs : (j : ℕ) (i moved : Insn) (at : At j i moved) (change : Change) → Paired order (near_own given) packet (known at.ready) change i moved at.ready.fn at.ready.gn → Paired order (wide_own given) packet (known at.ready) change i moved at.ready.fw at.ready.gw
-      → arrives notes (known at.ready) change (Some at.ready.fn.slot) (at.ready.fn.slot + slot_count i) most_extras (at.ready.state.top.slot + slot_count moved) ≡ true → Ready given (suc j)
+  by_pairs : (j : ℕ) (i moved : Insn) (at : At j i moved) (change : Change) → Paired order (near_own given deep) (near_packet given deep) (known at.ready) change i moved at.ready.fn at.ready.gn → Paired order (wide_own given deep) (wide_packet given deep) (known at.ready) change i moved at.ready.fw at.ready.gw
+      → arrives notes (known at.ready) change (Some at.ready.fn.slot) (at.ready.fn.slot + slot_count i) most_extras (at.ready.state.top.slot + slot_count moved) ≡ true → Ready given deep (suc j)
   by_pairs j i moved at change a b goes =
       let q = at.ready in
       let o = q.old_at in
-      let o' = old_next given j q.fn q.fw a.old b.old i o at.here (zero_plain (near bounds.padded) order i q.fn a.old a.old_does) (zero_plain (wide bounds.padded) order i q.fw b.old b.old_does) (not_exit order i q.fn a.old a.old_does) a.old_returns b.old_returns
+      let o' = old_next given deep j q.fn q.fw a.old b.old i o at.here (zero_plain (near bounds.padded) order i q.fn a.old a.old_does) (zero_plain (wide bounds.padded) order i q.fw b.old b.old_does) (not_exit order i q.fn a.old a.old_does) a.old_returns b.old_returns
       (b.old_slot ∙ ap (λ z. z + slot_count i) o.slots_same ∙ sym a.old_slot) in
-      let x = new_next given (known q) j q.n q.state q.fn q.fw q.gn q.gw a.new b.new moved q.new_at at.there a.new_does b.new_does a.new_returns in
+      let x = new_next given deep (known q) j q.n q.state q.fn q.fw q.gn q.gw a.new b.new moved q.new_at at.there a.new_does b.new_does a.new_returns b.new_returns in
       let to : x.0.top.slot ≡ q.state.top.slot + slot_count moved = sym x.2.near_fits.slot_is ∙ a.new_slot ∙ ap (λ z. z + slot_count moved) q.new_at.near_fits.slot_is in
-      (arrived given (known q) change (Some q.fn.slot) (suc j) (suc q.n) (q.fn.slot + slot_count i) most_extras (q.state.top.slot + slot_count moved) x.0 a.old b.old a.new b.new goes to a.old_slot (more j q.n (few_at j i moved at)) o'
+      (arrived given deep (known q) change (Some q.fn.slot) (suc j) (suc q.n) (q.fn.slot + slot_count i) most_extras (q.state.top.slot + slot_count moved) x.0 a.old b.old a.new b.new goes to a.old_slot (more j q.n (few_at j i moved at)) q.promise q.promises
+      (step_waits given deep j q.promise q.fn q.fw q.gn q.gw a.old b.old a.new b.new o (record { returns = a.old_returns; unseen = a.unseen }) (record { returns = b.old_returns; unseen = b.unseen }) (record { returns = a.new_returns; unseen = a.new_unseen }) (record { returns = b.new_returns; unseen = b.new_unseen }) q.waits) o'
       (record {
         run = x.2.run;
-        alone = x.2.alone;
+        near_level = x.2.near_level;
+        wide_level = x.2.wide_level;
         near_behind = a.behind;
         wide_behind = b.behind;
         near_fits = x.2.near_fits;
         wide_fits = x.2.wide_fits;
-        counts = λ want e. kept_counts (known q) (made_before given j) (made_before given (suc j)) (Some q.fn.slot) change (value_in order (near_own given) packet q.gn) (value_in order (near_own given) packet a.new) want a.unmade (turn_advances given j q.fn q.fw o) a.spared q.new_at.counted e;
+        counts = λ want e. kept_counts (known q) (made_before given deep j) (made_before given deep (suc j)) (Some q.fn.slot) change (value_in order (near_own given deep) (near_packet given deep) q.gn) (value_in order (near_own given deep) (near_packet given deep) a.new) want a.unmade (turn_advances given deep j q.fn q.fw o) a.spared q.new_at.counted e;
+        unlike = λ z e b same. q.new_at.unlike z b (sym (a.spared (Register R0) e) ∙ same);
         isolated = x.2.isolated;
       })).0
 
+  moves : (f : FlatState) (slot own : ℕ) (packet : Packet) → Stays own packet f (flat_at slot f)
+  moves f slot own packet = record { returns = refl; unseen = λ a small out. refl }
+
   -- both go elsewhere, and nothing else
   by_moves : (j : ℕ) (i moved : Insn) (at : At j i moved) (x y : ℕ) → (i ≡ Exit → ⊥) → flat_does order i at.ready.fn ≡ Some (flat_at x at.ready.fn) → flat_does order i at.ready.fw ≡ Some (flat_at x at.ready.fw)
-      → flat_does order moved at.ready.gn ≡ Some (flat_at y at.ready.gn) → flat_does order moved at.ready.gw ≡ Some (flat_at y at.ready.gw) → arrives notes (known at.ready) Kept (Some at.ready.fn.slot) x most_extras y ≡ true → Ready given (suc j)
+      → flat_does order moved at.ready.gn ≡ Some (flat_at y at.ready.gn) → flat_does order moved at.ready.gw ≡ Some (flat_at y at.ready.gw) → arrives notes (known at.ready) Kept (Some at.ready.fn.slot) x most_extras y ≡ true → Ready given deep (suc j)
   by_moves j i moved at x y other en ew dn dw goes =
       let q = at.ready in
       let new_at = q.new_at in
@@ -138,17 +132,20 @@ module _ (given : Setting) where
       let hw : FlatState = flat_at x q.fw in
       let kn : FlatState = flat_at y q.gn in
       let kw : FlatState = flat_at y q.gw in
-      let o' = old_next given j q.fn q.fw hn hw i q.old_at at.here (zero_plain (near bounds.padded) order i q.fn hn en) (zero_plain (wide bounds.padded) order i q.fw hw ew) other refl refl refl in
-      let z = new_next given (known q) j q.n q.state q.fn q.fw q.gn q.gw kn kw moved new_at at.there dn dw refl in
-      (arrived given (known q) Kept (Some q.fn.slot) (suc j) (suc q.n) x most_extras y z.0 hn hw kn kw goes (sym z.2.near_fits.slot_is) refl (more j q.n (few_at j i moved at)) o'
+      let o' = old_next given deep j q.fn q.fw hn hw i q.old_at at.here (zero_plain (near bounds.padded) order i q.fn hn en) (zero_plain (wide bounds.padded) order i q.fw hw ew) other refl refl refl in
+      let z = new_next given deep (known q) j q.n q.state q.fn q.fw q.gn q.gw kn kw moved new_at at.there dn dw refl refl in
+      (arrived given deep (known q) Kept (Some q.fn.slot) (suc j) (suc q.n) x most_extras y z.0 hn hw kn kw goes (sym z.2.near_fits.slot_is) refl (more j q.n (few_at j i moved at)) q.promise q.promises
+      (step_waits given deep j q.promise q.fn q.fw q.gn q.gw hn hw kn kw q.old_at (moves q.fn x (near_own given deep) (near_packet given deep)) (moves q.fw x (wide_own given deep) (wide_packet given deep)) (moves q.gn y (near_own given deep) (near_packet given deep)) (moves q.gw y (wide_own given deep) (wide_packet given deep)) q.waits) o'
       (record {
         run = z.2.run;
-        alone = z.2.alone;
-        near_behind = kept_there order (near_own given) packet (known q) q.fn q.gn x y new_at.near_at;
-        wide_behind = kept_there order (wide_own given) packet (known q) q.fw q.gw x y new_at.wide_at;
+        near_level = z.2.near_level;
+        wide_level = z.2.wide_level;
+        near_behind = kept_there order (near_own given deep) (near_packet given deep) (known q) q.fn q.gn x y new_at.near_at;
+        wide_behind = kept_there order (wide_own given deep) (wide_packet given deep) (known q) q.fw q.gw x y new_at.wide_at;
         near_fits = z.2.near_fits;
         wide_fits = z.2.wide_fits;
-        counts = λ want e. kept_counts (known q) (made_before given j) (made_before given (suc j)) (Some q.fn.slot) Kept (value_in order (near_own given) packet q.gn) (value_in order (near_own given) packet kn) want (λ want h. false≢true h) (turn_advances given j q.fn q.fw q.old_at) (λ h e. at_same order (near_own given) packet y q.gn (Some h)) new_at.counted e;
+        counts = λ want e. kept_counts (known q) (made_before given deep j) (made_before given deep (suc j)) (Some q.fn.slot) Kept (value_in order (near_own given deep) (near_packet given deep) q.gn) (value_in order (near_own given deep) (near_packet given deep) kn) want (λ want h. false≢true h) (turn_advances given deep j q.fn q.fw q.old_at) (λ h e. at_same order (near_own given deep) (near_packet given deep) y q.gn (Some h)) new_at.counted e;
+        unlike = λ z e b same. new_at.unlike z b same;
         isolated = z.2.isolated;
       })).0
 
@@ -160,39 +157,41 @@ module _ (given : Setting) where
     new_is : led new_slot moved ≡ Some new_to
     goes : arrives notes known Kept (Some slot) to most_extras new_to ≡ true
 
-  led_there : (known : Known) (i moved : Insn) (slot new_slot to : ℕ) → led slot i ≡ Some to → may_lead known.facts slot i ≡ led slot i
+  led_there : (known : Known) (i moved : Insn) (slot new_slot to : ℕ) → led slot i ≡ Some to → is_dead known i moved true ≡ false
       → leads notes known Kept slot new_slot i moved ≡ true → Led known i moved slot new_slot
-  led_there known i moved slot new_slot to e may h = by_new (led new_slot moved) refl (ap (λ o. option_map_or (leads_to notes known Kept slot new_slot moved) o true) (sym (may ∙ e)) ∙ h)
+  led_there known i moved slot new_slot to e alive h =
+      let may : may_lead known slot i moved ≡ Some to = cond-false (is_dead known i moved true) None (led slot i) alive ∙ e in
+      by_new (led new_slot moved) refl (ap (λ o. option_map_or (leads_to notes known Kept slot new_slot moved) o true) (sym may) ∙ h)
     where
       by_new : (o : Option ℕ) → led new_slot moved ≡ o → option_map_or (arrives notes known Kept (Some slot) to most_extras) o false ≡ true → Led known i moved slot new_slot
       by_new None eo h = absurd (false≢true h)
       by_new (Some new_to) eo h = record { to = to; to_is = e; new_to = new_to; new_is = eo; goes = h }
 
-  by_jumps : (j : ℕ) (i moved : Insn) (at : At j i moved) → is_jump i ≡ true → is_jump moved ≡ true → leads notes (known at.ready) Kept at.ready.fn.slot at.ready.state.top.slot i moved ≡ true → Ready given (suc j)
+  by_jumps : (j : ℕ) (i moved : Insn) (at : At j i moved) → is_jump i ≡ true → is_jump moved ≡ true → leads notes (known at.ready) Kept at.ready.fn.slot at.ready.state.top.slot i moved ≡ true → Ready given deep (suc j)
   by_jumps j i moved at jumps_is new_jumps goes =
       let q = at.ready in
       let o = q.old_at in
       let other = jump_turns i jumps_is in
       let g = goes_on (near bounds.padded) old old_valid own bounds v k near_ends j q.fn i o.near_run o.near_before at.here other in
       let to = jump_back (near bounds.padded) order i q.fn g.0 jumps_is (near_does given q.fn g.0 i at.here g.1) in
-      let lead = led_there (known q) i moved q.fn.slot q.state.top.slot to.0 to.1 (jump_leads (known q).facts i q.fn.slot jumps_is) goes in
+      let lead = led_there (known q) i moved q.fn.slot q.state.top.slot to.0 to.1 (jump_alive (known q) i moved jumps_is) goes in
       by_moves j i moved at lead.to lead.new_to other (jump_does order i q.fn lead.to jumps_is lead.to_is) (jump_does order i q.fw lead.to jumps_is (ap (λ z. led z i) o.slots_same ∙ lead.to_is))
       (jump_does order moved q.gn lead.new_to new_jumps (ap (λ z. led z moved) q.new_at.near_fits.slot_is ∙ lead.new_is)) (jump_does order moved q.gw lead.new_to new_jumps (ap (λ z. led z moved) q.new_at.wide_fits.slot_is ∙ lead.new_is)) lead.goes
 
   -- tests that answer alike
   by_tests : (j : ℕ) (cond other : Cond) (width : Width) (dst : Reg) (src : Operand) (off new_off : ℤ) (at : At j (JumpIf cond width dst src off) (JumpIf other width dst src new_off))
-      → ((start : ℕ) (f g : FlatState) → AtOnce order start packet (known at.ready) f g → jumps width other (flat_register g dst) (flat_operand g src) ≡ jumps width cond (flat_register f dst) (flat_operand f src))
-      → goes notes (known at.ready) at.ready.fn.slot at.ready.state.top.slot (JumpIf cond width dst src off) (JumpIf other width dst src new_off) Kept ≡ true → Ready given (suc j)
+      → ((start : ℕ) (packet : Packet) (f g : FlatState) → AtOnce order start packet (known at.ready) f g → jumps width other (flat_register g dst) (flat_operand g src) ≡ jumps width cond (flat_register f dst) (flat_operand f src))
+      → goes notes (known at.ready) at.ready.fn.slot at.ready.state.top.slot (JumpIf cond width dst src off) (JumpIf other width dst src new_off) Kept ≡ true → Ready given deep (suc j)
   by_tests j cond other width dst src off new_off at agree goes_is =
       let y = steps_on order js new_valid context bytes short never q.n q.state moved q.new_at.run at.there (test_turns moved other width dst src new_off refl) in
       let a = answers order q.state y.0 other width dst src new_off (does_there order js new_valid context bytes short never q.state y.0 moved at.there y.1) in
       let dn = answers_same order js new_valid context bytes short never (near false) q.n q.state q.gn other width dst src a q.new_at.run q.new_at.near_fits in
       let dw = answers_same order js new_valid context bytes short never (wide false) q.n q.state q.gw other width dst src a q.new_at.run q.new_at.wide_fits in
-      let on : jumps width cond (flat_register q.fn dst) (flat_operand q.fn src) ≡ a.taken = sym (agree (near_own given) q.fn q.gn q.new_at.near_at) ∙ dn in
-      let ow : jumps width cond (flat_register q.fw dst) (flat_operand q.fw src) ≡ a.taken = sym (agree (wide_own given) q.fw q.gw q.new_at.wide_at) ∙ dw in
+      let on : jumps width cond (flat_register q.fn dst) (flat_operand q.fn src) ≡ a.taken = sym (agree (near_own given deep) (near_packet given deep) q.fn q.gn q.new_at.near_at) ∙ dn in
+      let ow : jumps width cond (flat_register q.fw dst) (flat_operand q.fw src) ≡ a.taken = sym (agree (wide_own given deep) (wide_packet given deep) q.fw q.gw q.new_at.wide_at) ∙ dw in
       by_way a.taken on ow dn dw
     where
-      q : Ready given j
+      q : Ready given deep j
       q = at.ready
 
       i : Insn
@@ -207,26 +206,24 @@ module _ (given : Setting) where
       parts : (falls notes (known q) Kept q.fn.slot q.state.top.slot i moved ≡ true) × (leads notes (known q) Kept q.fn.slot q.state.top.slot i moved ≡ true)
       parts = and_parts (falls notes (known q) Kept q.fn.slot q.state.top.slot i moved) (leads notes (known q) Kept q.fn.slot q.state.top.slot i moved) goes_is
 
-      -- the way that the test goes isn't one that it never goes
-      may_jump : jumps width cond (flat_register q.fn dst) (flat_operand q.fn src) ≡ true → may_lead (known q).facts q.fn.slot i ≡ led q.fn.slot i
-      may_jump on =
-          cond-false (surely_falls (known q).facts i) None (led q.fn.slot i)
-          (only_false (surely_falls (known q).facts i) (λ e. false≢true (sym (never_jumps order (near_own given) packet (known q) q.fn q.gn q.new_at.near_at cond width dst src off e) ∙ on)))
+      -- the way that both go isn't dead
+      alive : (b : Bool) → jumps width cond (flat_register q.fn dst) (flat_operand q.fn src) ≡ b → jumps width other (flat_register q.gn dst) (flat_operand q.gn src) ≡ b
+          → is_dead (known q) i moved b ≡ false
+      alive b on dn = test_alive order (near_own given deep) (near_packet given deep) (known q) q.fn q.gn q.new_at.near_at cond other width dst src off new_off b on dn
 
-      goes_behind : jumps width cond (flat_register q.fn dst) (flat_operand q.fn src) ≡ false
+      goes_behind : is_dead (known q) i moved false ≡ false
           → arrives notes (known q) Kept (Some q.fn.slot) (q.fn.slot + 1) most_extras (q.state.top.slot + 1) ≡ true
-      goes_behind on =
-          let never : surely_jumps (known q).facts i ≡ false = only_false (surely_jumps (known q).facts i) (λ e. false≢true (sym on ∙ always_jumps order (near_own given) packet (known q) q.fn q.gn q.new_at.near_at cond width dst src off e)) in
-          sym (cond-true (may_fall (known q).facts i) (arrives notes (known q) Kept (Some q.fn.slot) (q.fn.slot + 1) most_extras (q.state.top.slot + 1)) true (ap not never)) ∙ parts.0
+      goes_behind e =
+          sym (cond-true (may_fall (known q) i moved) (arrives notes (known q) Kept (Some q.fn.slot) (q.fn.slot + 1) most_extras (q.state.top.slot + 1)) true (ap not e)) ∙ parts.0
 
       by_way : (b : Bool) → jumps width cond (flat_register q.fn dst) (flat_operand q.fn src) ≡ b → jumps width cond (flat_register q.fw dst) (flat_operand q.fw src) ≡ b
-          → jumps width other (flat_register q.gn dst) (flat_operand q.gn src) ≡ b → jumps width other (flat_register q.gw dst) (flat_operand q.gw src) ≡ b → Ready given (suc j)
+          → jumps width other (flat_register q.gn dst) (flat_operand q.gn src) ≡ b → jumps width other (flat_register q.gw dst) (flat_operand q.gw src) ≡ b → Ready given deep (suc j)
       by_way true on ow dn dw =
           let o = q.old_at in
           let g = goes_on (near bounds.padded) old old_valid own bounds v k near_ends j q.fn i o.near_run o.near_before at.here turns in
           let jumped = test_jumps_back order cond width dst src off q.fn g.0 on (test_back (near bounds.padded) order i cond width dst src off q.fn g.0 refl (near_does given q.fn g.0 i at.here g.1)) in
           let to = option_map_some (λ slot. flat_at slot q.fn) (target q.fn.slot off) g.0 jumped in
-          let lead = led_there (known q) i moved q.fn.slot q.state.top.slot to.0 to.1 (may_jump on) parts.1 in
+          let lead = led_there (known q) i moved q.fn.slot q.state.top.slot to.0 to.1 (alive true on dn) parts.1 in
           by_moves j i moved at lead.to lead.new_to turns
           (test_jumps order cond width dst src off q.fn lead.to on lead.to_is) (test_jumps order cond width dst src off q.fw lead.to ow (ap (λ z. target z off) o.slots_same ∙ lead.to_is))
           (test_jumps order other width dst src new_off q.gn lead.new_to dn (ap (λ z. target z new_off) q.new_at.near_fits.slot_is ∙ lead.new_is)) (test_jumps order other width dst src new_off q.gw lead.new_to dw (ap (λ z. target z new_off) q.new_at.wide_fits.slot_is ∙ lead.new_is))
@@ -235,57 +232,17 @@ module _ (given : Setting) where
           by_moves j i moved at (q.fn.slot + 1) (q.state.top.slot + 1) turns
           (test_falls order cond width dst src off q.fn on) (test_falls order cond width dst src off q.fw ow ∙ ap (λ z. Some (flat_at (z + 1) q.fw)) q.old_at.slots_same)
           (test_falls order other width dst src new_off q.gn dn ∙ ap (λ z. Some (flat_at (z + 1) q.gn)) q.new_at.near_fits.slot_is) (test_falls order other width dst src new_off q.gw dw ∙ ap (λ z. Some (flat_at (z + 1) q.gw)) q.new_at.wide_fits.slot_is)
-          (goes_behind on)
-
-  -- ---- the end
-
-  abbrev pub Ended : Type 0
-  Ended = EndsAt new context v (StandsForExit old notes) (most_for_one * suc (suc k))
-
-  by_exits : (j : ℕ) (at : At j Exit Exit) → is_same (facts_at at.ready.note) R0 ≡ true → Ended
-  by_exits j at same =
-      let q = at.ready in
-      let o = q.old_at in
-      let done = ends_here (near bounds.padded) old old_valid own bounds v k near_ends j q.fn o.near_run o.near_before at.here o.near_outer in
-      let end = ends_on order js new_valid context bytes short never q.n q.state q.new_at.run at.there q.new_at.alone in
-      let equal : flat_register q.gn R0 ≡ flat_register q.fn R0 = register_same order (near_own given) packet (known q) q.fn q.gn R0 q.new_at.near_at same in
-      let value : end.0 ≡ v = sym (number_stands q.new_at.near_fits R0 end.0 end.2) ∙ equal ∙ done.1 in
-      record {
-        steps = q.n;
-        state = q.state;
-        run = q.new_at.run;
-        finish = subst (λ v. Finish new q.state v) value end.1;
-        at_exit = record { note = q.note; noted = q.noted; body = at.body; exit = ap (insn_at is) (sym q.old_is) ∙ at.here };
-        few = in_time j k q.n (few_at j Exit Exit at) done.0;
-      }
-
-  has_insn : (j : ℕ) (fn fw : FlatState) → OldAt given j fn fw → (i : Insn) × (insn_at is fn.slot ≡ Some i)
-  unfolding zero_step
-  has_insn j fn fw o = by_insn (insn_at is fn.slot) refl
-    where
-      by_insn : (c : Option Insn) → insn_at is fn.slot ≡ c → (i : Insn) × (insn_at is fn.slot ≡ Some i)
-      by_insn (Some i) e = (i, e)
-      by_insn None e = by_order (cases_order j k)
-        where
-          by_order : (j ≡ k) ⊎ ((j < k) ⊎ (k < j)) → (i : Insn) × (insn_at is fn.slot ≡ Some i)
-          by_order (inl same) =
-              let last : fn ≡ near_ends.last = same_Some fn near_ends.last (sym o.near_run ∙ subst (λ n. zero_after (near bounds.padded) old n (zero_start (near bounds.padded) own) ≡ Some near_ends.last) (sym same) near_ends.run) in
-              (Exit, ap (λ f. insn_at is f.slot) last ∙ near_ends.finish.stands)
-          by_order (inr (inl less)) =
-              let g = earlier (near bounds.padded) old (zero_start (near bounds.padded) own) k (suc j) near_ends.last near_ends.run less in
-              let step : zero_step (near bounds.padded) old fn ≡ Some g.0 = onward (near bounds.padded) old (zero_start (near bounds.padded) own) fn g.0 j o.near_run g.1 in
-              absurd (none-some g.0 (ap (option_and_then (λ i. zero_does (near bounds.padded) order i fn)) (sym e) ∙ step))
-          by_order (inr (inr more)) = let before = o.near_before in absurd (omega arith)
+          (goes_behind (alive false on dn))
 
   -- what neither changes
   by_kept : (j : ℕ) (i moved : Insn) (at : At j i moved) (same : Bool) → IsTrue same ↔ (undirected moved ≡ undirected i) → keeps (facts_at at.ready.note) same i moved ≡ true
-      → goes notes (known at.ready) at.ready.fn.slot at.ready.state.top.slot i moved Kept ≡ true → Ready given (suc j) ⊎ Ended
+      → goes notes (known at.ready) at.ready.fn.slot at.ready.state.top.slot i moved Kept ≡ true → Ready given deep (suc j)
   unfolding keeps
   by_kept j i moved at same same_is kept goes_is = elim (or_cases (is_jump i && is_jump moved) ((same && is_kept facts i) || by_order facts i moved) kept) [
-    | inl jumped ↦ (let h = and_parts (is_jump i) (is_jump moved) jumped in inl (by_jumps j i moved at h.0 h.1 parts.1))
+    | inl jumped ↦ (let h = and_parts (is_jump i) (is_jump moved) jumped in by_jumps j i moved at h.0 h.1 parts.1)
     | inr rest ↦ elim (or_cases (same && is_kept facts i) (by_order facts i moved) rest) [
       | inl again ↦ (let h = and_parts same (is_kept facts i) again in by_same i moved at (same_is.0 h.0) h.1 goes_is)
-      | inr ordered ↦ inl (by_ordered i moved at ordered goes_is)
+      | inr ordered ↦ by_ordered i moved at ordered goes_is
     ]
   ]
     where
@@ -295,27 +252,27 @@ module _ (given : Setting) where
       parts : (falls notes (known at.ready) Kept at.ready.fn.slot at.ready.state.top.slot i moved ≡ true) × (leads notes (known at.ready) Kept at.ready.fn.slot at.ready.state.top.slot i moved ≡ true)
       parts = and_parts (falls notes (known at.ready) Kept at.ready.fn.slot at.ready.state.top.slot i moved) (leads notes (known at.ready) Kept at.ready.fn.slot at.ready.state.top.slot i moved) goes_is
 
-      by_same : (i moved : Insn) (at : At j i moved) → undirected moved ≡ undirected i → is_kept (facts_at at.ready.note) i ≡ true → goes notes (known at.ready) at.ready.fn.slot at.ready.state.top.slot i moved Kept ≡ true → Ready given (suc j) ⊎ Ended
+      by_same : (i moved : Insn) (at : At j i moved) → undirected moved ≡ undirected i → is_kept (facts_at at.ready.note) i ≡ true → goes notes (known at.ready) at.ready.fn.slot at.ready.state.top.slot i moved Kept ≡ true → Ready given deep (suc j)
       by_same (JumpIf cond width dst src off) moved at e h goes_is =
           let t = same_tests moved cond width dst src e in
-          inl (subst (λ m. (at : At j (JumpIf cond width dst src off) m) → is_kept (facts_at at.ready.note) (JumpIf cond width dst src off) ≡ true → goes notes (known at.ready) at.ready.fn.slot at.ready.state.top.slot (JumpIf cond width dst src off) m Kept ≡ true → Ready given (suc j)) (sym t.1)
-          (λ at h goes_is. by_tests j cond cond width dst src off t.0 at (λ start f g one. same_test order start packet (known at.ready) f g one cond width dst src off h) goes_is) at h goes_is)
-      by_same Exit moved at e h goes_is = inr (subst (λ m. (at : At j Exit m) → is_same (facts_at at.ready.note) R0 ≡ true → Ended) (sym (same_exit moved e)) (λ at h. by_exits j at h) at h)
+          subst (λ m. (at : At j (JumpIf cond width dst src off) m) → is_kept (facts_at at.ready.note) (JumpIf cond width dst src off) ≡ true → goes notes (known at.ready) at.ready.fn.slot at.ready.state.top.slot (JumpIf cond width dst src off) m Kept ≡ true → Ready given deep (suc j)) (sym t.1)
+          (λ at h goes_is. by_tests j cond cond width dst src off t.0 at (λ start packet f g one. same_test order start packet (known at.ready) f g one cond width dst src off h) goes_is) at h goes_is
       by_same i moved at e h goes_is = absurd (false≢true h)
 
-      by_ordered : (i moved : Insn) (at : At j i moved) → by_order (facts_at at.ready.note) i moved ≡ true → goes notes (known at.ready) at.ready.fn.slot at.ready.state.top.slot i moved Kept ≡ true → Ready given (suc j)
+      by_ordered : (i moved : Insn) (at : At j i moved) → by_order (facts_at at.ready.note) i moved ≡ true → goes notes (known at.ready) at.ready.fn.slot at.ready.state.top.slot i moved Kept ≡ true → Ready given deep (suc j)
       by_ordered (JumpIf cond W64 dst (FromReg src) off) (JumpIf other W64 left (FromReg right) new_off) at h goes_is =
           let a = and_parts (turned_test cond other) (same_register dst left && (same_register src right && are are_offsets (facts_at at.ready.note) dst src)) h in
           let b = and_parts (same_register dst left) (same_register src right && are are_offsets (facts_at at.ready.note) dst src) a.1 in
           let c = and_parts (same_register src right) (are are_offsets (facts_at at.ready.note) dst src) b.1 in
-          subst (λ r. (at : At j (JumpIf cond W64 dst (FromReg src) off) (JumpIf other W64 r (FromReg right) new_off)) → are are_offsets (facts_at at.ready.note) dst src ≡ true → goes notes (known at.ready) at.ready.fn.slot at.ready.state.top.slot (JumpIf cond W64 dst (FromReg src) off) (JumpIf other W64 r (FromReg right) new_off) Kept ≡ true → Ready given (suc j)) (sym (register_is dst left b.0))
-          (subst (λ r. (at : At j (JumpIf cond W64 dst (FromReg src) off) (JumpIf other W64 dst (FromReg r) new_off)) → are are_offsets (facts_at at.ready.note) dst src ≡ true → goes notes (known at.ready) at.ready.fn.slot at.ready.state.top.slot (JumpIf cond W64 dst (FromReg src) off) (JumpIf other W64 dst (FromReg r) new_off) Kept ≡ true → Ready given (suc j)) (sym (register_is src right c.0))
-          (λ at h goes_is. by_tests j cond other W64 dst (FromReg src) off new_off at (λ start f g one. order_test order start packet (known at.ready) f g one cond other dst src a.0 h) goes_is)) at c.1 goes_is
+          subst (λ r. (at : At j (JumpIf cond W64 dst (FromReg src) off) (JumpIf other W64 r (FromReg right) new_off)) → are are_offsets (facts_at at.ready.note) dst src ≡ true → goes notes (known at.ready) at.ready.fn.slot at.ready.state.top.slot (JumpIf cond W64 dst (FromReg src) off) (JumpIf other W64 r (FromReg right) new_off) Kept ≡ true → Ready given deep (suc j)) (sym (register_is dst left b.0))
+          (subst (λ r. (at : At j (JumpIf cond W64 dst (FromReg src) off) (JumpIf other W64 dst (FromReg r) new_off)) → are are_offsets (facts_at at.ready.note) dst src ≡ true → goes notes (known at.ready) at.ready.fn.slot at.ready.state.top.slot (JumpIf cond W64 dst (FromReg src) off) (JumpIf other W64 dst (FromReg r) new_off) Kept ≡ true → Ready given deep (suc j)) (sym (register_is src right c.0))
+          (λ at h goes_is. by_tests j cond other W64 dst (FromReg src) off new_off at (λ start packet f g one. order_test order start packet (known at.ready) f g one cond other dst src a.0 h) goes_is)) at c.1 goes_is
       by_ordered i moved at h goes_is = absurd (false≢true h)
 
   -- what both put into a register
   by_put : (j : ℕ) (i moved : Insn) (at : At j i moved) (same : Bool) (change : Change) → IsTrue same ↔ (undirected moved ≡ undirected i) → puts (known at.ready) same i moved ≡ Some change
-      → goes notes (known at.ready) at.ready.fn.slot at.ready.state.top.slot i moved change ≡ true → Ready given (suc j)
+      → goes notes (known at.ready) at.ready.fn.slot at.ready.state.top.slot i moved change ≡ true → Ready given deep (suc j)
+  unfolding is_dead
   by_put j i moved at same change same_is e goes_is = option_and_then_some _ (put_into i) change e (λ r er e1.
       let pin : Option Term = pin_of (facts_at q.note) i in
       let c = none_first (is_frame_pointer r) (option_map (put (Register r) pin) (put_by (known q) same i moved)) change e1 in
@@ -326,11 +283,11 @@ module _ (given : Setting) where
       let enc' : HasEncoding moved = encoding_at js new_valid.encoding q.state.top.slot moved at.there in
       let other = put_moved same i moved r x.0 same_is er x.1 in
       let here' : insn_at is q.fw.slot ≡ Some i = ap (insn_at is) q.old_at.slots_same ∙ at.here in
-      let pn = put_both order (near_own given) packet (known q) same i moved r x.0 q.fn q.gn same_is er enc enc' q.new_at.near_at (near_leaves given (known q) j q.n q.state q.fn q.fw q.gn q.gw i moved q.old_at q.new_at at.here at.there other) x.1 in
-      let pw = put_both order (wide_own given) packet (known q) same i moved r x.0 q.fw q.gw same_is er enc enc' q.new_at.wide_at (wide_leaves given (known q) j q.n q.state q.fn q.fw q.gn q.gw i moved q.old_at q.new_at here' at.there other) x.1 in
-      by_pairs j i moved at (put (Register r) pin x.0) (both_put order (near_own given) packet (known q) i moved r x.0 q.fn q.gn q.new_at.near_at enc enc' er c.0 pn) (both_put order (wide_own given) packet (known q) i moved r x.0 q.fw q.gw q.new_at.wide_at enc enc' er c.0 pw) (put_falls i r er (put (Register r) pin x.0) p.0))
+      let pn = put_both order (near_own given deep) (near_packet given deep) (known q) same i moved r x.0 q.fn q.gn same_is er enc enc' q.new_at.near_at (near_leaves given deep (known q) j q.n q.state q.fn q.fw q.gn q.gw i moved refl q.old_at q.new_at at.here at.there other) x.1 in
+      let pw = put_both order (wide_own given deep) (wide_packet given deep) (known q) same i moved r x.0 q.fw q.gw same_is er enc enc' q.new_at.wide_at (wide_leaves given deep (known q) j q.n q.state q.fn q.fw q.gn q.gw i moved refl q.old_at q.new_at here' at.there other) x.1 in
+      by_pairs j i moved at (put (Register r) pin x.0) (both_put order (near_own given deep) (near_packet given deep) (known q) i moved r x.0 q.fn q.gn q.new_at.near_at enc enc' er c.0 pn) (both_put order (wide_own given deep) (wide_packet given deep) (known q) i moved r x.0 q.fw q.gw q.new_at.wide_at enc enc' er c.0 pw) (put_falls i r er (put (Register r) pin x.0) p.0))
     where
-      q : Ready given j
+      q : Ready given deep j
       q = at.ready
 
       loads_moved : (i moved : Insn) → loads_alike (known q) i moved ≡ true → moved ≡ Exit → ⊥
@@ -351,30 +308,34 @@ module _ (given : Setting) where
       -- the new instruction puts something, too
       put_moved : (same : Bool) (i moved : Insn) (r : Reg) (by : Option Term) → IsTrue same ↔ (undirected moved ≡ undirected i) → put_into i ≡ Some r → put_by (known q) same i moved ≡ Some by → moved ≡ Exit → ⊥
       put_moved true i moved r by same_is er h e = put_turns i r er (sym (plain_is i r er) ∙ sym (same_is.0 refl) ∙ ap undirected e)
-      put_moved false i moved r by same_is er h e = by_load (loads_alike (known q) i moved) refl h
+      put_moved false i moved r by same_is er h e = by_load (loads_alike (known q) i moved || is_widened (known q) i moved) refl h
         where
           by_frame : (c : Bool) → is_framed i moved ≡ c → cond c (Some (Some frame_offset)) None ≡ Some by → ⊥
           by_frame true ec h = framed_moved i moved ec e
           by_frame false ec h = none-some _ h
 
-          by_load : (c : Bool) → loads_alike (known q) i moved ≡ c → cond c (Some (Some zero_term)) (cond (is_framed i moved) (Some (Some frame_offset)) None) ≡ Some by → ⊥
-          by_load true ec h = loads_moved i moved ec e
+          by_load : (c : Bool) → (loads_alike (known q) i moved || is_widened (known q) i moved) ≡ c → cond c (Some (Some zero_term)) (cond (is_framed i moved) (Some (Some frame_offset)) None) ≡ Some by → ⊥
+          by_load true ec h = elim (or_cases (loads_alike (known q) i moved) (is_widened (known q) i moved) ec) [
+            | inl loads ↦ loads_moved i moved loads e
+            | inr wide ↦ widened_moved (known q) i moved wide e
+          ]
           by_load false ec h = by_frame (is_framed i moved) refl h
 
       put_falls : (i : Insn) (r : Reg) → put_into i ≡ Some r → (change : Change) → falls notes (known q) change q.fn.slot q.state.top.slot i moved ≡ true → arrives notes (known q) change (Some q.fn.slot) (q.fn.slot + slot_count i) most_extras (q.state.top.slot + slot_count moved) ≡ true
+      put_falls (JumpIf cond width dst src off) r e change h = absurd (none-some _ e)
       put_falls (Ja off) r e change h = absurd (none-some _ e)
-      put_falls (JumpIf c width dst src off) r e change h = absurd (none-some _ e)
       put_falls (JaLong off) r e change h = absurd (none-some _ e)
       put_falls Exit r e change h = absurd (none-some _ e)
       put_falls i r e change h = h
 
   -- what both store
   by_store : (j : ℕ) (i moved : Insn) (at : At j i moved) (same : Bool) (change : Change) → IsTrue same ↔ (undirected moved ≡ undirected i) → stores (known at.ready) same i moved ≡ Some change
-      → goes notes (known at.ready) at.ready.fn.slot at.ready.state.top.slot i moved change ≡ true → Ready given (suc j)
+      → goes notes (known at.ready) at.ready.fn.slot at.ready.state.top.slot i moved change ≡ true → Ready given deep (suc j)
+  unfolding is_dead
   by_store j i moved at same change same_is e goes_is =
       by_pairs j i moved at change (near_pair same same_is e) (wide_pair same same_is e) (store_falls i (is_stored same i moved e) p.0)
     where
-      q : Ready given j
+      q : Ready given deep j
       q = at.ready
 
       p : (falls notes (known q) change q.fn.slot q.state.top.slot i moved ≡ true) × (leads notes (known q) change q.fn.slot q.state.top.slot i moved ≡ true)
@@ -408,83 +369,54 @@ module _ (given : Setting) where
           no_store (StoreImm size dst off imm) h = false≢true h
           no_store i h = false≢true h
 
-      near_alike : cond (stores_alike (facts_at q.note) i moved) (reached (known q).left i moved) None ≡ Some change → Paired order (near_own given) packet (known q) change i moved q.fn q.gn
+      near_alike : cond (stores_alike (facts_at q.note) i moved) (reached (known q).left i moved) None ≡ Some change → Paired order (near_own given deep) (near_packet given deep) (known q) change i moved q.fn q.gn
       near_alike h =
           let c = alike (reached (known q).left i moved) h in
-          stores_there order (near_own given) packet (known q) change i moved q.fn q.gn q.new_at.near_at enc enc' (near_leaves given (known q) j q.n q.state q.fn q.fw q.gn q.gw i moved q.old_at q.new_at at.here at.there (moved_store c.0)) c.0 c.1
+          stores_there order (near_own given deep) (near_packet given deep) (known q) change i moved q.fn q.gn q.new_at.near_at enc enc' (near_leaves given deep (known q) j q.n q.state q.fn q.fw q.gn q.gw i moved refl q.old_at q.new_at at.here at.there (moved_store c.0)) c.0 c.1
 
-      wide_alike : cond (stores_alike (facts_at q.note) i moved) (reached (known q).left i moved) None ≡ Some change → Paired order (wide_own given) packet (known q) change i moved q.fw q.gw
+      wide_alike : cond (stores_alike (facts_at q.note) i moved) (reached (known q).left i moved) None ≡ Some change → Paired order (wide_own given deep) (wide_packet given deep) (known q) change i moved q.fw q.gw
       wide_alike h =
           let c = alike (reached (known q).left i moved) h in
-          stores_there order (wide_own given) packet (known q) change i moved q.fw q.gw q.new_at.wide_at enc enc' (wide_leaves given (known q) j q.n q.state q.fn q.fw q.gn q.gw i moved q.old_at q.new_at (ap (insn_at is) q.old_at.slots_same ∙ at.here) at.there (moved_store c.0)) c.0 c.1
+          stores_there order (wide_own given deep) (wide_packet given deep) (known q) change i moved q.fw q.gw q.new_at.wide_at enc enc' (wide_leaves given deep (known q) j q.n q.state q.fn q.fw q.gn q.gw i moved refl q.old_at q.new_at (ap (insn_at is) q.old_at.slots_same ∙ at.here) at.there (moved_store c.0)) c.0 c.1
 
-      near_pair : (same : Bool) → IsTrue same ↔ (undirected moved ≡ undirected i) → stores (known q) same i moved ≡ Some change → Paired order (near_own given) packet (known q) change i moved q.fn q.gn
+      near_pair : (same : Bool) → IsTrue same ↔ (undirected moved ≡ undirected i) → stores (known q) same i moved ≡ Some change → Paired order (near_own given deep) (near_packet given deep) (known q) change i moved q.fn q.gn
       near_pair false same_is h = near_alike h
       near_pair true same_is h = by_slot (puts_slot (facts_at q.note) i) refl h
         where
-          by_slot : (o : Option Change) → puts_slot (facts_at q.note) i ≡ o → option_or o (cond (stores_alike (facts_at q.note) i moved) (reached (known q).left i moved) None) ≡ Some change → Paired order (near_own given) packet (known q) change i moved q.fn q.gn
+          by_slot : (o : Option Change) → puts_slot (facts_at q.note) i ≡ o → option_or o (cond (stores_alike (facts_at q.note) i moved) (reached (known q).left i moved) None) ≡ Some change → Paired order (near_own given deep) (near_packet given deep) (known q) change i moved q.fn q.gn
           by_slot None eo h = near_alike h
-          by_slot (Some c) eo h = subst (λ m. Paired order (near_own given) packet (known q) change i m q.fn q.gn) (sym (store_again i moved (is_stored true i moved e') (same_is.0 refl))) (slots_put order (near_own given) packet (known q) change i q.fn q.gn q.new_at.near_at enc (eo ∙ h))
+          by_slot (Some c) eo h = subst (λ m. Paired order (near_own given deep) (near_packet given deep) (known q) change i m q.fn q.gn) (sym (store_again i moved (is_stored true i moved e') (same_is.0 refl))) (slots_put order (near_own given deep) (near_packet given deep) (known q) change i q.fn q.gn q.new_at.near_at enc (eo ∙ h))
             where
               e' : stores (known q) true i moved ≡ Some change
               e' = ap (λ o. option_or o (cond (stores_alike (facts_at q.note) i moved) (reached (known q).left i moved) None)) eo ∙ h
 
-      wide_pair : (same : Bool) → IsTrue same ↔ (undirected moved ≡ undirected i) → stores (known q) same i moved ≡ Some change → Paired order (wide_own given) packet (known q) change i moved q.fw q.gw
+      wide_pair : (same : Bool) → IsTrue same ↔ (undirected moved ≡ undirected i) → stores (known q) same i moved ≡ Some change → Paired order (wide_own given deep) (wide_packet given deep) (known q) change i moved q.fw q.gw
       wide_pair false same_is h = wide_alike h
       wide_pair true same_is h = by_slot (puts_slot (facts_at q.note) i) refl h
         where
-          by_slot : (o : Option Change) → puts_slot (facts_at q.note) i ≡ o → option_or o (cond (stores_alike (facts_at q.note) i moved) (reached (known q).left i moved) None) ≡ Some change → Paired order (wide_own given) packet (known q) change i moved q.fw q.gw
+          by_slot : (o : Option Change) → puts_slot (facts_at q.note) i ≡ o → option_or o (cond (stores_alike (facts_at q.note) i moved) (reached (known q).left i moved) None) ≡ Some change → Paired order (wide_own given deep) (wide_packet given deep) (known q) change i moved q.fw q.gw
           by_slot None eo h = wide_alike h
-          by_slot (Some c) eo h = subst (λ m. Paired order (wide_own given) packet (known q) change i m q.fw q.gw) (sym (store_again i moved (is_stored true i moved e') (same_is.0 refl))) (slots_put order (wide_own given) packet (known q) change i q.fw q.gw q.new_at.wide_at enc (eo ∙ h))
+          by_slot (Some c) eo h = subst (λ m. Paired order (wide_own given deep) (wide_packet given deep) (known q) change i m q.fw q.gw) (sym (store_again i moved (is_stored true i moved e') (same_is.0 refl))) (slots_put order (wide_own given deep) (wide_packet given deep) (known q) change i q.fw q.gw q.new_at.wide_at enc (eo ∙ h))
             where
               e' : stores (known q) true i moved ≡ Some change
               e' = ap (λ o. option_or o (cond (stores_alike (facts_at q.note) i moved) (reached (known q).left i moved) None)) eo ∙ h
 
-  -- from in front of an old instruction to in front of the next one, or to the end
-  by_body : (j : ℕ) (q : Ready given j) → q.note.extras ≡ 0 → IsBody old new notes bounds q.state.top.slot q.note → Ready given (suc j) ⊎ Ended
-  unfolding stands paired
-  by_body j q body b = by_change (paired (known q) b.same b.insn b.moved) refl b.good
+  -- an instruction that neither calls nor ends a function
+  pub by_pair : (j : ℕ) (i moved : Insn) (at : At j i moved) (same : Bool) → IsTrue same ↔ (undirected moved ≡ undirected i) → option_map_or (goes notes (known at.ready) at.ready.fn.slot at.ready.state.top.slot i moved) (paired (known at.ready) same i moved) false ≡ true → Ready given deep (suc j)
+  unfolding paired
+  by_pair j i moved at same same_is good = by_change (paired (known q) same i moved) refl good
     where
-      at : At j b.insn b.moved
-      at = record { ready = q; body = body; here = ap (insn_at is) q.old_is ∙ b.insn_is; there = b.moved_is }
+      q : Ready given deep j
+      q = at.ready
 
-      by_first : (change : Change) (o : Option Change) → stores (known q) b.same b.insn b.moved ≡ o → option_or o (puts (known q) b.same b.insn b.moved) ≡ Some change → goes notes (known q) q.fn.slot q.state.top.slot b.insn b.moved change ≡ true → Ready given (suc j)
-      by_first change None eo e g = by_put j b.insn b.moved at b.same change b.same_is e g
-      by_first change (Some c) eo e g = by_store j b.insn b.moved at b.same change b.same_is (eo ∙ e) g
+      by_first : (change : Change) (o : Option Change) → stores (known q) same i moved ≡ o → option_or o (puts (known q) same i moved) ≡ Some change → goes notes (known q) q.fn.slot q.state.top.slot i moved change ≡ true → Ready given deep (suc j)
+      by_first change None eo e g = by_put j i moved at same change same_is e g
+      by_first change (Some c) eo e g = by_store j i moved at same change same_is (eo ∙ e) g
 
-      by_test : (change : Change) (c : Bool) → keeps (facts_at q.note) b.same b.insn b.moved ≡ c → cond c (Some Kept) (option_or (stores (known q) b.same b.insn b.moved) (puts (known q) b.same b.insn b.moved)) ≡ Some change → goes notes (known q) q.fn.slot q.state.top.slot b.insn b.moved change ≡ true → Ready given (suc j) ⊎ Ended
-      by_test change true ec e g = by_kept j b.insn b.moved at b.same b.same_is ec (subst (λ change. goes notes (known q) q.fn.slot q.state.top.slot b.insn b.moved change ≡ true) (sym (same_Some Kept change e)) g)
-      by_test change false ec e g = inl (by_first change (stores (known q) b.same b.insn b.moved) refl e g)
+      by_test : (change : Change) (c : Bool) → keeps (facts_at q.note) same i moved ≡ c → cond c (Some Kept) (option_or (stores (known q) same i moved) (puts (known q) same i moved)) ≡ Some change → goes notes (known q) q.fn.slot q.state.top.slot i moved change ≡ true → Ready given deep (suc j)
+      by_test change true ec e g = by_kept j i moved at same same_is ec (subst (λ change. goes notes (known q) q.fn.slot q.state.top.slot i moved change ≡ true) (sym (same_Some Kept change e)) g)
+      by_test change false ec e g = by_first change (stores (known q) same i moved) refl e g
 
-      by_change : (o : Option Change) → paired (known q) b.same b.insn b.moved ≡ o → option_map_or (goes notes (known q) q.note.old q.state.top.slot b.insn b.moved) o false ≡ true → Ready given (suc j) ⊎ Ended
+      by_change : (o : Option Change) → paired (known q) same i moved ≡ o → option_map_or (goes notes (known q) q.fn.slot q.state.top.slot i moved) o false ≡ true → Ready given deep (suc j)
       by_change None eo h = absurd (false≢true h)
-      by_change (Some change) eo h = by_test change (keeps (facts_at q.note) b.same b.insn b.moved) refl eo (subst (λ slot. goes notes (known q) slot q.state.top.slot b.insn b.moved change ≡ true) (sym q.old_is) h)
-
-  -- the old instruction's, or one extra instruction less
-  body_or_extra : (j : ℕ) (q : Ready given j) → (Ready given (suc j) ⊎ Ended) ⊎ ((n : Ready given j) × (suc n.note.extras ≤ q.note.extras))
-  body_or_extra j q = by_extras q.note.extras refl (matches.each q.state.top.slot q.note q.noted)
-    where
-      by_extras : (e : ℕ) → q.note.extras ≡ e → IsEither old new notes bounds q.state.top.slot q.note e → (Ready given (suc j) ⊎ Ended) ⊎ ((n : Ready given j) × (suc n.note.extras ≤ q.note.extras))
-      by_extras zero e x = inl (by_body j q e x)
-      by_extras (suc left) e x = let n = extra_step given j left q e x in let few = n.1 in inr (n.0, omega arith)
-
-  -- first the extra instructions
-  follow : (fuel j : ℕ) (q : Ready given j) → q.note.extras ≤ fuel → Ready given (suc j) ⊎ Ended
-  follow zero j q le = elim (body_or_extra j q) [
-    | inl done ↦ done
-    | inr n ↦ (let less = n.1 in absurd (omega arith))
-  ]
-  follow (suc fuel) j q le = elim (body_or_extra j q) [
-    | inl done ↦ done
-    | inr n ↦ follow fuel j n.0 (let less = n.1 in omega arith)
-  ]
-
-  pub ends : (left j : ℕ) → j + left ≡ k → Ready given j → Ended
-  ends zero j e r = elim (follow r.note.extras j r (omega arith)) [
-    | inl next ↦ (let before = next.old_at.near_before in absurd (omega arith))
-    | inr done ↦ done
-  ]
-  ends (suc left) j e r = elim (follow r.note.extras j r (omega arith)) [
-    | inl next ↦ ends left (suc j) (omega arith) next
-    | inr done ↦ done
-  ]
+      by_change (Some change) eo h = by_test change (keeps (facts_at q.note) same i moved) refl eo h

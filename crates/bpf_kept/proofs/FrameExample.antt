@@ -1,5 +1,5 @@
 -- The same of a program that stores into its frame at an index that it has read.
-use Rattle.std.proofs.Common.{ℕ, zero, suc, refl, sym, ap, subst, arith, true, false, [], ◌∷◌, Some}
+use Rattle.std.proofs.Common.{ℕ, zero, suc, refl, sym, ap, subst, arith, true, false, [], ◌∷◌, Some, None}
 use Rattle.std.specs.Prelude.{pos, negsuc}
 use Rattle.std.proofs.lemmas.Bool.{false≢true}
 use Rattle.std.proofs.lemmas.Option.{none-some, same_Some}
@@ -13,7 +13,10 @@ use Rattle.bpf_insn.specs.declared.instruction.AluOp.TheVariants.{Add, Mov}
 use Rattle.bpf_insn.specs.declared.instruction.Cond.TheVariants.{Gt}
 use Rattle.bpf_insn.specs.declared.instruction.Insn.TheVariants.{Alu, Load, StoreImm, JumpIf, Exit}
 use Rattle.bpf_kept.specs.declared.notes.Note.{Note}
-use Rattle.bpf_kept.specs.Rules.{own_in, pinned, numbered, reads_same, result_term, same_address, is_common, keeps, paired, made, holds_behind, are_told}
+use Rattle.bpf_kept.specs.Rules.{own_in, pinned, numbered, reads_same, result_term, same_address, is_common, is_widened, keeps, paired}
+use Rattle.bpf_kept.specs.Behind.{made, holds_behind, are_told}
+use Rattle.bpf_kept.specs.Ways.{is_dead}
+use Rattle.bpf_kept.specs.States.{no_states}
 use Rattle.bpf_kept.specs.Counters.{all_count_behind, has_turn}
 use Rattle.bpf_kept.specs.Guards.{accesses_ahead, is_ahead, guards_sum, passes}
 use Rattle.bpf_kept.specs.Matching.{Notes, facts_at, left_alone, known_at_start, arrives, starts, stands, extra, adds, IsBody, IsExtra, IsEither, HoldsAt, Matches}
@@ -65,64 +68,64 @@ notes = Some note_0 ∷ Some note_1 ∷ Some note_2 ∷ Some note_3 ∷ Some not
 
 -- ---- what is noted of each slot holds
 
-body_0 : IsBody old new notes bounds 0 note_0
-unfolding own_in pinned numbered reads_same result_term same_address is_common keeps paired made holds_behind are_told all_count_behind has_turn accesses_ahead is_ahead guards_sum passes facts_at left_alone known_at_start arrives stands extra adds
+body_0 : IsBody old new notes bounds None 0 note_0
+unfolding own_in pinned numbered reads_same result_term same_address is_common keeps paired made holds_behind are_told all_count_behind has_turn accesses_ahead is_ahead guards_sum passes facts_at left_alone known_at_start arrives stands extra adds is_dead is_widened
 body_0 = record { insn = Alu Mov W64 R3 (FromReg R10); insn_is = refl; moved = Alu Mov W64 R3 (Imm (pos 512)); moved_is = refl; same = false; same_is = (λ h. absurd (false≢true h), λ e. absurd (false≢true (sym (ap puts_constant e)))); good = refl }
 
-body_1 : IsBody old new notes bounds 1 note_1
-unfolding own_in pinned numbered reads_same result_term same_address is_common keeps paired made holds_behind are_told all_count_behind has_turn accesses_ahead is_ahead guards_sum passes facts_at left_alone known_at_start arrives stands extra adds
+body_1 : IsBody old new notes bounds None 1 note_1
+unfolding own_in pinned numbered reads_same result_term same_address is_common keeps paired made holds_behind are_told all_count_behind has_turn accesses_ahead is_ahead guards_sum passes facts_at left_alone known_at_start arrives stands extra adds is_dead is_widened
 body_1 = record { insn = Alu Add W64 R3 (Imm (negsuc 15)); insn_is = refl; moved = Alu Add W64 R3 (Imm (negsuc 15)); moved_is = refl; same = true; same_is = (λ h. refl, λ h. refl); good = refl }
 
-body_2 : IsBody old new notes bounds 2 note_2
-unfolding own_in pinned numbered reads_same result_term same_address is_common keeps paired made holds_behind are_told all_count_behind has_turn accesses_ahead is_ahead guards_sum passes facts_at left_alone known_at_start arrives stands extra adds
+body_2 : IsBody old new notes bounds None 2 note_2
+unfolding own_in pinned numbered reads_same result_term same_address is_common keeps paired made holds_behind are_told all_count_behind has_turn accesses_ahead is_ahead guards_sum passes facts_at left_alone known_at_start arrives stands extra adds is_dead is_widened
 body_2 = record { insn = Load B R4 R1 (pos 0); insn_is = refl; moved = Load B R4 R1 (pos 0); moved_is = refl; same = true; same_is = (λ h. refl, λ h. refl); good = refl }
 
-body_3 : IsBody old new notes bounds 3 note_3
-unfolding own_in pinned numbered reads_same result_term same_address is_common keeps paired made holds_behind are_told all_count_behind has_turn accesses_ahead is_ahead guards_sum passes facts_at left_alone known_at_start arrives stands extra adds
+body_3 : IsBody old new notes bounds None 3 note_3
+unfolding own_in pinned numbered reads_same result_term same_address is_common keeps paired made holds_behind are_told all_count_behind has_turn accesses_ahead is_ahead guards_sum passes facts_at left_alone known_at_start arrives stands extra adds is_dead is_widened
 body_3 = record { insn = Alu Add W64 R3 (FromReg R4); insn_is = refl; moved = Alu Add W64 R3 (FromReg R4); moved_is = refl; same = true; same_is = (λ h. refl, λ h. refl); good = refl }
 
-extra_4 : IsExtra old new notes bounds 4 note_4 3
-unfolding own_in pinned numbered reads_same result_term same_address is_common keeps paired made holds_behind are_told all_count_behind has_turn accesses_ahead is_ahead guards_sum passes facts_at left_alone known_at_start arrives stands extra adds
+extra_4 : IsExtra old new notes bounds None 4 note_4 3
+unfolding own_in pinned numbered reads_same result_term same_address is_common keeps paired made holds_behind are_told all_count_behind has_turn accesses_ahead is_ahead guards_sum passes facts_at left_alone known_at_start arrives stands extra adds is_dead is_widened
 extra_4 = record { moved = Alu Mov W64 R5 (FromReg R3); moved_is = refl; good = refl }
 
-extra_5 : IsExtra old new notes bounds 5 note_5 2
-unfolding own_in pinned numbered reads_same result_term same_address is_common keeps paired made holds_behind are_told all_count_behind has_turn accesses_ahead is_ahead guards_sum passes facts_at left_alone known_at_start arrives stands extra adds
+extra_5 : IsExtra old new notes bounds None 5 note_5 2
+unfolding own_in pinned numbered reads_same result_term same_address is_common keeps paired made holds_behind are_told all_count_behind has_turn accesses_ahead is_ahead guards_sum passes facts_at left_alone known_at_start arrives stands extra adds is_dead is_widened
 extra_5 = record { moved = JumpIf Gt W64 R5 (Imm (pos 511)) (pos 5); moved_is = refl; good = refl }
 
-extra_6 : IsExtra old new notes bounds 6 note_6 1
-unfolding own_in pinned numbered reads_same result_term same_address is_common keeps paired made holds_behind are_told all_count_behind has_turn accesses_ahead is_ahead guards_sum passes facts_at left_alone known_at_start arrives stands extra adds
+extra_6 : IsExtra old new notes bounds None 6 note_6 1
+unfolding own_in pinned numbered reads_same result_term same_address is_common keeps paired made holds_behind are_told all_count_behind has_turn accesses_ahead is_ahead guards_sum passes facts_at left_alone known_at_start arrives stands extra adds is_dead is_widened
 extra_6 = record { moved = Alu Add W64 R5 (FromReg R10); moved_is = refl; good = refl }
 
-extra_7 : IsExtra old new notes bounds 7 note_7 0
-unfolding own_in pinned numbered reads_same result_term same_address is_common keeps paired made holds_behind are_told all_count_behind has_turn accesses_ahead is_ahead guards_sum passes facts_at left_alone known_at_start arrives stands extra adds
+extra_7 : IsExtra old new notes bounds None 7 note_7 0
+unfolding own_in pinned numbered reads_same result_term same_address is_common keeps paired made holds_behind are_told all_count_behind has_turn accesses_ahead is_ahead guards_sum passes facts_at left_alone known_at_start arrives stands extra adds is_dead is_widened
 extra_7 = record { moved = Alu Add W64 R5 (Imm (negsuc 511)); moved_is = refl; good = refl }
 
-body_8 : IsBody old new notes bounds 8 note_8
-unfolding own_in pinned numbered reads_same result_term same_address is_common keeps paired made holds_behind are_told all_count_behind has_turn accesses_ahead is_ahead guards_sum passes facts_at left_alone known_at_start arrives stands extra adds
+body_8 : IsBody old new notes bounds None 8 note_8
+unfolding own_in pinned numbered reads_same result_term same_address is_common keeps paired made holds_behind are_told all_count_behind has_turn accesses_ahead is_ahead guards_sum passes facts_at left_alone known_at_start arrives stands extra adds is_dead is_widened
 body_8 = record { insn = StoreImm B R3 (pos 0) (pos 7); insn_is = refl; moved = StoreImm B R5 (pos 0) (pos 7); moved_is = refl; same = false; same_is = (λ h. absurd (false≢true h), λ e. absurd (false≢true (sym (ap goes_by_r5 e)))); good = refl }
 
-body_9 : IsBody old new notes bounds 9 note_9
-unfolding own_in pinned numbered reads_same result_term same_address is_common keeps paired made holds_behind are_told all_count_behind has_turn accesses_ahead is_ahead guards_sum passes facts_at left_alone known_at_start arrives stands extra adds
+body_9 : IsBody old new notes bounds None 9 note_9
+unfolding own_in pinned numbered reads_same result_term same_address is_common keeps paired made holds_behind are_told all_count_behind has_turn accesses_ahead is_ahead guards_sum passes facts_at left_alone known_at_start arrives stands extra adds is_dead is_widened
 body_9 = record { insn = Load B R0 R10 (negsuc 15); insn_is = refl; moved = Load B R0 R10 (negsuc 15); moved_is = refl; same = true; same_is = (λ h. refl, λ h. refl); good = refl }
 
-body_10 : IsBody old new notes bounds 10 note_10
-unfolding own_in pinned numbered reads_same result_term same_address is_common keeps paired made holds_behind are_told all_count_behind has_turn accesses_ahead is_ahead guards_sum passes facts_at left_alone known_at_start arrives stands extra adds
+body_10 : IsBody old new notes bounds None 10 note_10
+unfolding own_in pinned numbered reads_same result_term same_address is_common keeps paired made holds_behind are_told all_count_behind has_turn accesses_ahead is_ahead guards_sum passes facts_at left_alone known_at_start arrives stands extra adds is_dead is_widened
 body_10 = record { insn = Exit; insn_is = refl; moved = Exit; moved_is = refl; same = true; same_is = (λ h. refl, λ h. refl); good = refl }
 
-each : (slot : ℕ) → HoldsAt old new notes bounds slot
-each zero note e = subst (λ note. IsEither old new notes bounds 0 note note.extras) (same_Some note_0 note e) body_0
-each (suc zero) note e = subst (λ note. IsEither old new notes bounds 1 note note.extras) (same_Some note_1 note e) body_1
-each (suc (suc zero)) note e = subst (λ note. IsEither old new notes bounds 2 note note.extras) (same_Some note_2 note e) body_2
-each (suc (suc (suc zero))) note e = subst (λ note. IsEither old new notes bounds 3 note note.extras) (same_Some note_3 note e) body_3
-each (suc (suc (suc (suc zero)))) note e = subst (λ note. IsEither old new notes bounds 4 note note.extras) (same_Some note_4 note e) extra_4
-each (suc (suc (suc (suc (suc zero))))) note e = subst (λ note. IsEither old new notes bounds 5 note note.extras) (same_Some note_5 note e) extra_5
-each (suc (suc (suc (suc (suc (suc zero)))))) note e = subst (λ note. IsEither old new notes bounds 6 note note.extras) (same_Some note_6 note e) extra_6
-each (suc (suc (suc (suc (suc (suc (suc zero))))))) note e = subst (λ note. IsEither old new notes bounds 7 note note.extras) (same_Some note_7 note e) extra_7
-each (suc (suc (suc (suc (suc (suc (suc (suc zero)))))))) note e = subst (λ note. IsEither old new notes bounds 8 note note.extras) (same_Some note_8 note e) body_8
-each (suc (suc (suc (suc (suc (suc (suc (suc (suc zero))))))))) note e = subst (λ note. IsEither old new notes bounds 9 note note.extras) (same_Some note_9 note e) body_9
-each (suc (suc (suc (suc (suc (suc (suc (suc (suc (suc zero)))))))))) note e = subst (λ note. IsEither old new notes bounds 10 note note.extras) (same_Some note_10 note e) body_10
+each : (slot : ℕ) → HoldsAt old new notes bounds None slot
+each zero note e = subst (λ note. IsEither old new notes bounds None 0 note note.extras) (same_Some note_0 note e) body_0
+each (suc zero) note e = subst (λ note. IsEither old new notes bounds None 1 note note.extras) (same_Some note_1 note e) body_1
+each (suc (suc zero)) note e = subst (λ note. IsEither old new notes bounds None 2 note note.extras) (same_Some note_2 note e) body_2
+each (suc (suc (suc zero))) note e = subst (λ note. IsEither old new notes bounds None 3 note note.extras) (same_Some note_3 note e) body_3
+each (suc (suc (suc (suc zero)))) note e = subst (λ note. IsEither old new notes bounds None 4 note note.extras) (same_Some note_4 note e) extra_4
+each (suc (suc (suc (suc (suc zero))))) note e = subst (λ note. IsEither old new notes bounds None 5 note note.extras) (same_Some note_5 note e) extra_5
+each (suc (suc (suc (suc (suc (suc zero)))))) note e = subst (λ note. IsEither old new notes bounds None 6 note note.extras) (same_Some note_6 note e) extra_6
+each (suc (suc (suc (suc (suc (suc (suc zero))))))) note e = subst (λ note. IsEither old new notes bounds None 7 note note.extras) (same_Some note_7 note e) extra_7
+each (suc (suc (suc (suc (suc (suc (suc (suc zero)))))))) note e = subst (λ note. IsEither old new notes bounds None 8 note note.extras) (same_Some note_8 note e) body_8
+each (suc (suc (suc (suc (suc (suc (suc (suc (suc zero))))))))) note e = subst (λ note. IsEither old new notes bounds None 9 note note.extras) (same_Some note_9 note e) body_9
+each (suc (suc (suc (suc (suc (suc (suc (suc (suc (suc zero)))))))))) note e = subst (λ note. IsEither old new notes bounds None 10 note note.extras) (same_Some note_10 note e) body_10
 each (suc (suc (suc (suc (suc (suc (suc (suc (suc (suc (suc n))))))))))) note e = absurd (none-some note e)
 
-pub matches : Matches old new notes bounds
+pub matches : Matches old new notes bounds no_states
 unfolding starts own_in pinned numbered reads_same result_term same_address is_common keeps paired made holds_behind are_told all_count_behind has_turn accesses_ahead is_ahead guards_sum passes facts_at left_alone known_at_start arrives stands extra adds
 matches = record { short = omega arith; few_turns = omega arith; order_is = refl; few = omega arith; cuts = λ e. absurd (false≢true e); start = refl; each = each }

@@ -250,7 +250,7 @@ beside_is own a b n count j from room at is small few lt low high e among =
       | inr above ↦ (let h = le_of (pos (8 * n + 8)) from above in absurd (omega (arith, ints)))
     ]
 
-near_byte : (off : ℤ) → FitsSigned w16 off → (negsuc (2 ^ 20) ≤ℤ frame_byte off) × (frame_byte off ≤ℤ pos (2 ^ 20))
+pub near_byte : (off : ℤ) → FitsSigned w16 off → (negsuc (2 ^ 20) ≤ℤ frame_byte off) × (frame_byte off ≤ℤ pos (2 ^ 20))
 near_byte off near = (omega (arith, ints), omega (arith, ints))
 
 -- by r10
@@ -292,7 +292,7 @@ missed own left count n j src base off at f g x lt e among = by_base (is_frame_p
     by_base false ec h = by_src ec (is_frame_pointer src) refl h
 
 -- bytes at a common access are the same
-pub access_common : (order : Order) (known : Known) (own : ℕ) (packet : Packet) (count : ℕ) (src base : Reg) (off at : ℤ) (f g : FlatState) → IsAccess own known.left count src base off at f g → ((j : ℕ) → j < count → IsSeen packet ((address f src off + j) % addresses)) → IsCommon own packet known.apart f g → is_common known count src off base at ≡ true → bytes_from g.memory (address g base at) count ≡ bytes_from f.memory (address f src off) count
+pub access_common : (order : Order) (known : Known) (own : ℕ) (packet : Packet) (count : ℕ) (src base : Reg) (off at : ℤ) (f g : FlatState) → IsAccess own known.left count src base off at f g → ((j : ℕ) → j < count → IsSeen own packet ((address f src off + j) % addresses)) → IsCommon own packet known.apart f g → is_common known count src off base at ≡ true → bytes_from g.memory (address g base at) count ≡ bytes_from f.memory (address f src off) count
 unfolding is_common
 access_common order known own packet count src base off at f g x seen common e =
     subst (λ z. bytes_from g.memory z count ≡ bytes_from f.memory (address f src off) count) (sym x.same)
@@ -391,7 +391,9 @@ Leaves start left i moved f g =
     (a b : Access) (j : ℕ) → access_of i ≡ Some a → access_of moved ≡ Some b → is_frame_pointer a.base ≡ false → is_frame_pointer b.base ≡ false → address g b.base b.offset ≡ address f a.base a.offset → j < byte_count a.size → j < byte_count b.size
     → IsAmong start left ((address f a.base a.offset + j) % addresses) → ⊥
 
--- and the old program's stays in what it may come to
+-- and stay in what the old program may come to
 pub record Goes (start : ℕ) (packet : Packet) (left : ℕ) (i moved : Insn) (f g : FlatState) : Type 0 where
   pub leaves : Leaves start left i moved f g
-  pub seen : (a : Access) (j : ℕ) → access_of i ≡ Some a → j < byte_count a.size → IsSeen packet ((address f a.base a.offset + j) % addresses)
+  pub seen :
+      (a b : Access) (j : ℕ) → access_of i ≡ Some a → access_of moved ≡ Some b → address g b.base b.offset ≡ address f a.base a.offset → j < byte_count a.size → j < byte_count b.size
+      → IsSeen start packet ((address f a.base a.offset + j) % addresses)

@@ -8,7 +8,7 @@ use Rattle.std.proofs.lemmas.Bool.{and_parts, or_cases, cases_lt, le-ltb, eqb-tr
 use Rattle.std.proofs.lemmas.Int.{ints}
 use Rattle.bpf_insn.specs.Arithmetic.{modulo}
 use Rattle.bpf_insn.specs.Effects.{Access, is_frame_pointer}
-use Rattle.bpf_insn.specs.Limits.{frame_bytes}
+use Rattle.bpf_insn.specs.Limits.{frame_bytes, max_frames}
 use Rattle.bpf_insn.specs.Instruction.{Instructions, register_number, byte_count}
 use Rattle.bpf_insn.specs.declared.order.Order.{Order}
 use Rattle.bpf_insn.specs.declared.instruction.Reg.{Reg}
@@ -18,11 +18,11 @@ use Rattle.bpf_semantics.specs.Flat.{FlatState, IsFlat, IsAmong, addresses, fram
 use Rattle.bpf_semantics.specs.Placement.{IsInMemory}
 use Rattle.bpf_semantics.proofs.FlatArith.{Same, modulo_same, same_refl, same_sym, same_trans, same_plus, same_minus, same_equal, modulo-same, modulo_of_small}
 use Rattle.bpf_semantics.proofs.NumberLemmas.{modulo_below}
-use Rattle.bpf_kept.specs.Far.{near, wide, middle, bytes_before}
+use Rattle.bpf_kept.specs.Far.{near_gap, near, wide, middle, bytes_before}
 use Rattle.bpf_kept.specs.Meaning.{Bounds}
 use Rattle.bpf_kept.specs.declared.reach.GuardReach.{GuardReach}
 use Rattle.bpf_kept.specs.declared.reach.GuardLimit.{GuardLimit}
-use Rattle.bpf_kept.specs.declared.reach.GuardLimit.TheVariants.{Most, Least}
+use Rattle.bpf_kept.specs.declared.reach.GuardLimit.TheVariants.{Most, MostOfSmall, Least}
 use Rattle.bpf_kept.specs.declared.notes.Holder.{Holder}
 use Rattle.bpf_kept.specs.declared.notes.Holder.TheVariants.{Register, Slot, Length}
 use Rattle.bpf_kept.specs.declared.notes.Term.{Term}
@@ -35,6 +35,8 @@ use Rattle.bpf_kept.proofs.TermLaw.{differs_same}
 use Rattle.bpf_kept.proofs.HoldsLaw.{plain_shift}
 use Rattle.bpf_kept.proofs.TestLaw.{cancelled}
 use Rattle.bpf_kept.proofs.AheadLaw.{Inside}
+use Rattle.bpf_kept.proofs.FrameLaw.{IsRoomy}
+use Rattle.bpf_kept.proofs.LevelLaw.{near_laid, roomy_at}
 
 -- ---- numbers
 
@@ -124,6 +126,23 @@ at_most x first end most moved a b short low near last high =
         → ((pos end +ℤ m) -ℤ pos most) ≤ℤ (b +ℤ pos size) → x ≤ most
     not_above x u w end most n size a b m i e h s k = omega (arith, ints)
 
+-- a number that is far from all that are below 0 isn't one of them
+small_passes : (x w end most n : ℕ) (o m : ℤ) → x < 2 ^ 62 → end < 2 ^ 32 → w < end → n ≤ 7 → FitsSigned w16 o → negsuc (2 ^ 63) ≤ℤ m → m ≤ℤ pos (2 ^ 63)
+    → Same (pos w) (((pos x -ℤ m) +ℤ o) +ℤ pos n) → ((pos end +ℤ m) -ℤ pos most) ≤ℤ (o +ℤ (pos n +ℤ pos 1)) → x ≤ most
+small_passes x w end most n o m little short inside few near bottom top s high = let e = s.same in omega (arith, ints)
+
+pub at_most_small : (x first end most : ℕ) (moved : ℤ) (b : Access) → x < 2 ^ 62 → end < 2 ^ 32 → negsuc (2 ^ 63) ≤ℤ moved → moved ≤ℤ pos (2 ^ 63)
+    → Lies x first end moved b → ((pos end +ℤ moved) -ℤ pos most) ≤ℤ (b.offset +ℤ pos (byte_count b.size)) → x ≤ most
+at_most_small x first end most moved b little short bottom top last high =
+    let sb = size_small b.size in
+    let sb0 = sb.0 in
+    let sb1 = sb.1 in
+    let n : ℕ = byte_count b.size - 1 in
+    let h = last.there n (omega arith) in
+    let size : pos (byte_count b.size) ≡ pos n +ℤ pos 1 = omega (arith, ints) in
+    small_passes x h.0 end most n b.offset moved little short h.2 (omega arith) last.near bottom top h.3
+    (subst (λ z. ((pos end +ℤ moved) -ℤ pos most) ≤ℤ (b.offset +ℤ z)) size high)
+
 -- ---- one access for both placements
 
 pub any_of : {A : Type 0} (test : A → Bool) (P Q : A → Type 0) (xs : List A) → list_any test xs ≡ true → AllByRecursion P xs → AllByRecursion Q xs → (x : A) × (test x ≡ true) × P x × Q x
@@ -206,17 +225,28 @@ signed_top n = elim (cases_lt (n % addresses) (2 ^ 63)) [
   | inr upper ↦ (let c : cast_signed w64 (n % addresses) ≡ negsuc (2 ^ 64 - suc (n % addresses)) = rw (le-ltb (n % addresses) (2 ^ 63) upper) refl in rw c (omega (arith, ints)))
 ]
 
+-- nor less than this
+pub signed_bottom : (n : ℕ) → negsuc (2 ^ 63) ≤ℤ cast_signed w64 (n % addresses)
+signed_bottom n = elim (cases_lt (n % addresses) (2 ^ 63)) [
+  | inl lower ↦ omega (arith, ints)
+  | inr upper ↦ (let c : cast_signed w64 (n % addresses) ≡ negsuc (2 ^ 64 - suc (n % addresses)) = rw (le-ltb (n % addresses) (2 ^ 63) upper) refl in
+      let small : n % addresses < 2 ^ 64 = omega arith in
+      rw c (omega (arith, ints)))
+]
+
 -- ---- in which region it lies
 
 -- by a pointer into the context, or the packet: it is one address at both placements, and so is where it goes
-pub in_packet : (padded : Bool) (count untouched x y other : ℕ) (moved : ℤ) (r : Reg) (a : Access) → other ≡ y → Same (pos x) (pos y +ℤ (pos (2 ^ 63) +ℤ moved))
-    → Inside (near padded) count untouched r y a → Inside (wide padded) count untouched r other a
+pub in_packet : (deep : ℕ) (shallow : deep < max_frames) (padded : Bool) (count untouched x y other : ℕ) (moved : ℤ) (r : Reg) (a : Access) → other ≡ y
+    → Same (pos x) (pos y +ℤ (pos (2 ^ 63) +ℤ moved))
+    → Inside (near padded) count untouched deep r y a → Inside (wide padded) count untouched deep r other a
     → Lies x (bytes_before padded) (bytes_before padded + count) moved a
-in_packet padded count untouched x y other moved r a same s h k =
+in_packet deep shallow padded count untouched x y other moved r a same s h k =
     record {
       near = h.near;
       there = λ b lt. context_distance x y (bytes_before padded) count b moved a.offset s
-          (one_address_is_context padded count 0 ((modulo (pos y +ℤ a.offset) addresses + b) % addresses) (omega arith) (h.there b lt) (subst (λ y. IsInMemory (wide padded) count 0 ((modulo (pos y +ℤ a.offset) addresses + b) % addresses)) same (k.there b lt)));
+          (one_address_is_context padded count deep ((modulo (pos y +ℤ a.offset) addresses + b) % addresses) shallow (h.there b lt)
+          (subst (λ y. IsInMemory (wide padded) count deep ((modulo (pos y +ℤ a.offset) addresses + b) % addresses)) same (k.there b lt)));
     }
 
 -- and no context is longer
@@ -224,11 +254,11 @@ wider : (x first end long : ℕ) (moved : ℤ) (a : Access) → end ≤ long →
 wider x first end long moved a le lies = record { near = lies.near; there = λ b lt. let h = lies.there b lt in let few = h.2 in (h.0, h.1, omega arith, h.3) }
 
 -- by a pointer into the frame it is at one distance from where that begins, above the lowest bytes
-above_lowest : (start untouched u a : ℕ) (ten : Bool) → start < 2 ^ 62 → u < 512 → a ≡ (start + u) % addresses → (ten ≡ false → IsAmong start untouched a → ⊥)
+above_lowest : (start untouched u a : ℕ) (ten : Bool) → IsRoomy start → u < 512 → a ≡ (start + u) % addresses → (ten ≡ false → IsAmong start untouched a → ⊥)
     → (if ten then 0 else untouched) ≤ u
-above_lowest start untouched u a true low small e leaves = let least : 0 ≤ u = omega arith in least
-above_lowest start untouched u a false low small e leaves = elim (cases_lt u untouched) [
-  | inl less ↦ absurd (leaves refl (omega arith, omega arith))
+above_lowest start untouched u a true room small e leaves = let least : 0 ≤ u = omega arith in least
+above_lowest start untouched u a false room small e leaves = elim (cases_lt u untouched) [
+  | inl less ↦ (let high = room.to in absurd (leaves refl (omega arith, omega arith)))
   | inr more ↦ more
 ]
 
@@ -237,26 +267,27 @@ above_lowest start untouched u a false low small e leaves = elim (cases_lt u unt
 -- what passes
 abbrev pub IsWithin : GuardLimit → ℕ → Type 0
 IsWithin (Most n) x = x ≤ n
+IsWithin (MostOfSmall n) x = x < 2 ^ 62 → x ≤ n
 IsWithin (Least n) x = n ≤ x
 
-module _ (bounds : Bounds) (packet : Packet) (old : Instructions) (slot x : ℕ) (fn fw : FlatState) (short : bounds.length < 2 ^ 32) (few : bytes_before bounds.padded + packet.length ≤ bounds.length) (small : x < addresses) (flat : IsFlat fn) (flat' : IsFlat fw)
-    (inside : (r : Reg) → AllByRecursion (Inside (near bounds.padded) packet.length bounds.untouched r (flat_register fn r)) (accesses_ahead old r farthest_ahead slot))
-    (inside' : (r : Reg) → AllByRecursion (Inside (wide bounds.padded) packet.length bounds.untouched r (flat_register fw r)) (accesses_ahead old r farthest_ahead slot)) where
+module _ (deep : ℕ) (shallow : deep < max_frames) (bounds : Bounds) (packet : Packet) (old : Instructions) (slot x : ℕ) (fn fw : FlatState) (short : bounds.length < 2 ^ 32) (few : bytes_before bounds.padded + packet.length ≤ bounds.length) (small : x < addresses) (flat : IsFlat fn) (flat' : IsFlat fw)
+    (inside : (r : Reg) → AllByRecursion (Inside (near bounds.padded) packet.length bounds.untouched deep r (flat_register fn r)) (accesses_ahead old r farthest_ahead slot))
+    (inside' : (r : Reg) → AllByRecursion (Inside (wide bounds.padded) packet.length bounds.untouched deep r (flat_register fw r)) (accesses_ahead old r farthest_ahead slot)) where
   abbrev pub front : Front
   front = record { old = old; slot = slot; bounds = bounds }
 
   abbrev start : ℕ
-  start = frame_start (near false) 0
+  start = frame_start (near false) deep
 
   abbrev other : ℕ
-  other = frame_start (wide false) 0
+  other = frame_start (wide false) deep
 
   -- an access by a register stays inside at both placements
   abbrev InsideNear : Reg → Access → Type 0
-  InsideNear r a = Inside (near bounds.padded) packet.length bounds.untouched r (flat_register fn r) a
+  InsideNear r a = Inside (near bounds.padded) packet.length bounds.untouched deep r (flat_register fn r) a
 
   abbrev InsideWide : Reg → Access → Type 0
-  InsideWide r a = Inside (wide bounds.padded) packet.length bounds.untouched r (flat_register fw r) a
+  InsideWide r a = Inside (wide bounds.padded) packet.length bounds.untouched deep r (flat_register fw r) a
 
   -- so accesses by it go to a region
   abbrev GoesTo : Reg → GuardReach → Type 0
@@ -269,22 +300,26 @@ module _ (bounds : Bounds) (packet : Packet) (old : Instructions) (slot x : ℕ)
         near = h.near;
         there = λ b lt. let w : ℤ = ((pos x -ℤ moved) +ℤ a.offset) +ℤ pos b in
             let at_near = frame_address x (flat_register fn r) start b moved a.offset s in
-            let p = subst (IsInMemory (near bounds.padded) packet.length 0) at_near (h.there b lt) in
-            let q = subst (IsInMemory (wide bounds.padded) packet.length 0) (frame_address x (flat_register fw r) other b moved a.offset s') (k.there b lt) in
-            let u : modulo w addresses < frame_bytes = one_distance_is_frame bounds.padded packet.length 0 0 (modulo w addresses) (omega arith) (omega arith) (modulo_below w) (omega arith) p q in
-            (modulo w addresses, above_lowest start bounds.untouched (modulo w addresses) ((modulo (pos (flat_register fn r) +ℤ a.offset) addresses + b) % addresses) (is_frame_pointer r) (omega arith) u at_near (λ ten. h.above ten b lt), u, modulo-same w);
+            let p = subst (IsInMemory (near bounds.padded) packet.length deep) at_near (h.there b lt) in
+            let q = subst (IsInMemory (wide bounds.padded) packet.length deep) (frame_address x (flat_register fw r) other b moved a.offset s') (k.there b lt) in
+            let u : modulo w addresses < frame_bytes = one_distance_is_frame bounds.padded packet.length deep deep (modulo w addresses) shallow shallow (modulo_below w) (omega arith) p q in
+            (modulo w addresses, above_lowest start bounds.untouched (modulo w addresses) ((modulo (pos (flat_register fn r) +ℤ a.offset) addresses + b) % addresses) (is_frame_pointer r) (roomy_at (near false) near_gap deep (near_laid false) shallow) u at_near (λ ten. h.above ten b lt), u, modulo-same w);
       }
 
   -- what is tested by a pointer is within the limit
-  within : (r : Reg) (reach : GuardReach) (limit : GuardLimit) → reach.end < 2 ^ 32 → reach.moved ≤ℤ pos (2 ^ 63) → GoesTo r reach → is_within front limit r reach ≡ true
-      → IsWithin limit x
+  within : (r : Reg) (reach : GuardReach) (limit : GuardLimit) → reach.end < 2 ^ 32 → negsuc (2 ^ 63) ≤ℤ reach.moved → reach.moved ≤ℤ pos (2 ^ 63) → GoesTo r reach
+      → is_within front limit r reach ≡ true → IsWithin limit x
   unfolding is_ahead
-  within r reach (Least n) near top lies e =
+  within r reach (Least n) near bottom top lies e =
       let accesses = accesses_ahead old r farthest_ahead slot in
       let low : ℤ = (pos reach.first +ℤ reach.moved) -ℤ pos n in
       let a = any_of (is_met (Below low)) (InsideNear r) (InsideWide r) accesses e (inside r) (inside' r) in
       (begins x reach.first reach.end n reach.moved a.0 small near top (lies a.0 a.2 a.3) (le_of a.0.offset low a.1)).no_less
-  within r reach (Most n) near top lies e =
+  within r reach (MostOfSmall n) near bottom top lies e =
+      let high : ℤ = (pos reach.end +ℤ reach.moved) -ℤ pos n in
+      let b = any_of (is_met (Above high)) (InsideNear r) (InsideWide r) (accesses_ahead old r farthest_ahead slot) e (inside r) (inside' r) in
+      λ little. at_most_small x reach.first reach.end n reach.moved b.0 little near bottom top (lies b.0 b.2 b.3) (le_of high (b.0.offset +ℤ pos (byte_count b.0.size)) b.1)
+  within r reach (Most n) near bottom top lies e =
       let accesses = accesses_ahead old r farthest_ahead slot in
       let low : ℤ = (pos reach.first +ℤ reach.moved) -ℤ pos 0 in
       let high : ℤ = (pos reach.end +ℤ reach.moved) -ℤ pos n in
@@ -300,8 +335,8 @@ module _ (bounds : Bounds) (packet : Packet) (old : Instructions) (slot x : ℕ)
       let s : Same (pos x) (pos (flat_register fn r) +ℤ (pos (2 ^ 63) +ℤ moved)) = same_trans (differs_same start t (flat_register fn r) x p) (same_plus (same_refl (pos (flat_register fn r))) (same_trans (same_equal (plain_shift start t none)) (context_same t.moved))) in
       let s' : Same (pos x) (pos (flat_register fw r) +ℤ (pos (2 ^ 63) +ℤ moved)) = same_trans (differs_same other t (flat_register fw r) x q) (same_plus (same_refl (pos (flat_register fw r))) (same_trans (same_equal (plain_shift other t none)) (context_same t.moved))) in
       let same : flat_register fw r ≡ flat_register fn r = cancelled (flat_register fw r) (flat_register fn r) x x (pos (2 ^ 63) +ℤ moved) (flat'.numbers (register_number r)) (flat.numbers (register_number r)) s' s refl in
-      within r (in_context bounds t) limit short (signed_top (t.moved + middle))
-      (λ a h k. wider x (bytes_before bounds.padded) (bytes_before bounds.padded + packet.length) bounds.length moved a few (in_packet bounds.padded packet.length bounds.untouched x (flat_register fn r) (flat_register fw r) moved r a same s h k)) e
+      within r (in_context bounds t) limit short (signed_bottom (t.moved + middle)) (signed_top (t.moved + middle))
+      (λ a h k. wider x (bytes_before bounds.padded) (bytes_before bounds.padded + packet.length) bounds.length moved a few (in_packet deep shallow bounds.padded packet.length bounds.untouched x (flat_register fn r) (flat_register fw r) moved r a same s h k)) e
 
   by_frame : (t : Term) (r : Reg) (limit : GuardLimit) → (t.frames == 1) ≡ true → Differs start t (flat_register fn r) x → Differs other t (flat_register fw r) x
       → is_within front limit r (in_frame bounds t r) ≡ true → IsWithin limit x
@@ -309,7 +344,7 @@ module _ (bounds : Bounds) (packet : Packet) (old : Instructions) (slot x : ℕ)
       let moved : ℤ = cast_signed w64 (t.moved % addresses) in
       let s : Same (pos x) (pos (flat_register fn r) +ℤ (moved -ℤ pos start)) = same_trans (differs_same start t (flat_register fn r) x p) (same_plus (same_refl (pos (flat_register fn r))) (same_trans (same_equal (frame_shift start t one)) (same_minus (signed_same t.moved) (same_refl (pos start))))) in
       let s' : Same (pos x) (pos (flat_register fw r) +ℤ (moved -ℤ pos other)) = same_trans (differs_same other t (flat_register fw r) x q) (same_plus (same_refl (pos (flat_register fw r))) (same_trans (same_equal (frame_shift other t one)) (same_minus (signed_same t.moved) (same_refl (pos other))))) in
-      within r (in_frame bounds t r) limit (omega arith) (signed_top t.moved) (λ a h k. frame_lies moved r a s s' h k) e
+      within r (in_frame bounds t r) limit (omega arith) (signed_bottom t.moved) (signed_top t.moved) (λ a h k. frame_lies moved r a s s' h k) e
 
   by_pointer : (t : Term) (r : Reg) (limit : GuardLimit) → Differs start t (flat_register fn r) x → Differs other t (flat_register fw r) x
       → is_tested_by front limit t r ≡ true → IsWithin limit x

@@ -20,7 +20,8 @@ use Rattle.bpf_kept.specs.declared.notes.Holder.TheVariants.{Register, Slot, Len
 use Rattle.bpf_kept.specs.declared.notes.Term.{Term}
 use Rattle.bpf_kept.specs.declared.notes.Fact.{Fact}
 use Rattle.bpf_kept.specs.Terms.{Packet, Facts, Values, Differs, AreLow, DiffersBy, Holds, AllHold, value_in, shift}
-use Rattle.bpf_kept.specs.Rules.{same_register, same_holder, is_holder, is_register, is_base, is_high, is_enough, gives, is_own, own_in, own, is_pin, pinned, is_number, numbered, is_zero, is_same, is_low_fact, is_low, stays}
+use Rattle.bpf_kept.specs.Rules.{same_register, same_holder, is_holder, is_register, is_base, is_high, is_enough, gives, is_own, own_in, own, is_pin, pinned, is_number, numbered, is_zero, is_same, is_low_fact, is_low}
+use Rattle.bpf_kept.specs.Behind.{stays}
 use Rattle.bpf_kept.proofs.TermLaw.{differs_same, zero_differs}
 
 -- ---- lists

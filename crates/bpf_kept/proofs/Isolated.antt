@@ -1,10 +1,10 @@
 -- A program that hands no pointer into the frame on: only r10 has one, on each way.
-use Rattle.std.proofs.Common.{◌≡◌, ℕ, zero, suc, ◌+◌, ◌-◌, ◌/◌, ◌≤◌, ◌==◌, inl, inr, refl, sym, ap, ◌∙◌, subst, arith, Bool, true, false, List, [], ◌∷◌, length, Option, Some, None, cond}
-use Rattle.std.specs.Prelude.{ℤ, ⊤, ◌+ℤ◌, get_or, set, slice_index, option_map}
+use Rattle.std.proofs.Common.{◌≡◌, ℕ, zero, suc, ◌+◌, ◌-◌, ◌/◌, ◌<◌, ◌≤◌, ◌⊎◌, ◌==◌, inl, inr, refl, sym, ap, ◌∙◌, subst, arith, Bool, true, false, List, [], ◌∷◌, ◌++◌, length, Option, Some, None, cond}
+use Rattle.std.specs.Prelude.{ℤ, pos, ⊤, ◌+ℤ◌, get_or, set, take, drop, replicate, ltb, slice_index, option_map}
 use Rattle.std.specs.List.{AllByRecursion}
 use Rattle.std.specs.Option.{option_or}
 use Rattle.std.proofs.lemmas.Bool.{cond_both, eqb-false, cases_lt, cases_eq, false≢true}
-use Rattle.std.proofs.lemmas.List.{get_or-set_same, get_or-set_other}
+use Rattle.std.proofs.lemmas.List.{get_or-set_same, get_or-set_other, get_or-take, get_or-drop, length-take-le, length-drop}
 use Rattle.std.proofs.lemmas.Option.{none-some, same_Some, option_and_then_some}
 use Rattle.bpf_insn.specs.Order.{bytes_of}
 use Rattle.bpf_insn.specs.Arithmetic.{extended}
@@ -23,16 +23,16 @@ use Rattle.bpf_insn.specs.declared.instruction.AluOp.{AluOp}
 use Rattle.bpf_insn.specs.declared.instruction.AluOp.TheVariants.{Add, Sub, Mov}
 use Rattle.bpf_insn.specs.declared.instruction.Insn.{Insn}
 use Rattle.bpf_insn.specs.declared.instruction.Insn.TheVariants.{Alu, Neg, MovSx, End, LoadImm64, Load, LoadSx, Store, StoreImm, Atomic, Ja, JaLong, JumpIf, CallLocal, Exit}
-use Rattle.bpf_semantics.specs.State.{Cell, State, StackFrame, frames, frame_at, depth, register, number_of_register, put, with_register, with_top, at_slot, start, frame_bytes}
+use Rattle.bpf_semantics.specs.State.{Cell, State, StackFrame, IsState, frames, frame_at, depth, register, number_of_register, put, with_register, with_top, at_slot, start, frame_bytes, max_frames}
 use Rattle.bpf_semantics.specs.State.Cell.{Byte, Part}
 use Rattle.bpf_semantics.specs.Memory.{Location, inside, location_of, number_at, pointer_at, pointer_in, stack_of, each_cell, cell_after, part_after, with_bytes, with_parts, without_part, is_within, with_frame, with_stack_in, store_number, store_pointer}
 use Rattle.bpf_semantics.specs.Memory.Location.{InContext, InFrame}
-use Rattle.bpf_semantics.specs.Step.{does, next, jump, operand, alu_of_values, moved, alu_result, load, load_extended, store, test_of_values, atomic_result, fetched}
+use Rattle.bpf_semantics.specs.Step.{does, call, entered, saved, next, jump, operand, alu_of_values, moved, alu_result, load, load_extended, store, test_of_values, atomic_result, fetched}
 use Rattle.bpf_semantics.specs.declared.value.Value.{Value}
 use Rattle.bpf_semantics.specs.declared.value.Value.TheVariants.{Number, Pointer}
 use Rattle.bpf_semantics.specs.declared.value.Region.{Region}
 use Rattle.bpf_semantics.specs.declared.value.Region.TheVariants.{Context, Frame as FrameAt}
-use Rattle.bpf_semantics.proofs.StateLemmas.{option_map_some, cond_option, all_get, all_none}
+use Rattle.bpf_semantics.proofs.StateLemmas.{option_map_some, cond_option, all_get, all_none, left_is}
 use Rattle.bpf_kept.specs.Matching.{hands_frame}
 
 -- ---- what isn't a pointer into a frame
@@ -262,6 +262,81 @@ does_alone order (JumpIf test width dst src off) s t inner e d all =
     by_way false h = subst AreAlone (same_Some _ _ h) (at_slot_alone s _ all)
 does_alone order (CallLocal off) s t inner e d all = absurd (false≢true inner)
 does_alone order Exit s t inner e d all = absurd (false≢true inner)
+
+-- ---- calls and returns
+
+-- what is handed: r1 to r5
+handed_plain : (xs : List (Option Value)) → ((r : ℕ) → (r ≡ 10 → ⊥) → IsPlain (get_or xs r None)) → (k : ℕ) → IsPlain (get_or (take 5 (drop 1 xs)) k None)
+handed_plain xs h k = by_order (cases_lt k 5)
+  where
+    later : (ys : List (Option Value)) (j : ℕ) → get_or (drop 1 ys) j None ≡ get_or ys (suc j) None
+    later [] j = refl
+    later (y ∷ ys) j = refl
+
+    past : (n : ℕ) (ys : List (Option Value)) (j : ℕ) → n ≤ j → get_or (take n ys) j None ≡ None
+    past zero ys j le = refl
+    past (suc n) [] j le = refl
+    past (suc n) (y ∷ ys) zero le = absurd (omega arith)
+    past (suc n) (y ∷ ys) (suc j) le = past n ys j (omega arith)
+
+    by_order : (k < 5) ⊎ (5 ≤ k) → IsPlain (get_or (take 5 (drop 1 xs)) k None)
+    by_order (inl less) = subst IsPlain (sym (get_or-take 5 (drop 1 xs) k None less ∙ later xs k)) (h (suc k) (λ e. absurd (omega arith)))
+    by_order (inr more) = subst IsPlain (sym (past 5 (drop 1 xs) k more)) tt
+
+entered_plain : (args : List (Option Value)) (end : Option Value) → length args ≡ 5 → ((k : ℕ) → IsPlain (get_or args k None)) → (r : ℕ) → (r ≡ 10 → ⊥) → IsPlain (get_or (None ∷ args ++ replicate 4 None ++ end ∷ []) r None)
+entered_plain (a ∷ b ∷ c ∷ d ∷ e ∷ []) end l h zero other = tt
+entered_plain (a ∷ b ∷ c ∷ d ∷ e ∷ []) end l h (suc zero) other = h 0
+entered_plain (a ∷ b ∷ c ∷ d ∷ e ∷ []) end l h (suc (suc zero)) other = h 1
+entered_plain (a ∷ b ∷ c ∷ d ∷ e ∷ []) end l h (suc (suc (suc zero))) other = h 2
+entered_plain (a ∷ b ∷ c ∷ d ∷ e ∷ []) end l h (suc (suc (suc (suc zero)))) other = h 3
+entered_plain (a ∷ b ∷ c ∷ d ∷ e ∷ []) end l h (suc (suc (suc (suc (suc zero))))) other = h 4
+entered_plain (a ∷ b ∷ c ∷ d ∷ e ∷ []) end l h (suc (suc (suc (suc (suc (suc zero)))))) other = tt
+entered_plain (a ∷ b ∷ c ∷ d ∷ e ∷ []) end l h (suc (suc (suc (suc (suc (suc (suc zero))))))) other = tt
+entered_plain (a ∷ b ∷ c ∷ d ∷ e ∷ []) end l h (suc (suc (suc (suc (suc (suc (suc (suc zero)))))))) other = tt
+entered_plain (a ∷ b ∷ c ∷ d ∷ e ∷ []) end l h (suc (suc (suc (suc (suc (suc (suc (suc (suc zero))))))))) other = tt
+entered_plain (a ∷ b ∷ c ∷ d ∷ e ∷ []) end l h (suc (suc (suc (suc (suc (suc (suc (suc (suc (suc zero)))))))))) other = absurd (other refl)
+entered_plain (a ∷ b ∷ c ∷ d ∷ e ∷ []) end l h (suc (suc (suc (suc (suc (suc (suc (suc (suc (suc (suc r))))))))))) other = tt
+entered_plain [] end l h r other = absurd (omega arith)
+entered_plain (a ∷ []) end l h r other = absurd (omega arith)
+entered_plain (a ∷ b ∷ []) end l h r other = absurd (omega arith)
+entered_plain (a ∷ b ∷ c ∷ []) end l h r other = absurd (omega arith)
+entered_plain (a ∷ b ∷ c ∷ d ∷ []) end l h r other = absurd (omega arith)
+entered_plain (a ∷ b ∷ c ∷ d ∷ e ∷ x ∷ xs) end l h r other = absurd (omega arith)
+
+-- a caller keeps r6 to r10
+saved_plain : (first : Option Value) (xs : List (Option Value)) → IsPlain first → ((r : ℕ) → (r ≡ 10 → ⊥) → IsPlain (get_or xs r None)) → (r : ℕ) → (r ≡ 10 → ⊥) → IsPlain (get_or (first ∷ drop 1 (saved xs)) r None)
+saved_plain first xs hf h zero other = hf
+saved_plain first xs hf h (suc zero) other = tt
+saved_plain first xs hf h (suc (suc zero)) other = tt
+saved_plain first xs hf h (suc (suc (suc zero))) other = tt
+saved_plain first xs hf h (suc (suc (suc (suc zero)))) other = tt
+saved_plain first xs hf h (suc (suc (suc (suc (suc zero))))) other = tt
+saved_plain first xs hf h (suc (suc (suc (suc (suc (suc k)))))) other =
+    let six : 6 + k ≡ suc (suc (suc (suc (suc (suc k))))) = omega arith in
+    subst IsPlain (sym (get_or-drop 6 xs k None)) (h (6 + k) (λ e. other (sym six ∙ e)))
+
+called_alone : (off : ℤ) (s t : State) → IsState s → call s off ≡ Some t → AreAlone s → AreAlone t
+called_alone off s t is e all =
+    let c = cond_option (ltb (depth s + 1) max_frames) (option_map (entered s) (target s.top.slot off)) t e in
+    let k = option_map_some (entered s) (target s.top.slot off) t c.1 in
+    let args : List (Option Value) = take 5 (drop 1 s.top.registers) in
+    let eleven : length s.top.registers ≡ 11 = is.each_frame.0.eleven in
+    let five : length args ≡ 5 = length-take-le 5 (drop 1 s.top.registers) (rw (length-drop 1 s.top.registers, eleven) (omega arith)) in
+    subst AreAlone k.2 (
+      record { registers = entered_plain args (Some (Pointer (FrameAt (depth s + 1)) (pos 0))) five (handed_plain s.top.registers all.0.registers); cells = λ j. subst IsPlainCell (sym (all_none frame_bytes j)) tt },
+      (record { registers = saved_plain None s.top.registers tt all.0.registers; cells = all.0.cells }, all.1),
+    )
+
+pub call_alone : (order : Order) (off : ℤ) (s t : State) → IsState s → does order (CallLocal off) s ≡ Some t → AreAlone s → AreAlone t
+unfolding does
+call_alone order off s t is e all = called_alone off s t is e all
+
+pub exit_alone : (order : Order) (s t : State) → does order Exit s ≡ Some t → AreAlone s → AreAlone t
+unfolding does
+exit_alone order s t e all = option_and_then_some _ (number_of_register s R0) t e (λ v ev e1.
+    let h = left_is s.waiting v s.context t e1 in
+    let rest : AllByRecursion IsPlainFrame (h.0 ∷ h.1) = subst (λ ws. AllByRecursion IsPlainFrame ws) h.2 all.1 in
+    subst AreAlone h.3 (record { registers = saved_plain (Some (Number v)) h.0.registers tt rest.0.registers; cells = rest.0.cells }, rest.1))
 
 -- an access by another register than r10 goes to the context
 pub goes_to_context : (s : State) (k : ℕ) (off : ℤ) (r : Reg) (base : Value) (l : Location) → AreAlone s → is_frame_pointer r ≡ false → register s r ≡ Some base → location_of s k off base ≡ Some l → (i : ℕ) × (l ≡ InContext i)

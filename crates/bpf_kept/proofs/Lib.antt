@@ -4,7 +4,10 @@ mod TermLaw
 mod HoldsLaw
 mod FrameLaw
 mod PutValue
+pub mod StatesLaw
 mod PutLaw
+mod WideLaw
+mod BothLaw
 mod ExtraLaw
 mod PinLaw
 mod CountLaw
@@ -19,10 +22,17 @@ mod Simulation
 mod StoreLaw
 mod PacketLaw
 mod Setting
+mod LevelLaw
 mod Beside
-mod Extras
-mod Follow
 mod StartLaw
+mod CallLaw
+mod Waiting
+mod Extras
+mod Arrivals
+mod WayLaw
+mod Follow
+mod Calling
+mod Ends
 mod Law
 mod CertifiedLaw
 mod ExactLaw
@@ -38,9 +48,9 @@ mod ReadLemmas
 mod AheadLemmas
 mod StandLemmas
 mod FaultLemmas
-mod ShownLemmas
 mod NumberLemmas
 mod RuleLemmas
 mod Further
 mod WalkLemmas
 mod SlotLemmas
+mod CallLemmas

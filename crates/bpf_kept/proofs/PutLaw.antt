@@ -1,6 +1,6 @@
 -- Instructions that put a number into a register: what the new program puts where it does what the old one does, and where it does it alone.
-use Rattle.std.proofs.Common.{set, cond, Bool, ◌==◌, false, List, ◌≡◌, ℕ, zero, ◌+◌, ◌%◌, ◌^◌, ◌-◌, ◌*◌, ◌/◌, ◌<◌, ◌≤◌, inl, inr, refl, sym, ap, ap₂, ◌∙◌, subst, arith, true, Option, Some, None}
-use Rattle.std.specs.Prelude.{◌↔◌, IsTrue, FitsSigned, option_map, ℤ, pos, negsuc, ◌+ℤ◌, ◌-ℤ◌, ◌&&◌, get_or, bit_and, bit_or, bit_xor, if◌then◌else◌}
+use Rattle.std.proofs.Common.{set, ◌==◌, false, List, ◌≡◌, ℕ, zero, ◌+◌, ◌%◌, ◌^◌, ◌-◌, ◌*◌, ◌/◌, ◌<◌, ◌≤◌, inl, inr, refl, sym, ap, ap₂, ◌∙◌, subst, arith, true, Option, Some, None}
+use Rattle.std.specs.Prelude.{FitsSigned, ℤ, pos, negsuc, ◌+ℤ◌, ◌-ℤ◌, ◌&&◌, get_or, bit_and, bit_or, bit_xor, if◌then◌else◌}
 use Rattle.std.specs.Int.{cast_signed, w16, w64, bit_at}
 use Rattle.std.specs.List.{AllByRecursion, list_all, list_any}
 use Rattle.std.specs.Option.{option_map_or, option_or}
@@ -28,7 +28,7 @@ use Rattle.bpf_insn.specs.declared.instruction.Width.TheVariants.{W64}
 use Rattle.bpf_insn.specs.declared.instruction.AluOp.{AluOp}
 use Rattle.bpf_insn.specs.declared.instruction.AluOp.TheVariants.{Add, Sub, Mul, Or, And, Lsh, Xor, Mov}
 use Rattle.bpf_insn.specs.declared.instruction.Insn.{Insn}
-use Rattle.bpf_insn.specs.declared.instruction.Insn.TheVariants.{Alu, Neg, MovSx, End, LoadImm64, Load, LoadSx, Ja, JaLong, JumpIf, CallLocal}
+use Rattle.bpf_insn.specs.declared.instruction.Insn.TheVariants.{Alu, Neg, Load, LoadSx}
 use Rattle.bpf_semantics.specs.Step.{size_type}
 use Rattle.bpf_semantics.specs.Flat.{FlatState, IsFlat, addresses, address, bytes_from, flat_register, flat_operand, flat_number}
 use Rattle.bpf_insn.specs.Effects.{Access, access_of}
@@ -39,7 +39,9 @@ use Rattle.bpf_kept.specs.declared.notes.Holder.TheVariants.{Register, Slot}
 use Rattle.bpf_kept.specs.declared.notes.Term.{Term}
 use Rattle.bpf_kept.specs.Terms.{Packet, Facts, Differs, AreLow, DiffersBy, Holds, AllHold, IsCommon, value_in, slot_number, shift, constant, zero_term, frame_offset, plus, minus, negated, times}
 use Rattle.bpf_kept.specs.Slots.{slot_at}
-use Rattle.bpf_kept.specs.Rules.{Known, own_in, own, same_register, is_register, is_same, is_low, put_into, operand_term, by_terms, keeps_low, has_low_result, reads_low, reads_same, loads_common, result_term, is_common, is_address, is_folded, numbered, pinned, same_size, same_address, goes_alike, loads_alike, is_framed, undirected, low_result, put_by}
+use Rattle.bpf_num.specs.Laws.{Member}
+use Rattle.bpf_kept.specs.States.{held_number}
+use Rattle.bpf_kept.specs.Rules.{Known, own_in, own, same_register, is_register, is_same, is_low, put_into, operand_term, by_terms, keeps_low, has_low_result, reads_low, reads_same, loads_common, result_term, is_common, is_address, is_folded, numbered, pinned, same_size, same_address, goes_alike, loads_alike, is_framed}
 use Rattle.bpf_kept.proofs.TermLaw.{shift_plus, differs_same, same_differs, same_number, sum_differs, difference_differs, negation_differs, product_differs, complement_differs}
 use Rattle.bpf_kept.proofs.HoldsLaw.{IsHigh, any_holds, pinned_differs, numbered_differs, register_is, held, own_differs, plain_shift, all_same, all_low}
 use Rattle.bpf_kept.proofs.AheadLaw.{access_near}
@@ -62,6 +64,7 @@ pub record AtOnce (order : Order) (start : ℕ) (packet : Packet) (known : Known
   pub new_flat : IsFlat g
   pub common : IsCommon start packet known.apart f g
   pub pointers : ArePointers start f.registers g.registers
+  pub numbers : (r : Reg) → Member (held_number known.state r) (flat_register g r)
   pub all : AllHold start (value_in order start packet f) (value_in order start packet g) known.facts
 
 size_few : (size : Size) → byte_count size ≤ 8
@@ -147,7 +150,7 @@ terms_differ order start packet known (Neg W64 dst) f g t enc at e =
 terms_differ order start packet known (Load size dst src off) f g t enc at e = option_and_then_some _ (slot_at size src off) t e (λ n en et. slot_differs order start packet known size src off f g n t at enc en et)
 terms_differ order start packet known i f g t enc at e = absurd (none-some _ e)
 
-equal_differs : (start x y : ℕ) → x < addresses → y ≡ x → Differs start (constant 0) x y
+pub equal_differs : (start x y : ℕ) → x < addresses → y ≡ x → Differs start (constant 0) x y
 equal_differs start x y small e = subst (λ z. Differs start (constant 0) x z) (sym e) (same_number start x small)
 
 -- all that an instruction reads
@@ -166,14 +169,14 @@ loaded_there : (order : Order) (start : ℕ) (packet : Packet) (known : Known) (
 loaded_there order start packet known i a f g enc at leaves ea same e =
     let there : address g a.base a.offset ≡ address f a.base a.offset = ap (λ x. modulo (pos x +ℤ a.offset) addresses) same in
     subst (λ z. bytes_from g.memory (address g a.base a.offset) (byte_count a.size) ≡ bytes_from f.memory z (byte_count a.size)) (sym there)
-    (access_common order known start packet (byte_count a.size) a.base a.base a.offset a.offset f g (access_is order start packet known i i a a f g enc enc at leaves ea ea refl there) (λ j lt. leaves.seen a j ea lt) at.common e)
+    (access_common order known start packet (byte_count a.size) a.base a.base a.offset a.offset f g (access_is order start packet known i i a a f g enc enc at leaves ea ea refl there) (λ j lt. leaves.seen a a j ea ea there lt lt) at.common e)
 
 loads_same : (order : Order) (start : ℕ) (packet : Packet) (known : Known) (i : Insn) (f g : FlatState) → HasEncoding i → AtOnce order start packet known f g → Goes start packet known.left i i f g → AllByRecursion (λ r. get_or g.registers (register_number r) 0 ≡ flat_register f r) (registers_read i) → loads_common known i ≡ true → ReadsSame i f g
 loads_same order start packet known (Load size dst src off) f g enc at leaves agree e = loaded_there order start packet known (Load size dst src off) (record { base = src; offset = off; size = size; reads = true; writes = false }) f g enc at leaves refl agree.0 e
 loads_same order start packet known (LoadSx size dst src off) f g enc at leaves agree e = loaded_there order start packet known (LoadSx size dst src off) (record { base = src; offset = off; size = size; reads = true; writes = false }) f g enc at leaves refl agree.0 e
 loads_same order start packet known i f g enc at leaves agree e = tt
 
-result_differs : (order : Order) (start : ℕ) (packet : Packet) (known : Known) (i : Insn) (r : Reg) (f g : FlatState) (t : Term) → put_into i ≡ Some r → HasEncoding i → AtOnce order start packet known f g → Goes start packet known.left i i f g → result_term known i ≡ Some t → Differs start t (put_value order i f) (put_value order i g)
+pub result_differs : (order : Order) (start : ℕ) (packet : Packet) (known : Known) (i : Insn) (r : Reg) (f g : FlatState) (t : Term) → put_into i ≡ Some r → HasEncoding i → AtOnce order start packet known f g → Goes start packet known.left i i f g → result_term known i ≡ Some t → Differs start t (put_value order i f) (put_value order i g)
 unfolding result_term reads_same
 result_differs order start packet known i r f g t into enc at leaves e = by_first (by_terms known.facts i) refl e
   where
@@ -263,9 +266,9 @@ size_is DW H e = absurd (false≢true e)
 size_is DW W e = absurd (false≢true e)
 
 -- what one puts that stands for another, into the same register
-record LoadsSame (order : Order) (i moved : Insn) (f g : FlatState) : Type 0 where
-  into : put_into moved ≡ put_into i
-  value : put_value order moved g ≡ put_value order i f
+pub record LoadsSame (order : Order) (i moved : Insn) (f g : FlatState) : Type 0 where
+  pub into : put_into moved ≡ put_into i
+  pub value : put_value order moved g ≡ put_value order i f
 
 -- by an address that is the same
 loaded_alike : (order : Order) (start : ℕ) (packet : Packet) (known : Known) (i moved : Insn) (a b : Access) (f g : FlatState) → HasEncoding i → HasEncoding moved → AtOnce order start packet known f g → Goes start packet known.left i moved f g → access_of i ≡ Some a → access_of moved ≡ Some b → byte_count b.size ≡ byte_count a.size
@@ -273,9 +276,9 @@ loaded_alike : (order : Order) (start : ℕ) (packet : Packet) (known : Known) (
 loaded_alike order start packet known i moved a b f g enc enc' at leaves ea eb size e =
     let h = and_parts (same_address known.facts b.base b.offset a.base a.offset) (is_common known (byte_count a.size) a.base a.offset b.base b.offset) e in
     let there = address_same order start packet known.facts f g b.base a.base a.offset b.offset at.all h.0 in
-    access_common order known start packet (byte_count a.size) a.base b.base a.offset b.offset f g (access_is order start packet known i moved a b f g enc enc' at leaves ea eb size there) (λ j lt. leaves.seen a j ea lt) at.common h.1
+    access_common order known start packet (byte_count a.size) a.base b.base a.offset b.offset f g (access_is order start packet known i moved a b f g enc enc' at leaves ea eb size there) (λ j lt. leaves.seen a b j ea eb there lt (subst (λ n. j < n) (sym size) lt)) at.common h.1
 
-load_same : (order : Order) (start : ℕ) (packet : Packet) (known : Known) (i moved : Insn) (f g : FlatState) → HasEncoding i → HasEncoding moved → AtOnce order start packet known f g → Goes start packet known.left i moved f g → loads_alike known i moved ≡ true → LoadsSame order i moved f g
+pub load_same : (order : Order) (start : ℕ) (packet : Packet) (known : Known) (i moved : Insn) (f g : FlatState) → HasEncoding i → HasEncoding moved → AtOnce order start packet known f g → Goes start packet known.left i moved f g → loads_alike known i moved ≡ true → LoadsSame order i moved f g
 load_same order start packet known (Load size dst src off) (Load other into base at) f g enc enc' one leaves e =
     let a = and_parts (same_size size other) (same_register dst into && goes_alike known (byte_count size) src off base at) e in
     let b = and_parts (same_register dst into) (goes_alike known (byte_count size) src off base at) a.1 in
@@ -305,7 +308,7 @@ low_split x = omega arith
 products_low : (a b c d r s : ℕ) → (((2 ^ 32 * a + r) * (2 ^ 32 * b + s)) % 2 ^ 64) % 2 ^ 32 ≡ (((2 ^ 32 * c + r) * (2 ^ 32 * d + s)) % 2 ^ 64) % 2 ^ 32
 products_low a b c d r s = omega arith
 
-product_low : (a b x y : ℕ) → AreLow a x → AreLow b y → AreLow ((a * b) % 2 ^ 64) ((x * y) % 2 ^ 64)
+pub product_low : (a b x y : ℕ) → AreLow a x → AreLow b y → AreLow ((a * b) % 2 ^ 64) ((x * y) % 2 ^ 64)
 product_low a b x y h k =
     let ex : x ≡ 2 ^ 32 * (x / 2 ^ 32) + a % 2 ^ 32 = low_split x ∙ ap (λ z. 2 ^ 32 * (x / 2 ^ 32) + z) h in
     let ey : y ≡ 2 ^ 32 * (y / 2 ^ 32) + b % 2 ^ 32 = low_split y ∙ ap (λ z. 2 ^ 32 * (y / 2 ^ 32) + z) k in
@@ -344,7 +347,7 @@ low_put f g Xor dst src e h = low_compute Xor (flat_register f dst) (flat_operan
 low_put f g Lsh dst src e h = low_compute Lsh (flat_register f dst) (flat_operand f src) (flat_register g dst) (flat_operand g src) e h.0 (operand_low f g src h.1)
 low_put f g op dst src e h = absurd (false≢true e)
 
-has_low : (order : Order) (start : ℕ) (packet : Packet) (known : Known) (i : Insn) (f g : FlatState) → AtOnce order start packet known f g → has_low_result known.facts i ≡ true → AreLow (put_value order i f) (put_value order i g)
+pub has_low : (order : Order) (start : ℕ) (packet : Packet) (known : Known) (i : Insn) (f g : FlatState) → AtOnce order start packet known f g → has_low_result known.facts i ≡ true → AreLow (put_value order i f) (put_value order i g)
 has_low order start packet known (Alu op W64 dst src) f g at e =
     let h = and_parts (keeps_low op) (list_all (is_low known.facts) (registers_read (Alu op W64 dst src))) e in
     low_put f g op dst src h.0 (reads_all_low order start packet known f g (registers_read (Alu op W64 dst src)) at h.1)
@@ -354,11 +357,11 @@ has_low order start packet known i f g at e = absurd (false≢true e)
 framed_shift : (start : ℕ) → shift start frame_offset ≡ pos 0 -ℤ pos start
 framed_shift start = let one : 1 * start ≡ start = omega arith in omega (arith, ints)
 
-record FramesSame (order : Order) (start : ℕ) (i moved : Insn) (f g : FlatState) : Type 0 where
-  into : put_into moved ≡ put_into i
-  value : Differs start frame_offset (put_value order i f) (put_value order moved g)
+pub record FramesSame (order : Order) (start : ℕ) (i moved : Insn) (f g : FlatState) : Type 0 where
+  pub into : put_into moved ≡ put_into i
+  pub value : Differs start frame_offset (put_value order i f) (put_value order moved g)
 
-framed_differs : (order : Order) (start : ℕ) (i moved : Insn) (f g : FlatState) → IsEnd start f.registers → is_framed i moved ≡ true → FramesSame order start i moved f g
+pub framed_differs : (order : Order) (start : ℕ) (i moved : Insn) (f g : FlatState) → IsEnd start f.registers → is_framed i moved ≡ true → FramesSame order start i moved f g
 framed_differs order start (Alu Mov W64 dst (FromReg r)) (Alu Mov W64 into (Imm imm)) f g end e =
     let a = and_parts (same_register dst into) (is_frame_pointer r && int_eq imm (pos frame_bytes)) e in
     let b = and_parts (is_frame_pointer r) (int_eq imm (pos frame_bytes)) a.1 in
@@ -375,61 +378,3 @@ framed_differs order start (Alu Mov W64 dst (FromReg r)) (Alu Mov W64 into (Imm 
         let again : pos (start + frame_bytes) +ℤ (pos 0 -ℤ pos start) ≡ pos 512 = omega (arith, ints) in
         subst (λ z. Same (pos 512) (pos x +ℤ z)) (sym (framed_shift start)) (same_sym (same_trans (same_plus s (same_refl (pos 0 -ℤ pos start))) (same_equal again)))
 framed_differs order start i moved f g end e = absurd (false≢true e)
-
--- ---- what both put
-
--- where they are the same but for where they lead, and put a number, they are the same
-pub plain_is : (i : Insn) (r : Reg) → put_into i ≡ Some r → undirected i ≡ i
-plain_is (Alu op width dst src) r e = refl
-plain_is (Neg width dst) r e = refl
-plain_is (MovSx width b dst src) r e = refl
-plain_is (End kind b dst) r e = refl
-plain_is (LoadImm64 dst value) r e = refl
-plain_is (Load size dst src off) r e = refl
-plain_is (LoadSx size dst src off) r e = refl
-plain_is i r e = absurd (none-some _ e)
-
-undirected_put : (i : Insn) → put_into (undirected i) ≡ put_into i
-undirected_put (Ja off) = refl
-undirected_put (JaLong off) = refl
-undirected_put (JumpIf cond width dst src off) = refl
-undirected_put (CallLocal off) = refl
-undirected_put i = refl
-
-put_again : (i moved : Insn) (r : Reg) → put_into i ≡ Some r → undirected moved ≡ undirected i → moved ≡ i
-put_again i moved r into same =
-    let m : put_into moved ≡ Some r = sym (undirected_put moved) ∙ ap put_into same ∙ undirected_put i ∙ into in
-    sym (plain_is moved r m) ∙ same ∙ plain_is i r into
-
--- what both put differs by the term, or its low half is the same
-pub record PutBoth (order : Order) (start : ℕ) (i moved : Insn) (r : Reg) (by : Option Term) (f g : FlatState) : Type 0 where
-  pub into : put_into moved ≡ Some r
-  pub value : DiffersBy start by (put_value order i f) (put_value order moved g)
-
-pub put_both : (order : Order) (start : ℕ) (packet : Packet) (known : Known) (same : Bool) (i moved : Insn) (r : Reg) (by : Option Term) (f g : FlatState) → IsTrue same ↔ (undirected moved ≡ undirected i) → put_into i ≡ Some r → HasEncoding i → HasEncoding moved → AtOnce order start packet known f g → Goes start packet known.left i moved f g
-    → put_by known same i moved ≡ Some by → PutBoth order start i moved r by f g
-put_both order start packet known true i moved r by f g same into enc enc' at leaves e =
-    let is : moved ≡ i = put_again i moved r into (same.0 refl) in
-    subst (λ m. PutBoth order start i m r by f g) (sym is) (by_result (result_term known i) refl e)
-  where
-    leaves_itself : Goes start packet known.left i i f g
-    leaves_itself = subst (λ m. Goes start packet known.left i m f g) (put_again i moved r into (same.0 refl)) leaves
-
-    by_result : (o : Option Term) → result_term known i ≡ o → option_or (option_map Some o) (low_result known.facts i) ≡ Some by → PutBoth order start i i r by f g
-    by_result (Some t) eo h = subst (λ by. PutBoth order start i i r by f g) (same_Some (Some t) by h) (record { into = into; value = result_differs order start packet known i r f g t into enc at leaves_itself eo })
-    by_result None eo h =
-        let c = cond_option (has_low_result known.facts i) (Some None) by h in
-        subst (λ by. PutBoth order start i i r by f g) (same_Some None by c.1) (record { into = into; value = has_low order start packet known i f g at c.0 })
-put_both order start packet known false i moved r by f g same into enc enc' at leaves e = by_load (loads_alike known i moved) refl e
-  where
-    by_frame : (b : Bool) → is_framed i moved ≡ b → cond b (Some (Some frame_offset)) None ≡ Some by → PutBoth order start i moved r by f g
-    by_frame false eb h = absurd (none-some _ h)
-    by_frame true eb h =
-        let d = framed_differs order start i moved f g at.pointers.0 eb in
-        subst (λ by. PutBoth order start i moved r by f g) (same_Some (Some frame_offset) by h) (record { into = d.into ∙ into; value = d.value })
-
-    by_load : (b : Bool) → loads_alike known i moved ≡ b → cond b (Some (Some zero_term)) (if is_framed i moved then Some (Some frame_offset) else None) ≡ Some by → PutBoth order start i moved r by f g
-    by_load false eb h = by_frame (is_framed i moved) refl h
-    by_load true eb h =
-        let l = load_same order start packet known i moved f g enc enc' at leaves eb in
-        subst (λ by. PutBoth order start i moved r by f g) (same_Some (Some zero_term) by h) (record { into = l.into ∙ into; value = equal_differs start (put_value order i f) (put_value order moved g) (put_below order i r f into enc at.flat) l.value })

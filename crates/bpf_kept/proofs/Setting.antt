@@ -1,5 +1,5 @@
 -- What the simulation is given: both programs, notes that match, a context, the old program's two runs, and that the new one is never stuck.
-use Rattle.std.proofs.Common.{◌≡◌, ℕ, ◌+◌, List, length}
+use Rattle.std.proofs.Common.{◌≡◌, ℕ, zero, suc, ◌+◌, List, [], ◌∷◌, length}
 use Rattle.bpf_insn.specs.Image.{IsProgram}
 use Rattle.bpf_insn.specs.Laws.{AreBytes}
 use Rattle.bpf_insn.specs.declared.order.Order.{Order}
@@ -7,10 +7,12 @@ use Rattle.bpf_insn.specs.declared.instruction.Insn.{Insn}
 use Rattle.bpf_semantics.specs.State.{State, start}
 use Rattle.bpf_semantics.specs.Step.{IsStuck}
 use Rattle.bpf_semantics.specs.Run.{Steps}
+use Rattle.bpf_semantics.specs.Flat.{Placement, frame_start}
 use Rattle.bpf_kept.specs.Far.{middle, bytes_before, near, wide}
 use Rattle.bpf_kept.specs.Meaning.{Bounds, FlatEnds, AreGiven}
 use Rattle.bpf_kept.specs.Terms.{Packet}
-use Rattle.bpf_kept.specs.Matching.{Notes, Matches}
+use Rattle.bpf_kept.specs.States.{States, AreStates}
+use Rattle.bpf_kept.specs.Matching.{Notes, Matches, left_alone}
 use Rattle.bpf_kept.proofs.Simulation.{program}
 
 pub record Setting : Type 0 where
@@ -21,19 +23,32 @@ pub record Setting : Type 0 where
   pub bounds : Bounds
   pub old_valid : IsProgram is
   pub new_valid : IsProgram js
-  pub matches : Matches (program order is) (program order js) notes bounds
+  pub states : States
+  pub matches : Matches (program order is) (program order js) notes bounds states
   pub own : List ℕ
   pub context : List ℕ
   pub own_is : AreGiven bounds.padded order own context
   pub bytes : AreBytes context
   pub long : length context ≡ bounds.length
   pub never : (k : ℕ) (s : State) → Steps (program order js) k (start context) s → IsStuck (program order js) s → ⊥
+  pub states_are : AreStates (program order js) bounds.length states
   pub v : ℕ
   pub k : ℕ
   pub l : ℕ
   pub near_ends : FlatEnds (near bounds.padded) (program order is) own bounds v k
   pub wide_ends : FlatEnds (wide bounds.padded) (program order is) own bounds v l
 
--- what the old program is given
-abbrev pub packet_of : Setting → Packet
-packet_of given = record { first = middle + bytes_before given.bounds.padded; length = length given.own }
+-- where the frames begin that wait, if there are so many
+abbrev pub starts_below : Placement → ℕ → List ℕ
+starts_below place zero = []
+starts_below place (suc n) = frame_start place n ∷ starts_below place n
+
+-- what the old program is given, and the frames that wait
+abbrev pub packet_of : Setting → List ℕ → Packet
+packet_of given waiting =
+    record {
+      first = middle + bytes_before given.bounds.padded;
+      length = length given.own;
+      waiting = waiting;
+      left = left_alone (program given.order given.js) given.bounds.untouched;
+    }

@@ -3,7 +3,7 @@ use Rattle.std.proofs.Common.{◌≡◌, ◌⊎◌, inl, inr, ℕ, zero, suc, �
 use Rattle.std.specs.Prelude.{ℤ, pos, ◌||◌, ltb, option_and_then, option_map}
 use Rattle.std.proofs.lemmas.Bool.{and_parts, cond-true, cond-false, le-ltb, false≢true}
 use Rattle.std.proofs.lemmas.Option.{none-some, option_and_then_some}
-use Rattle.std.specs.List.{list_any}
+use Rattle.std.specs.List.{AllByRecursion, list_any}
 use Rattle.bpf_insn.specs.Arithmetic.{extended, jumps}
 use Rattle.bpf_insn.specs.Image.{IsProgram}
 use Rattle.bpf_insn.specs.Instruction.{Instructions, insn_at, target}
@@ -32,14 +32,15 @@ use Rattle.bpf_semantics.proofs.FlatValues.{tests_fit, operand_fits}
 use Rattle.bpf_semantics.proofs.RunLaw.{runs_keep_states}
 use Rattle.bpf_semantics.proofs.SlotLaw.{step_keeps_context}
 use Rattle.bpf_semantics.proofs.StateLemmas.{exit_is, left_is, value_fits, operand_value_fits, option_map_some}
-use Rattle.bpf_kept.specs.Zero.{zero_does}
-use Rattle.bpf_kept.specs.declared.reach.GuardLimit.TheVariants.{Most, Least}
+use Rattle.bpf_kept.specs.Zero.{zero_does, zero_step, IsWholeReturn, IsZeroState}
+use Rattle.bpf_kept.specs.declared.reach.GuardLimit.TheVariants.{Least}
 use Rattle.bpf_kept.specs.Terms.{Facts}
-use Rattle.bpf_kept.specs.Rules.{put_into, undirected, is_jump}
-use Rattle.bpf_kept.specs.Guards.{Front, is_limited, has_end, register_reached, end_reached, passes}
+use Rattle.bpf_kept.specs.Rules.{Known, put_into, undirected, is_jump}
+use Rattle.bpf_kept.specs.Guards.{Front, is_limited, most_limit, has_end, register_reached, end_reached, passes}
 use Rattle.bpf_kept.specs.Meaning.{most_for_one}
 use Rattle.bpf_kept.specs.Matching.{most_extras, most_at_start, led}
 use Rattle.bpf_kept.proofs.PutValue.{put_value}
+use Rattle.bpf_kept.proofs.ZeroLaw.{zero_step_is_step}
 
 -- ---- instructions that neither call nor exit
 
@@ -58,6 +59,16 @@ unfolding flat_does
 zero_plain place order (CallLocal off) f g e = absurd (none-some _ e)
 zero_plain place order Exit f g e = absurd (none-some _ e)
 zero_plain place order i f g e = e
+
+-- what calls keep is whole
+whole_returns : (place : Placement) (ws : List StackFrame) (rs : List Return) → FitReturns place ws rs → AllByRecursion IsWholeReturn rs
+whole_returns place [] [] h = tt
+whole_returns place [] (r ∷ rs) h = absurd h
+whole_returns place (w ∷ ws) [] h = absurd h
+whole_returns place (w ∷ ws) (r ∷ rs) h = (h.0.five, whole_returns place ws rs h.1)
+
+pub fits_whole : (order : Order) (place : Placement) (s : State) (g : FlatState) → Fits order place s g → IsZeroState g
+fits_whole order place s g fits = record { flat = fits.flat; whole = whole_returns place s.waiting g.returns fits.returns_fit }
 
 pub no_returns : (place : Placement) (ws : List StackFrame) (rs : List Return) → FitReturns place ws rs → ws ≡ [] → rs ≡ []
 no_returns place [] [] h e = refl
@@ -90,12 +101,12 @@ guard_number order s t cond dst src off tests e =
     let n = tests a b taken et in (n.0, ea ∙ ap Some n.1))))
 
 -- by a constant, that nothing greater passes
-pub record IsMostGuard (front : Front) (facts : Facts) (m : Insn) : Type 0 where
+pub record IsMostGuard (front : Front) (known : Known) (m : Insn) : Type 0 where
   pub dst : Reg
   pub imm : ℤ
   pub off : ℤ
   pub is : m ≡ JumpIf Gt W64 dst (Imm imm) off
-  pub tested : is_limited front facts dst (Most (extended imm)) ≡ true
+  pub tested : is_limited front known.facts dst (most_limit known.state dst (extended imm)) ≡ true
 
 -- by the packet's end
 pub record IsEndGuard (front : Front) (facts : Facts) (m : Insn) : Type 0 where
@@ -114,14 +125,15 @@ pub record IsLeastGuard (front : Front) (facts : Facts) (m : Insn) : Type 0 wher
   pub is : m ≡ JumpIf Lt W64 dst (Imm imm) off
   pub tested : (end_reached front facts dst (extended imm) || is_limited front facts dst (Least (extended imm))) ≡ true
 
-pub guard_is : (front : Front) (facts : Facts) (m : Insn) → passes front facts m ≡ true → IsMostGuard front facts m ⊎ (IsEndGuard front facts m ⊎ IsLeastGuard front facts m)
+pub guard_is : (front : Front) (known : Known) (m : Insn) → passes front known m ≡ true
+    → IsMostGuard front known m ⊎ (IsEndGuard front known.facts m ⊎ IsLeastGuard front known.facts m)
 unfolding passes
-guard_is front facts (JumpIf Gt W64 dst (Imm imm) off) e = inl (record { dst = dst; imm = imm; off = off; is = refl; tested = e })
-guard_is front facts (JumpIf Gt W64 dst (FromReg src) off) e =
-    let c = and_parts (has_end facts src) (list_any (register_reached front dst) facts) e in
+guard_is front known (JumpIf Gt W64 dst (Imm imm) off) e = inl (record { dst = dst; imm = imm; off = off; is = refl; tested = e })
+guard_is front known (JumpIf Gt W64 dst (FromReg src) off) e =
+    let c = and_parts (has_end known.facts src) (list_any (register_reached front dst) known.facts) e in
     inr (inl (record { dst = dst; src = src; off = off; is = refl; ends = c.0; reached = c.1 }))
-guard_is front facts (JumpIf Lt W64 dst (Imm imm) off) e = inr (inr (record { dst = dst; imm = imm; off = off; is = refl; tested = e }))
-guard_is front facts m e = absurd (false≢true e)
+guard_is front known (JumpIf Lt W64 dst (Imm imm) off) e = inr (inr (record { dst = dst; imm = imm; off = off; is = refl; tested = e }))
+guard_is front known m e = absurd (false≢true e)
 
 pub end_does : (order : Order) (dst src : Reg) (off : ℤ) (g : FlatState) → flat_register g dst ≤ flat_register g src → flat_does order (JumpIf Gt W64 dst (FromReg src) off) g ≡ Some (flat_next (JumpIf Gt W64 dst (FromReg src) off) g)
 unfolding flat_does
@@ -297,6 +309,23 @@ module _ (order : Order) (js : List Insn) (valid : IsProgram js) (context : List
       by_finish : (o : Option ℕ) → finish_of new s ≡ o → (v : ℕ) × Finish new s v × (number_of_register s R0 ≡ Some v)
       by_finish (Some v) e = (v, e, (exits_there s Exit v stands e).2)
       by_finish None e = absurd (never n s run (record { no_step = λ t step. no_return order s t alone (does_there s t Exit stands step); no_finish = λ v finish. none-some v (sym e ∙ finish) }))
+
+  -- at EXIT in another frame it returns
+  pub returns_on : (n : ℕ) (s : State) → Steps new n (start context) s → insn_at js s.top.slot ≡ Some Exit → (s.waiting ≡ [] → ⊥) → (t : State) × Step new s t
+  returns_on n s run stands deep = by_step (step_of new s) refl
+    where
+      by_step : (o : Option State) → step_of new s ≡ o → (t : State) × Step new s t
+      by_step (Some t) e = (t, e)
+      by_step None e = absurd (never n s run (record { no_step = λ t step. none-some t (sym e ∙ step); no_finish = λ v finish. deep (exits_there s Exit v stands finish).0 }))
+
+  -- what the flat machine does that takes 0 is followed, in calls and returns too
+  pub fits_zero : (place : Placement) (n : ℕ) (s t : State) (m : Insn) (g h : FlatState) → IsPlacement (length context) place → Steps new n (start context) s → Fits order place s g → insn_at js s.top.slot ≡ Some m → Step new s t → zero_does place order m g ≡ Some h → Fits order place t h
+  unfolding zero_step
+  fits_zero place n s t m g h placed run fits stands step e =
+      let there : insn_at js g.slot ≡ Some m = ap (insn_at js) fits.slot_is ∙ stands in
+      let z : zero_step place new g ≡ Some h = ap (option_and_then (λ i. zero_does place order i g)) there ∙ e in
+      (flat_follows place new s t g valid (state_is n s run) (subst (λ c. IsPlacement (length c) place) (sym (context_same n s run)) placed) fits step).fits h
+      (zero_step_is_step place new g h valid (fits_whole order place s g fits) z).0
 
   -- each flat state that fits is followed
   pub fits_on : (place : Placement) (n : ℕ) (s t : State) (m : Insn) (g h : FlatState) → IsPlacement (length context) place → Steps new n (start context) s → Fits order place s g → insn_at js s.top.slot ≡ Some m → Step new s t → flat_does order m g ≡ Some h → Fits order place t h

@@ -1,36 +1,34 @@
 -- The start: what holds there, and in blocks how the new program comes to the packet's length.
-use Rattle.std.proofs.Common.{◌≡◌, ℕ, zero, suc, ◌+◌, ◌-◌, ◌*◌, ◌%◌, ◌^◌, ◌<◌, ◌≤◌, inl, inr, refl, sym, ap, ap₂, ◌∙◌, subst, arith, Bool, true, false, List, [], ◌∷◌, ◌++◌, length, Option, Some, None, cond}
+use Rattle.std.proofs.Common.{◌≡◌, ℕ, suc, ◌+◌, ◌-◌, ◌*◌, ◌%◌, ◌^◌, ◌<◌, ◌≤◌, inl, inr, refl, sym, ap, ap₂, ◌∙◌, subst, arith, Bool, true, false, List, [], ◌∷◌, ◌++◌, length, Some, None, cond}
 use Rattle.std.specs.Prelude.{pos, ◌+ℤ◌, ◌&&◌, ◌==◌, take, ltb, leb, slice_index}
-use Rattle.std.proofs.lemmas.Bool.{cond_both, cond-true, ltb-true, lt-leb, le-leb, lt-ltb, le-ltb, cases_lt, false≢true}
+use Rattle.std.proofs.lemmas.Bool.{cond_both, ltb-true, lt-leb, le-leb, cases_lt, false≢true}
 use Rattle.std.proofs.lemmas.Int.{ints}
+use Rattle.std.proofs.lemmas.Option.{none-some}
 use Rattle.bpf_insn.specs.Arithmetic.{modulo, extended, jumps}
-use Rattle.bpf_insn.specs.Laws.{AreBytes}
 use Rattle.bpf_insn.specs.Order.{number_of}
 use Rattle.bpf_insn.specs.declared.order.Order.{Order}
 use Rattle.bpf_insn.specs.declared.order.Order.TheVariants.{Little, Big}
 use Rattle.bpf_insn.specs.declared.instruction.Reg.{Reg}
 use Rattle.bpf_insn.specs.declared.instruction.Reg.TheVariants.{R0, R1, R2, R3, R4, R5, R6, R7, R8, R9, R10}
-use Rattle.bpf_insn.specs.declared.instruction.Size.TheVariants.{DW}
 use Rattle.bpf_insn.specs.declared.instruction.Operand.TheVariants.{Imm}
 use Rattle.bpf_insn.specs.declared.instruction.Width.TheVariants.{W64}
-use Rattle.bpf_insn.specs.declared.instruction.AluOp.TheVariants.{Mov}
 use Rattle.bpf_insn.specs.declared.instruction.Cond.TheVariants.{Le}
 use Rattle.bpf_insn.specs.declared.instruction.Insn.{Insn}
-use Rattle.bpf_insn.specs.declared.instruction.Insn.TheVariants.{Alu, Load, JumpIf}
 use Rattle.bpf_insn.specs.Instruction.{Instructions, register_number, insn_at}
 use Rattle.bpf_semantics.specs.State.{State, start}
 use Rattle.bpf_semantics.specs.Run.{Steps}
 use Rattle.bpf_semantics.specs.Blocks.{head_bytes, told_length, IsBlock}
-use Rattle.bpf_semantics.specs.Flat.{Placement, FlatState, IsFlat, IsAmong, addresses, bytes_from, frame_start, frame_end, flat_register, flat_number, flat_does}
+use Rattle.bpf_semantics.specs.Flat.{Placement, FlatState, IsFlat, addresses, bytes_from, frame_start, frame_end, flat_register, flat_number, flat_does}
 use Rattle.bpf_semantics.specs.Placement.{Fits}
 use Rattle.bpf_semantics.proofs.FlatBytes.{bytes_from_are}
 use Rattle.bpf_kept.specs.Far.{middle, bytes_before, near, wide}
 use Rattle.bpf_kept.specs.Zero.{zero_memory, zero_start, IsZeroState}
 use Rattle.bpf_kept.specs.Meaning.{AreGiven}
-use Rattle.bpf_kept.specs.declared.notes.Holder.TheVariants.{Register, Length}
+use Rattle.bpf_kept.specs.declared.notes.Holder.TheVariants.{Register}
 use Rattle.bpf_kept.specs.Terms.{Packet, IsSeen, IsCommon, Differs, Holds, AllHold, value_in, frame_slots, slot_number, shift, constant, negated, context_offset, number_pin}
 use Rattle.bpf_kept.specs.Slots.{slot_facts}
-use Rattle.bpf_kept.specs.Rules.{Known, by_itself}
+use Rattle.bpf_kept.specs.Rules.{Known}
+use Rattle.bpf_kept.specs.Behind.{by_itself}
 use Rattle.bpf_kept.specs.Matching.{is_zero_slot, same_slot, length_facts, start_facts, loads_length, skips_cut, cuts_length, Cuts, start_slot}
 use Rattle.bpf_kept.proofs.FarLaw.{far_is_placement}
 use Rattle.bpf_kept.proofs.ZeroLaw.{zero_start_fits, start_memory}
@@ -39,6 +37,7 @@ use Rattle.bpf_kept.proofs.FrameLaw.{IsRoomy, bytes_alike}
 use Rattle.bpf_kept.proofs.TermLaw.{shift_constant}
 use Rattle.bpf_kept.proofs.ExtraLaw.{constant_known, zero_pin}
 use Rattle.bpf_kept.proofs.EdgeLaw.{slot_facts_hold, slot_below, numbers_equal}
+use Rattle.bpf_kept.proofs.StatesLaw.{register_has}
 use Rattle.bpf_kept.proofs.Isolated.{AreAlone, starts_alone}
 use Rattle.bpf_kept.proofs.Simulation.{program, test_jumps, test_falls}
 use Rattle.bpf_kept.proofs.PacketLaw.{taken_at, taken_exactly, own_fits, given_is, byte_inside, length_told, length_cut}
@@ -95,7 +94,7 @@ slot_zero order own n f room clear = cond_both (ltb n 64) (flat_number order f 8
     ap (number_of order 8) (bytes_alike (λ x. 0) f.memory (own + 8 * n) 8 (λ j lt. clear ((own + 8 * n + j) % addresses) (omega arith) (omega arith))) ∙ zeros_number order (own + 8 * n))
     (λ e. refl)
 
-slots_hold : (order : Order) (own : ℕ) (packet : Packet) (f g : FlatState) → IsRoomy own → IsFlat f → IsClear own f → IsClear own g
+pub slots_hold : (order : Order) (own : ℕ) (packet : Packet) (f g : FlatState) → IsRoomy own → IsFlat f → IsClear own f → IsClear own g
     → AllHold own (value_in order own packet f) (value_in order own packet g) (slot_facts is_zero_slot (λ n. true) frame_slots ++ slot_facts same_slot (λ n. true) frame_slots)
 slots_hold order own packet f g room flat clear clear' =
     all_both (Holds own (value_in order own packet f) (value_in order own packet g)) (slot_facts is_zero_slot (λ n. true) frame_slots) (slot_facts same_slot (λ n. true) frame_slots)
@@ -158,11 +157,12 @@ start_holds order own packet padded len f g at = (
 
 -- ---- the memory
 
--- what both may come to is the same, but for where frames are
-start_same : (padded : Bool) (order : Order) (own context : List ℕ) (place old : Placement) → old.context ≡ middle + bytes_before padded → place.context ≡ middle → AreGiven padded order own context → (a : ℕ) → IsSeen (record { first = middle + bytes_before padded; length = length own }) a
+-- what both may come to is the same
+start_same : (padded : Bool) (order : Order) (own context : List ℕ) (place old : Placement) → old.context ≡ middle + bytes_before padded → place.context ≡ middle → AreGiven padded order own context → (start left : ℕ) → start + 512 ≤ 2 ^ 63 → (a : ℕ) → IsSeen start (record { first = middle + bytes_before padded; length = length own; waiting = []; left = left }) a
     → zero_memory place context a ≡ zero_memory old own a
-start_same padded order own context place old eo en given a (inl below) = memory_zero place context a (omega arith) ∙ sym (memory_zero old own a (omega arith))
-start_same padded order own context place old eo en given a (inr among) =
+start_same padded order own context place old eo en given start left room a (inr (inl framed)) = let high = framed.1 in memory_zero place context a (omega arith) ∙ sym (memory_zero old own a (omega arith))
+start_same padded order own context place old eo en given start left room a (inr (inr waiting)) = absurd waiting
+start_same padded order own context place old eo en given start left room a (inl among) =
     let low = among.0 in
     let high = among.1 in
     let fits = own_fits padded order own context given in
@@ -224,38 +224,39 @@ module _ (given : Setting) where
   pub record CutAt (n x slot : ℕ) : Type 0 where
     pub state : State
     pub run : Steps new n (start context) state
-    pub alone : state.waiting ≡ []
     pub near_fits : Fits order (near false) state (cut (near false) x slot)
     pub wide_fits : Fits order (wide false) state (cut (wide false) x slot)
     pub isolated : is_isolated given ≡ true → AreAlone state
 
   -- nothing is known yet
   abbrev bare : Known
-  bare = record { facts = []; apart = []; counters = []; turns = bounds.turns; left = 0 }
+  bare = record { facts = []; apart = []; counters = []; turns = bounds.turns; left = 0; back = []; spare = None; barred = None; state = None }
 
-  pub near_common : IsCommon (frame_start (near false) 0) (packet_of given) [] near_start (cut (near false) 0 0)
-  near_common a small seen out = start_same bounds.padded order own context (near false) (near bounds.padded) refl refl own_is a seen
+  pub near_common : IsCommon (frame_start (near false) 0) (packet_of given []) [] near_start (cut (near false) 0 0)
+  near_common a small seen out = start_same bounds.padded order own context (near false) (near bounds.padded) refl refl own_is (frame_start (near false) 0) (packet_of given []).left (omega arith) a seen
 
-  pub wide_common : IsCommon (frame_start (wide false) 0) (packet_of given) [] wide_start (cut (wide false) 0 0)
-  wide_common a small seen out = start_same bounds.padded order own context (wide false) (wide bounds.padded) refl refl own_is a seen
+  pub wide_common : IsCommon (frame_start (wide false) 0) (packet_of given []) [] wide_start (cut (wide false) 0 0)
+  wide_common a small seen out = start_same bounds.padded order own context (wide false) (wide bounds.padded) refl refl own_is (frame_start (wide false) 0) (packet_of given []).left (omega arith) a seen
 
-  bare_at : (n x slot : ℕ) (c : CutAt n x slot) → NewAt given bare 0 n c.state near_start wide_start (cut (near false) x slot) (cut (wide false) x slot)
+  bare_at : (n x slot : ℕ) (c : CutAt n x slot) → NewAt given 0 bare 0 n c.state near_start wide_start (cut (near false) x slot) (cut (wide false) x slot)
   bare_at n x slot c =
       record {
         run = c.run;
-        alone = c.alone;
-        near_at = record { high = near_high; room = near_room; flat = near_state.flat; new_flat = c.near_fits.flat; common = near_common; pointers = (refl, refl); all = tt };
-        wide_at = record { high = wide_high; room = wide_room; flat = wide_state.flat; new_flat = c.wide_fits.flat; common = wide_common; pointers = (refl, refl); all = tt };
+        near_level = refl;
+        wide_level = refl;
+        near_at = record { high = near_high; room = near_room; flat = near_state.flat; new_flat = c.near_fits.flat; common = near_common; pointers = (refl, refl); numbers = register_has None c.near_fits c.near_fits.flat (λ a e. absurd (none-some a e)); all = tt };
+        wide_at = record { high = wide_high; room = wide_room; flat = wide_state.flat; new_flat = c.wide_fits.flat; common = wide_common; pointers = (refl, refl); numbers = register_has None c.wide_fits c.wide_fits.flat (λ a e. absurd (none-some a e)); all = tt };
         near_fits = c.near_fits;
         wide_fits = c.wide_fits;
         counted = tt;
+        unlike = λ n e. absurd (none-some n e);
         isolated = c.isolated;
       }
 
   cut_next : (n x slot y to : ℕ) (m : Insn) → CutAt n x slot → insn_at js slot ≡ Some m → flat_does order m (cut (near false) x slot) ≡ Some (cut (near false) y to) → flat_does order m (cut (wide false) x slot) ≡ Some (cut (wide false) y to) → CutAt (suc n) y to
   cut_next n x slot y to m c there en ew =
-      let z = new_next given bare 0 n c.state near_start wide_start (cut (near false) x slot) (cut (wide false) x slot) (cut (near false) y to) (cut (wide false) y to) m (bare_at n x slot c) (ap (insn_at js) (sym c.near_fits.slot_is) ∙ there) en ew refl in
-      record { state = z.0; run = z.2.run; alone = z.2.alone; near_fits = z.2.near_fits; wide_fits = z.2.wide_fits; isolated = z.2.isolated }
+      let z = new_next given 0 bare 0 n c.state near_start wide_start (cut (near false) x slot) (cut (wide false) x slot) (cut (near false) y to) (cut (wide false) y to) m (bare_at n x slot c) (ap (insn_at js) (sym c.near_fits.slot_is) ∙ there) en ew refl refl in
+      record { state = z.0; run = z.2.run; near_fits = z.2.near_fits; wide_fits = z.2.wide_fits; isolated = z.2.isolated }
 
   first_cut : CutAt 0 (length context) 0
   first_cut =
@@ -263,7 +264,6 @@ module _ (given : Setting) where
       record {
         state = start context;
         run = refl;
-        alone = refl;
         near_fits = (zero_start_fits order (near false) context bytes (far_is_placement false (length context) (omega arith)).0).0;
         wide_fits = (zero_start_fits order (wide false) context bytes (far_is_placement false (length context) (omega arith)).1).0;
         isolated = λ e. starts_alone context;
@@ -371,7 +371,7 @@ module _ (given : Setting) where
   is_whole true given e = absurd (false≢true (sym e))
 
   pub near_first : (slot : ℕ)
-      → AreFirst (frame_start (near false) 0) (packet_of given) bounds.padded bounds.length near_start (cut (near false) (length own) slot)
+      → AreFirst (frame_start (near false) 0) (packet_of given []) bounds.padded bounds.length near_start (cut (near false) (length own) slot)
   near_first slot =
       record {
         room = near_room;
@@ -387,7 +387,7 @@ module _ (given : Setting) where
       }
 
   pub wide_first : (slot : ℕ)
-      → AreFirst (frame_start (wide false) 0) (packet_of given) bounds.padded bounds.length wide_start (cut (wide false) (length own) slot)
+      → AreFirst (frame_start (wide false) 0) (packet_of given []) bounds.padded bounds.length wide_start (cut (wide false) (length own) slot)
   wide_first slot =
       record {
         room = wide_room;

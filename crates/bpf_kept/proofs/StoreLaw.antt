@@ -1,5 +1,5 @@
 -- What both programs put or store, the one where the other stands for it, and what the new one puts or stores alone: what is known behind.
-use Rattle.std.proofs.Common.{◌≡◌, ℕ, ◌+◌, ◌*◌, ◌%◌, ◌<◌, ◌==◌, refl, sym, ap, ap₂, ◌∙◌, subst, Bool, true, false, List, length, Option, Some, None, cond}
+use Rattle.std.proofs.Common.{◌≡◌, ℕ, ◌+◌, ◌*◌, ◌%◌, ◌<◌, ◌==◌, inl, inr, refl, sym, ap, ap₂, ◌∙◌, subst, arith, Bool, true, false, List, length, Option, Some, None, cond}
 use Rattle.std.specs.Prelude.{ℤ, pos, ◌-ℤ◌, ◌&&◌, ◌||◌, ltb, slice_index, option_and_then, option_map, FitsSigned}
 use Rattle.std.specs.Int.{w16}
 use Rattle.std.specs.Option.{option_or}
@@ -26,7 +26,7 @@ use Rattle.bpf_kept.specs.declared.notes.Term.{Term}
 use Rattle.bpf_kept.specs.declared.notes.TurnsLeft.{TurnsLeft}
 use Rattle.bpf_kept.specs.declared.notes.Change.{Change}
 use Rattle.bpf_kept.specs.declared.notes.Change.TheVariants.{Kept, Made}
-use Rattle.bpf_kept.specs.Terms.{Packet, Differs, DiffersBy, value_in, slot_number, is_noted, zero_term, frame_slots}
+use Rattle.bpf_kept.specs.Terms.{Packet, IsSeen, Differs, DiffersBy, value_in, slot_number, is_noted, zero_term, frame_slots}
 use Rattle.bpf_kept.specs.Slots.{slot_at, reaches}
 use Rattle.bpf_kept.specs.Rules.{Known, own, is_low, is_same, same_register, same_size, same_address, stores_alike, reached, pin_of, put, put_into, stored_by, puts_slot}
 use Rattle.bpf_kept.specs.Counters.{is_spared, is_made}
@@ -35,10 +35,15 @@ use Rattle.bpf_kept.proofs.HoldsLaw.{Elsewhere, register_is, register_elsewhere,
 use Rattle.bpf_kept.proofs.ZeroLaw.{flat_moved, does_keeps}
 use Rattle.bpf_kept.proofs.FrameLaw.{IsEnd, IsRoomy, Goes, reach_is, slot_access, slot_address, slot_now, slot_elsewhere, byte_elsewhere, byte_kept, clear_kept}
 use Rattle.bpf_kept.proofs.PutValue.{put_value, put_does}
-use Rattle.bpf_kept.proofs.PutLaw.{AtOnce, PutBoth, end_left, access_is, address_same, size_is, register_differs}
+use Rattle.bpf_kept.proofs.BothLaw.{PutBoth}
+use Rattle.bpf_kept.proofs.PutLaw.{AtOnce, end_left, access_is, address_same, size_is, register_differs}
 use Rattle.bpf_kept.proofs.ExtraLaw.{made_value, made_known, kept_hold, put_hold, made_hold, stored_hold}
 use Rattle.bpf_kept.proofs.PinLaw.{pin_is}
 use Rattle.bpf_kept.proofs.EdgeLaw.{Behind, numbers_equal}
+
+-- the bytes stay to which the old program doesn't come
+abbrev pub KeepsUnseen : ℕ → Packet → FlatState → FlatState → Type 0
+KeepsUnseen start packet f g = (a : ℕ) → a < addresses → (IsSeen start packet a → ⊥) → g.memory a ≡ f.memory a
 
 -- what both lead to
 pub record Paired (order : Order) (start : ℕ) (packet : Packet) (known : Known) (change : Change) (i moved : Insn) (f g : FlatState) : Type 0 where
@@ -50,6 +55,8 @@ pub record Paired (order : Order) (start : ℕ) (packet : Packet) (known : Known
   pub new_slot : new.slot ≡ g.slot + slot_count moved
   pub old_returns : old.returns ≡ f.returns
   pub new_returns : new.returns ≡ g.returns
+  pub unseen : KeepsUnseen start packet f old
+  pub new_unseen : KeepsUnseen start packet g new
   pub behind : Behind order start packet known change old new
   pub spared : (h : Holder) → is_spared change h ≡ true → value_in order start packet new (Some h) ≡ value_in order start packet g (Some h)
   pub unmade : (want : TurnsLeft) → is_made known change want ≡ true → ⊥
@@ -60,6 +67,7 @@ pub record Extra (order : Order) (start : ℕ) (packet : Packet) (known : Known)
   pub new_does : flat_does order moved g ≡ Some new
   pub new_slot : new.slot ≡ g.slot + slot_count moved
   pub new_returns : new.returns ≡ g.returns
+  pub unseen : KeepsUnseen start packet g new
   pub behind : Behind order start packet known (Made h moved) f new
   pub elsewhere : Elsewhere h (value_in order start packet g) (value_in order start packet new)
   pub here : value_in order start packet new (Some h) ≡ made_value order moved g
@@ -127,6 +135,8 @@ both_put order start packet known i moved r by f g at enc enc' into other p =
       new_slot = refl;
       old_returns = refl;
       new_returns = refl;
+      unseen = λ a small out. refl;
+      new_unseen = λ a small out. refl;
       behind = record {
         high = at.high;
         room = at.room;
@@ -154,6 +164,9 @@ slot_stored : (order : Order) (start n : ℕ) (size : Size) (r : Reg) (off : ℤ
 slot_stored order start n size r off x i f room end near e =
     let s = slot_access start n size r off e in
     record { registers = refl; memory = ap₂ (λ k a. memory_with (bytes_of order k x) a f.memory) s.eight (slot_address start n size f r off room end near s) }
+
+slot_unseen : (order : Order) (start : ℕ) (packet : Packet) (n x : ℕ) (f g : FlatState) → IsRoomy start → n < frame_slots → SlotStored order start n x f g → KeepsUnseen start packet f g
+slot_unseen order start packet n x f g room few s a small out = byte_elsewhere order start n x f g room few s.memory a small (λ among. let low = among.0 in let high = among.1 in out (inr (inl (omega arith, omega arith))))
 
 both_slot : (order : Order) (start : ℕ) (packet : Packet) (known : Known) (n x y : ℕ) (by pin : Option Term) (f g old new : FlatState) → ((t : Term) → pin ≡ Some t → Differs start t x 0) → AtOnce order start packet known f g → n < frame_slots → x < addresses → y < addresses → DiffersBy start by x y → SlotStored order start n x f old → SlotStored order start n y g new → IsFlat old → IsFlat new
     → Behind order start packet known (put (Slot n) pin by) old new
@@ -197,6 +210,8 @@ slots_put order start packet known change (Store size dst off src) f g at enc e 
       new_slot = refl;
       old_returns = refl;
       new_returns = refl;
+      unseen = slot_unseen order start packet n (flat_register f src) f old at.room s.small (slot_stored order start n size dst off (flat_register f src) i f at.room at.pointers.0 enc en);
+      new_unseen = slot_unseen order start packet n (flat_register g src) g new at.room s.small (slot_stored order start n size dst off (flat_register g src) i g at.room at.pointers.1 enc en);
       behind = both_slot order start packet known n (flat_register f src) (flat_register g src) h.0 (pin_of known.facts i) f g old new (λ t et. pin_is order start packet known.facts f g at.room at.flat at.pointers.0 at.all i t enc et) at s.small (at.flat.numbers (register_number src)) (at.new_flat.numbers (register_number src)) (differ h.0 (own known.facts src) refl h.1)
           (slot_stored order start n size dst off (flat_register f src) i f at.room at.pointers.0 enc en) (slot_stored order start n size dst off (flat_register g src) i g at.room at.pointers.1 enc en) (flat_after order i f old enc at.flat refl) (flat_after order i g new enc at.new_flat refl);
       spared = λ k e. (let q = slot_stored order start n size dst off (flat_register g src) i g at.room at.pointers.1 enc en in slot_elsewhere order start packet n (flat_register g src) g new at.room s.small q.registers q.memory (Some k) e);
@@ -225,6 +240,8 @@ slots_put order start packet known change (StoreImm size dst off imm) f g at enc
       new_slot = refl;
       old_returns = refl;
       new_returns = refl;
+      unseen = slot_unseen order start packet n (extended imm) f old at.room s.small (slot_stored order start n size dst off (extended imm) i f at.room at.pointers.0 enc.0 h.1);
+      new_unseen = slot_unseen order start packet n (extended imm) g new at.room s.small (slot_stored order start n size dst off (extended imm) i g at.room at.pointers.1 enc.0 h.1);
       behind = both_slot order start packet known n (extended imm) (extended imm) (Some zero_term) (pin_of known.facts i) f g old new (λ t et. pin_is order start packet known.facts f g at.room at.flat at.pointers.0 at.all i t enc et) at s.small (modulo_below imm) (modulo_below imm) (numbers_equal start (extended imm) (extended imm) (modulo_below imm) refl)
           (slot_stored order start n size dst off (extended imm) i f at.room at.pointers.0 enc.0 h.1) (slot_stored order start n size dst off (extended imm) i g at.room at.pointers.1 enc.0 h.1) (flat_after order i f old enc at.flat refl) (flat_after order i g new enc at.new_flat refl);
       spared = λ k e. (let q = slot_stored order start n size dst off (extended imm) i g at.room at.pointers.1 enc.0 h.1 in slot_elsewhere order start packet n (extended imm) g new at.room s.small q.registers q.memory (Some k) e);
@@ -238,7 +255,9 @@ same_bytes : (bytes : List ℕ) (a b : ℕ) (m other : ℕ → ℕ) → other b 
 same_bytes bytes a b m other e = let k : ℕ = modulo (pos b -ℤ pos a) addresses in ap (λ y. cond (ltb k (length bytes)) (slice_index bytes k) y) e
 
 -- what is known behind, and what the new program still has
-record BothStored (order : Order) (start : ℕ) (packet : Packet) (known : Known) (change : Change) (g old new : FlatState) : Type 0 where
+record BothStored (order : Order) (start : ℕ) (packet : Packet) (known : Known) (change : Change) (f g old new : FlatState) : Type 0 where
+  unseen : KeepsUnseen start packet f old
+  new_unseen : KeepsUnseen start packet g new
   behind : Behind order start packet known change old new
   spared : (h : Holder) → is_spared change h ≡ true → value_in order start packet new (Some h) ≡ value_in order start packet g (Some h)
   unmade : (want : TurnsLeft) → is_made known change want ≡ true → ⊥
@@ -246,13 +265,15 @@ record BothStored (order : Order) (start : ℕ) (packet : Packet) (known : Known
 both_store : (order : Order) (start : ℕ) (packet : Packet) (known : Known) (change : Change) (i moved : Insn) (w v : Access) (f g old new : FlatState) (k x y : ℕ) → AtOnce order start packet known f g → HasEncoding i → HasEncoding moved → Goes start packet known.left i moved f g → access_of i ≡ Some w → access_of moved ≡ Some v
     → byte_count v.size ≡ byte_count w.size → address g v.base v.offset ≡ address f w.base w.offset → reaches known.left (byte_count w.size) w.base w.offset v.base v.offset ≡ Some change → y ≡ x
     → flat_does order i f ≡ Some old → flat_does order moved g ≡ Some new → old.registers ≡ f.registers → new.registers ≡ g.registers
-    → old.memory ≡ memory_with (bytes_of order k x) (address f w.base w.offset) f.memory → new.memory ≡ memory_with (bytes_of order k y) (address g v.base v.offset) g.memory → BothStored order start packet known change g old new
+    → old.memory ≡ memory_with (bytes_of order k x) (address f w.base w.offset) f.memory → new.memory ≡ memory_with (bytes_of order k y) (address g v.base v.offset) g.memory → BothStored order start packet known change f g old new
 both_store order start packet known change i moved w v f g old new k x y at enc enc' leaves ew ev size there reach same od nd orr nr om nm =
     let access = access_is order start packet known i moved w v f g enc enc' at leaves ew ev size there in
     let r = reach_is start known.left (byte_count w.size) w.base v.base w.offset v.offset f g change access reach in
     let clear = clear_kept order start packet r.from r.to g new at.room nr (λ a small among out. byte_kept order moved v g new a nd ev small (λ j lt touched. r.bytes a j (subst (λ n. j < n) size lt) (touched ∙ ap (λ z. (z + j) % addresses) there) among out)) in
-    subst (λ change. BothStored order start packet known change g old new) (sym r.is)
+    subst (λ change. BothStored order start packet known change f g old new) (sym r.is)
     (record {
+      unseen = λ a small out. byte_kept order i w f old a od ew small (λ j lt touched. out (subst (IsSeen start packet) (sym touched) (leaves.seen w v j ew ev there lt (subst (λ n. j < n) (sym size) lt))));
+      new_unseen = λ a small out. byte_kept order moved v g new a nd ev small (λ j lt touched. out (subst (IsSeen start packet) (sym (touched ∙ ap (λ z. (z + j) % addresses) there)) (leaves.seen w v j ew ev there (subst (λ n. j < n) size lt) lt)));
       spared = λ h e. clear (Some h) e;
       unmade = λ want h. false≢true h;
       behind = record {
@@ -284,7 +305,7 @@ stores_there order start packet known change (Store size dst off src) (Store oth
     let new : FlatState = flat_store order (byte_count other) (flat_register g from) (address g base at) (flat_next moved g) in
     let stored = both_store order start packet known change i moved (record { base = dst; offset = off; size = size; reads = false; writes = true }) (record { base = base; offset = at; size = other; reads = false; writes = true }) f g old new (byte_count size) (flat_register f src) (flat_register g from) one enc enc' leaves refl refl
     (ap byte_count size_same) there reach value refl refl refl refl refl (ap (λ s. memory_with (bytes_of order (byte_count s) (flat_register g from)) (address g base at) g.memory) size_same) in
-    record { old = old; new = new; old_does = refl; new_does = refl; old_slot = refl; new_slot = refl; old_returns = refl; new_returns = refl; behind = stored.behind; spared = stored.spared; unmade = stored.unmade }
+    record { old = old; new = new; old_does = refl; new_does = refl; old_slot = refl; new_slot = refl; old_returns = refl; new_returns = refl; unseen = stored.unseen; new_unseen = stored.new_unseen; behind = stored.behind; spared = stored.spared; unmade = stored.unmade }
 stores_there order start packet known change (StoreImm size dst off imm) (StoreImm other base at value) f g one enc enc' leaves e reach =
     let a = and_parts (same_size size other) (int_eq imm value && same_address known.facts base at dst off) e in
     let b = and_parts (int_eq imm value) (same_address known.facts base at dst off) a.1 in
@@ -297,7 +318,7 @@ stores_there order start packet known change (StoreImm size dst off imm) (StoreI
     let new : FlatState = flat_store order (byte_count other) (extended value) (address g base at) (flat_next moved g) in
     let stored = both_store order start packet known change i moved (record { base = dst; offset = off; size = size; reads = false; writes = true }) (record { base = base; offset = at; size = other; reads = false; writes = true }) f g old new (byte_count size) (extended imm) (extended value) one enc enc' leaves refl refl
     (ap byte_count size_same) there reach (ap extended value_same) refl refl refl refl refl (ap (λ s. memory_with (bytes_of order (byte_count s) (extended value)) (address g base at) g.memory) size_same) in
-    record { old = old; new = new; old_does = refl; new_does = refl; old_slot = refl; new_slot = refl; old_returns = refl; new_returns = refl; behind = stored.behind; spared = stored.spared; unmade = stored.unmade }
+    record { old = old; new = new; old_does = refl; new_does = refl; old_slot = refl; new_slot = refl; old_returns = refl; new_returns = refl; unseen = stored.unseen; new_unseen = stored.new_unseen; behind = stored.behind; spared = stored.spared; unmade = stored.unmade }
 stores_there order start packet known change i moved f g one enc enc' leaves e reach = absurd (false≢true e)
 
 -- ---- the new program alone
@@ -311,6 +332,7 @@ put_alone order start packet known m r f g at enc into other value =
       new_does = nd;
       new_slot = refl;
       new_returns = refl;
+      unseen = λ a small out. refl;
       behind = record {
         high = at.high;
         room = at.room;
@@ -332,6 +354,7 @@ slot_alone order start packet known m n y f g new at enc few hy value q flat' do
       new_does = does;
       new_slot = slot;
       new_returns = returns;
+      unseen = slot_unseen order start packet n y g new at.room few q;
       elsewhere = slot_elsewhere order start packet n y g new at.room few q.registers q.memory;
       here = slot_now order start n y g new at.room few hy q.memory ∙ value;
       behind = record {

@@ -1,5 +1,5 @@
 -- Guards: extra tests that never lead to their trap where the old program's run goes on to its end. Nothing here speaks of runs.
-use Rattle.std.specs.Prelude.{ℕ, zero, suc, ◌+◌, ◌%◌, ◌==◌, pos, ◌+ℤ◌, ◌-ℤ◌, int_le, Bool, false, not, ◌&&◌, ◌||◌, List, [], ◌∷◌, ◌++◌, Option, Some, None, if◌then◌else◌}
+use Rattle.std.specs.Prelude.{ℕ, zero, suc, ◌+◌, ◌%◌, ◌^◌, ◌==◌, nat_lt, pos, ◌+ℤ◌, ◌-ℤ◌, int_le, Bool, false, not, ◌&&◌, ◌||◌, List, [], ◌∷◌, ◌++◌, Option, Some, None, if◌then◌else◌}
 use Rattle.std.specs.Int.{cast_signed, w64}
 use Rattle.std.specs.List.{list_any}
 use Rattle.std.specs.Option.{option_map_or}
@@ -16,17 +16,20 @@ use Rattle.bpf_insn.specs.declared.instruction.Insn.{Insn}
 use Rattle.bpf_insn.specs.declared.instruction.Insn.TheVariants.{Alu, JumpIf}
 use Rattle.bpf_semantics.specs.Blocks.{head_bytes}
 use Rattle.bpf_semantics.specs.Flat.{addresses}
+use Rattle.bpf_state.specs.State.{AbstractState}
 use Rattle.bpf_kept.specs.Far.{middle, bytes_before}
 use Rattle.bpf_kept.specs.Meaning.{Bounds}
 use Rattle.bpf_kept.specs.Terms.{Facts}
-use Rattle.bpf_kept.specs.Rules.{same_register, is_holder, is_register, is_same, pinned, of_number}
+use Rattle.bpf_kept.specs.States.{held_number}
+use Rattle.bpf_kept.specs.Rules.{Known, same_register, is_holder, is_register, is_same, pinned}
+use Rattle.bpf_kept.specs.Behind.{of_number}
 use Rattle.bpf_kept.specs.declared.notes.Holder.{Holder}
-use Rattle.bpf_kept.specs.declared.notes.Holder.TheVariants.{Register, Slot, Length}
+use Rattle.bpf_kept.specs.declared.notes.Holder.TheVariants.{Register, Length}
 use Rattle.bpf_kept.specs.declared.notes.Term.{Term}
 use Rattle.bpf_kept.specs.declared.notes.Fact.{Fact}
 use Rattle.bpf_kept.specs.declared.reach.GuardReach.{GuardReach}
 use Rattle.bpf_kept.specs.declared.reach.GuardLimit.{GuardLimit}
-use Rattle.bpf_kept.specs.declared.reach.GuardLimit.TheVariants.{Most, Least}
+use Rattle.bpf_kept.specs.declared.reach.GuardLimit.TheVariants.{Most, MostOfSmall, Least}
 use Rattle.bpf_kept.specs.declared.notes.Need.{Need}
 use Rattle.bpf_kept.specs.declared.notes.Need.TheVariants.{Below, Above}
 
@@ -89,10 +92,11 @@ begins_low front r reach least = is_ahead front.old r front.slot (Below ((pos re
 abbrev pub ends_high : Front → Reg → GuardReach → ℕ → Bool
 ends_high front r reach most = is_ahead front.old r front.slot (Above ((pos reach.end +ℤ reach.moved) -ℤ pos most))
 
--- What passes for being no greater isn't below 0, either: that would wrap.
+-- What passes for being no greater isn't below 0, either: that would wrap. A small number isn't.
 abbrev pub is_within : Front → GuardLimit → Reg → GuardReach → Bool
 is_within front (Least n) r reach = begins_low front r reach n
 is_within front (Most n) r reach = begins_low front r reach 0 && ends_high front r reach n
+is_within front (MostOfSmall n) r reach = ends_high front r reach n
 
 abbrev pub is_tested_by : Front → GuardLimit → Term → Reg → Bool
 is_tested_by front limit t r = option_map_or (is_within front limit r) (reach_of front.bounds t r) false
@@ -160,8 +164,22 @@ number_reached front n fact = option_map_or (is_reached front) (of_number n fact
 abbrev pub end_reached : Front → Facts → Reg → ℕ → Bool
 end_reached front facts dst n = has_end facts dst && list_any (number_reached front n) facts
 
-unfoldable pub passes : Front → Facts → Insn → Bool
-passes front facts (JumpIf Gt W64 dst (Imm imm) off) = is_limited front facts dst (Most (extended imm))
-passes front facts (JumpIf Gt W64 dst (FromReg src) off) = has_end facts src && list_any (register_reached front dst) facts
-passes front facts (JumpIf Lt W64 dst (Imm imm) off) = end_reached front facts dst (extended imm) || is_limited front facts dst (Least (extended imm))
-passes front facts i = false
+-- ---- which tests are guards that pass
+
+-- a small number is far from all that are below 0 as offsets
+abbrev pub small_end : ℕ
+small_end = 2 ^ 62
+
+abbrev pub is_small : Option AbstractState → Reg → Bool
+is_small state r = nat_lt (held_number state r).unsigned.hi small_end
+
+-- the numbers that pass where a register is tested for being greater than one
+abbrev pub most_limit : Option AbstractState → Reg → ℕ → GuardLimit
+most_limit state r n = if is_small state r then MostOfSmall n else Most n
+
+unfoldable pub passes : Front → Known → Insn → Bool
+passes front known (JumpIf Gt W64 dst (Imm imm) off) = is_limited front known.facts dst (most_limit known.state dst (extended imm))
+passes front known (JumpIf Gt W64 dst (FromReg src) off) = has_end known.facts src && list_any (register_reached front dst) known.facts
+passes front known (JumpIf Lt W64 dst (Imm imm) off) =
+    end_reached front known.facts dst (extended imm) || is_limited front known.facts dst (Least (extended imm))
+passes front known i = false

@@ -15,6 +15,7 @@ use Rattle.bpf_cert.specs.Limits.{IsCertificate}
 use Rattle.bpf_cert.specs.View.{CertificateView}
 use Rattle.bpf_safety.specs.Certified.{Certified}
 use Rattle.bpf_kept.specs.Meaning.{Bounds, FlatEnds, AreGiven, KeepsFlatMeaning, NeverStuck}
+use Rattle.bpf_kept.specs.States.{States, AreStates, AreFrom}
 use Rattle.bpf_kept.specs.Anywhere.{IsFar, EndsAnyhow, KeepsFarMeaning}
 use Rattle.bpf_kept.specs.Exact.{EndsExactly, KeepsExactMeaning}
 use Rattle.bpf_kept.specs.Matching.{Notes, Matches, StandsForExit}
@@ -49,17 +50,17 @@ ZeroStepIsStep = (place : Placement) (p : Instructions) (f g : FlatState) → Is
 
 -- ---- notes that match show that the meaning is kept
 
--- for one function, and a new program that is never stuck
+-- for a new program that is never stuck and whose states are known
 abbrev pub MatchingKeepsFlatMeaning : Type 0
 MatchingKeepsFlatMeaning =
-    (old new : Instructions) (notes : Notes) (bounds : Bounds) → IsProgram old.list → IsProgram new.list → Matches old new notes bounds → NeverStuck new bounds.length
-    → KeepsFlatMeaning old new bounds (StandsForExit old notes)
+    (old new : Instructions) (notes : Notes) (bounds : Bounds) (states : States) → IsProgram old.list → IsProgram new.list → Matches old new notes bounds states
+    → NeverStuck new bounds.length → AreStates new bounds.length states → KeepsFlatMeaning old new bounds (StandsForExit old notes)
 
--- with a certificate of the new program, for a range of lengths in which the contexts' is
+-- with a certificate of the new program, for a range of lengths in which the contexts' is, by notes alone or with the states that its check has
 abbrev pub CertifiedKeepsFlatMeaning : Type 0
 CertifiedKeepsFlatMeaning =
-    (old new : Instructions) (notes : Notes) (bounds : Bounds) (c : CertificateView) → IsProgram old.list → IsProgram new.list → IsCertificate c → Certified new c → c.least ≤ bounds.length → bounds.length ≤ c.most
-    → Matches old new notes bounds → KeepsFlatMeaning old new bounds (StandsForExit old notes)
+    (old new : Instructions) (notes : Notes) (bounds : Bounds) (states : States) (c : CertificateView) → IsProgram old.list → IsProgram new.list → IsCertificate c → Certified new c
+    → c.least ≤ bounds.length → bounds.length ≤ c.most → AreFrom new c states → Matches old new notes bounds states → KeepsFlatMeaning old new bounds (StandsForExit old notes)
 
 -- ---- traps
 

@@ -13,12 +13,18 @@ pub mod Exact
 pub mod Terms
 -- the slots of the frame
 pub mod Slots
+-- what is known of the new program's numbers by itself
+pub mod States
 -- what instructions make of that
 pub mod Rules
--- which way tests surely go
+-- what extra ones make, and what holds behind a change
+pub mod Behind
+-- which ways of tests neither program goes
 pub mod Ways
 -- counters of turns
 pub mod Counters
+-- calls of local functions
+pub mod Calls
 -- guards
 pub mod Guards
 -- what the notes have to say at each slot
@@ -28,7 +34,7 @@ pub mod Laws
 -- what notes that match show
 pub mod Shown
 -- why notes don't match
-pub mod NoteFaults
+pub mod Mismatches
 -- what the code hands on
 pub mod Fronts
 pub mod Knowns

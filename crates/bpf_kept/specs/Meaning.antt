@@ -13,14 +13,9 @@ use Rattle.bpf_semantics.specs.Placement.{StaysInside}
 use Rattle.bpf_semantics.specs.Blocks.{IsBlock}
 use Rattle.bpf_kept.specs.Far.{near, wide}
 use Rattle.bpf_kept.specs.Zero.{zero_start, zero_after}
-
 -- Of which runs it is said: how many bytes a context has, a block where contexts are blocks (`padded`); how often a call of a function comes to an
 -- instruction at most; and how many of the lowest bytes of each frame are accessed by r10 alone.
-pub record Bounds : Type 0 where
-  pub length : ℕ
-  pub padded : Bool
-  pub turns : ℕ
-  pub untouched : ℕ
+pub use Rattle.bpf_kept.specs.declared.bounds.Bounds.{Bounds}
 
 -- ---- the old program's run
 

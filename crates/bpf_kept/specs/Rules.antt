@@ -9,7 +9,6 @@ use Rattle.bpf_insn.specs.Effects.{registers_read, is_frame_pointer}
 use Rattle.bpf_insn.specs.Limits.{frame_bytes}
 use Rattle.bpf_insn.specs.Instruction.{register_number, byte_count}
 use Rattle.bpf_insn.specs.declared.instruction.Reg.{Reg}
-use Rattle.bpf_insn.specs.declared.instruction.Reg.TheVariants.{R0}
 use Rattle.bpf_insn.specs.declared.instruction.Size.{Size}
 use Rattle.bpf_insn.specs.declared.instruction.Operand.{Operand}
 use Rattle.bpf_insn.specs.declared.instruction.Operand.TheVariants.{Imm, Reg as FromReg}
@@ -20,8 +19,10 @@ use Rattle.bpf_insn.specs.declared.instruction.Cond.{Cond}
 use Rattle.bpf_insn.specs.declared.instruction.Cond.TheVariants.{Eq, Gt, Ge, Ne, SGt, SGe, Lt, Le, SLt, SLe}
 use Rattle.bpf_insn.specs.declared.instruction.EndBits.TheVariants.{B16 as E16, B32 as E32}
 use Rattle.bpf_insn.specs.declared.instruction.Insn.{Insn}
-use Rattle.bpf_insn.specs.declared.instruction.Insn.TheVariants.{Alu, Neg, MovSx, End, LoadImm64, Load, LoadSx, Store, StoreImm, Ja, JaLong, JumpIf, CallLocal, Exit}
+use Rattle.bpf_insn.specs.declared.instruction.Insn.TheVariants.{Alu, Neg, MovSx, End, LoadImm64, Load, LoadSx, Store, StoreImm, Ja, JaLong, JumpIf, CallLocal}
 use Rattle.bpf_semantics.specs.Flat.{addresses}
+use Rattle.bpf_num.specs.Operation.{num_alu}
+use Rattle.bpf_state.specs.State.{AbstractState}
 use Rattle.bpf_kept.specs.Far.{middle}
 use Rattle.bpf_kept.specs.declared.notes.Holder.{Holder}
 use Rattle.bpf_kept.specs.declared.notes.Holder.TheVariants.{Register, Slot, Length}
@@ -29,18 +30,24 @@ use Rattle.bpf_kept.specs.declared.notes.Term.{Term}
 use Rattle.bpf_kept.specs.declared.notes.Fact.{Fact}
 use Rattle.bpf_kept.specs.declared.notes.TurnsLeft.{TurnsLeft}
 use Rattle.bpf_kept.specs.declared.notes.Change.{Change}
-use Rattle.bpf_kept.specs.declared.notes.Change.TheVariants.{Kept, Put, Stored, Made}
-use Rattle.bpf_kept.specs.Terms.{Facts, is_noted, frame_slots, constant, zero_term, frame_offset, frame_end, plus, minus, negated, number_pin, pinned_number, times}
-use Rattle.bpf_kept.specs.Slots.{each_slot, slot_at, misses, reaches, is_clear}
+use Rattle.bpf_kept.specs.declared.notes.Change.TheVariants.{Kept, Put}
+use Rattle.bpf_kept.specs.Terms.{Facts, is_noted, frame_slots, zero_term, frame_offset, plus, minus, negated, number_pin, pinned_number, times}
+use Rattle.bpf_kept.specs.Slots.{each_slot, slot_at, misses, reaches}
+use Rattle.bpf_kept.specs.States.{held_number, operand_number}
 
 -- What is known in front of an instruction: facts; which slots of the frame may differ; what counts turns, where the old program may come to an
--- instruction so often; and how many of the frame's lowest bytes no access by another register than r10 goes to.
+-- instruction so often; how many of the frame's lowest bytes no access by another register than r10 goes to; what the function gives back, and
+-- a number that it never does; one that r0 of the new program isn't; and that program's state, if its certificate has one.
 pub record Known : Type 0 where
   pub facts : Facts
   pub apart : List Bool
   pub counters : List (Option TurnsLeft)
   pub turns : ℕ
   pub left : ℕ
+  pub back : Facts
+  pub spare : Option ℕ
+  pub barred : Option ℕ
+  pub state : Option AbstractState
 
 -- ---- which facts give which
 
@@ -197,6 +204,40 @@ abbrev pub has_low_result : Facts → Insn → Bool
 has_low_result facts (Alu op W64 dst src) = keeps_low op && list_all (is_low facts) (registers_read (Alu op W64 dst src))
 has_low_result facts i = false
 
+-- ---- operations of 32 bits, for which the new program has those of 64 bits
+
+-- one operation in both, whose low half depends on low halves alone
+abbrev pub widened_op : AluOp → AluOp → Bool
+widened_op Add Add = true
+widened_op Sub Sub = true
+widened_op Mul Mul = true
+widened_op And And = true
+widened_op Or Or = true
+widened_op Xor Xor = true
+widened_op Lsh Lsh = true
+widened_op Mov Mov = true
+widened_op op other = false
+
+abbrev pub same_operand : Operand → Operand → Bool
+same_operand (Imm a) (Imm b) = int_eq a b
+same_operand (FromReg a) (FromReg b) = same_register a b
+same_operand a b = false
+
+-- by 32 and more both shift differently
+abbrev pub shifts_alike : Known → AluOp → Operand → Bool
+shifts_alike known Lsh src = nat_lt (operand_number known.state src).unsigned.hi 32
+shifts_alike known op src = true
+
+-- By what is known of the new program's numbers its result has 32 bits at most.
+abbrev pub has_few_bits : Known → AluOp → Reg → Operand → Bool
+has_few_bits known op dst src = option_map_or (λ n. nat_lt n.unsigned.hi (2 ^ 32)) (num_alu W64 op (held_number known.state dst) (operand_number known.state src)) false
+
+-- What is operated on has the same low halves, so the result is the same.
+unfoldable pub is_widened : Known → Insn → Insn → Bool
+is_widened known (Alu op W32 dst src) (Alu other W64 into from) =
+    widened_op op other && (same_register dst into && (same_operand src from && (list_all (is_low known.facts) (registers_read (Alu other W64 into from)) && (shifts_alike known other from && has_few_bits known other into from))))
+is_widened known i moved = false
+
 -- ---- numbers by themselves
 
 -- What the old program has in a register or slot is one number: with a term it is 0. An index that isn't known has no such term.
@@ -206,20 +247,20 @@ is_pin h fact = is_none fact.of && (is_holder h fact.base && is_some fact.by)
 unfoldable pub pinned : Facts → Holder → Option Term
 pinned facts h = find (is_pin h) facts >>= λ fact. fact.by
 
--- the fact that says so
+-- it is so
 abbrev pub pin_fact : Holder → Term → Fact
 pin_fact h t = record { of = None; base = Some h; by = Some t }
 
--- what makes 0 with an operand
+-- so it is of an operand
 abbrev pub operand_pin : Facts → Operand → Option Term
 operand_pin facts (Imm imm) = Some (number_pin (extended imm))
 operand_pin facts (FromReg r) = pinned facts (Register r)
 
--- which number it is in the old program, if it is one wherever frames lie
+-- and which number the old program has there, if that is one wherever frames lie
 abbrev pub old_number : Facts → Operand → Option ℕ
 old_number facts src = operand_pin facts src >>= pinned_number
 
--- What an instruction puts or stores: what the machine makes of such numbers. A byte swap isn't told, since it depends on the order of bytes.
+-- What it puts or stores, by such numbers: what the machine makes of them. A byte swap isn't told, since it depends on the order of bytes.
 abbrev pub old_result : Facts → Insn → Option ℕ
 old_result facts (Alu Mov width dst src) = option_map (alu width Mov 0) (old_number facts src)
 old_result facts (Alu op width dst src) = old_number facts (FromReg dst) >>= λ a. option_map (alu width op a) (old_number facts src)
@@ -328,10 +369,9 @@ is_jump (Ja off) = true
 is_jump (JaLong off) = true
 is_jump i = false
 
--- the same instruction does the same: a test answers alike, and the end gives the same number
+-- the same test answers alike
 abbrev pub is_kept : Facts → Insn → Bool
 is_kept facts (JumpIf cond width dst src off) = reads_same facts (JumpIf cond width dst src (pos 0)) || by_equality facts (JumpIf cond width dst src off)
-is_kept facts Exit = is_same facts R0
 is_kept facts i = false
 
 -- neither changes a register or the memory, and both do the same
@@ -344,7 +384,7 @@ low_result facts i = if has_low_result facts i then Some None else None
 
 abbrev pub put_by : Known → Bool → Insn → Insn → Option (Option Term)
 put_by known true i moved = option_or (option_map Some (result_term known i)) (low_result known.facts i)
-put_by known false i moved = if loads_alike known i moved then Some (Some zero_term) else if is_framed i moved then Some (Some frame_offset) else None
+put_by known false i moved = if loads_alike known i moved || is_widened known i moved then Some (Some zero_term) else if is_framed i moved then Some (Some frame_offset) else None
 
 -- of two terms
 abbrev pub both : (Term → Term → Term) → Option Term → Option Term → Option Term
@@ -380,114 +420,3 @@ stores known same i moved = option_or (if same then puts_slot known.facts i else
 -- what both change, where the one stands for the other; `same` says whether they are the same but for where they lead
 unfoldable pub paired : Known → Bool → Insn → Insn → Option Change
 paired known same i moved = if keeps known.facts same i moved then Some Kept else option_or (stores known same i moved) (puts known same i moved)
-
--- ---- extra instructions, while the old program stands still
-
-abbrev pub sum_base : Option Holder → Option Holder → Option Holder → Bool
-sum_base a b want = (is_none a && is_base b want) || (is_none b && is_base a want)
-
-abbrev pub difference_base : Option Holder → Option Holder → Option Holder → Bool
-difference_base a b want = (is_none b && is_base a want) || (is_base a b && is_none want)
-
-abbrev pub is_known : Option Term → Option Term → Bool
-is_known by want = option_map_or (λ t. is_enough (Some t) want) by false
-
--- the sum of what a register has and what the operand has; likewise the difference
-abbrev pub is_sum : Reg → Fact → Fact → Fact → Bool
-is_sum dst b want a = is_register dst a.of && (sum_base a.base b.base want.base && is_known (both plus a.by b.by) want.by)
-
-abbrev pub is_difference : Reg → Fact → Fact → Fact → Bool
-is_difference dst b want a = is_register dst a.of && (difference_base a.base b.base want.base && is_known (both minus a.by b.by) want.by)
-
-abbrev pub is_moved : Fact → Fact → Bool
-is_moved b want = is_base b.base want.base && is_enough b.by want.by
-
-abbrev pub made_by : Facts → AluOp → Reg → Fact → Fact → Bool
-made_by facts Mov dst want b = is_moved b want
-made_by facts Add dst want b = list_any (is_sum dst b want) facts
-made_by facts Sub dst want b = list_any (is_difference dst b want) facts
-made_by facts op dst want b = false
-
--- the operand by itself: a constant, or the frame's end
-abbrev pub known_number : Option Holder → Term → Fact
-known_number of t = record { of = of; base = None; by = Some t }
-
-abbrev pub known_operand : Operand → Option Fact
-known_operand (Imm imm) = Some (known_number None (constant (extended imm)))
-known_operand (FromReg r) = if is_frame_pointer r then Some (known_number (Some (Register r)) frame_end) else None
-
--- what is known of the operand: of a register, or of 0 and so of each constant
-abbrev pub of_number : ℕ → Fact → Option Fact
-of_number n fact = if is_none fact.of then option_map (λ t. record { of = None; base = fact.base; by = Some (plus t (constant n)) }) fact.by else None
-
-abbrev pub of_operand : Operand → Fact → Option Fact
-of_operand (Imm imm) fact = of_number (extended imm) fact
-of_operand (FromReg r) fact = if is_register r fact.of then Some fact else None
-
-abbrev pub by_operand : Facts → AluOp → Reg → Operand → Fact → Fact → Bool
-by_operand facts op dst src want fact = option_map_or (made_by facts op dst want) (of_operand src fact) false
-
-abbrev pub made_from : Facts → AluOp → Reg → Operand → Fact → Bool
-made_from facts op dst src want = option_map_or (made_by facts op dst want) (known_operand src) false || list_any (by_operand facts op dst src want) facts
-
--- what is in a slot
-abbrev pub of_slot : ℕ → Fact → Fact → Bool
-of_slot n want fact = is_holder (Slot n) fact.of && is_moved fact want
-
-unfoldable pub made : Facts → Insn → Fact → Bool
-made facts (Alu op W64 dst src) want = made_from facts op dst src want
-made facts (LoadImm64 dst value) want = is_moved (known_number None (constant value)) want || list_any (λ fact. option_map_or (λ b. is_moved b want) (of_number value fact) false) facts
-made facts (Load size dst src off) want = option_map_or (λ n. list_any (of_slot n want) facts) (slot_at size src off) false
-made facts (Store size dst off src) want = made_from facts Mov src (FromReg src) want
-made facts (StoreImm size dst off imm) want = made_from facts Mov R0 (Imm imm) want
-made facts i want = false
-
--- ---- what holds behind a change
-
--- it is of neither program's register or slot
-abbrev pub stays : Holder → Fact → Bool
-stays h fact = not (is_holder h fact.of) && not (is_holder h fact.base)
-
--- what is put, and what is left of the rest
-abbrev pub pins : Option Holder → Fact → Term → Bool
-pins h want t = gives (record { of = None; base = h; by = Some t }) want
-
-abbrev pub put_gives : Facts → Fact → Option Term → Fact → Bool
-put_gives facts fact pin want =
-    gives fact want || (option_map_or (pins fact.of want) pin false || option_map_or (λ h. list_any (λ have. stays h have && gives have want) facts) fact.of false)
-
-abbrev pub made_gives : Facts → Holder → Insn → Fact → Bool
-made_gives facts h i want = (is_holder h want.of && made facts i want) || list_any (λ have. not (is_holder h have.of) && gives have want) facts
-
-abbrev pub outlives : ℕ → ℕ → Fact → Bool
-outlives from to fact = is_clear from to fact.of && is_clear from to fact.base
-
-abbrev pub stored_gives : Facts → ℕ → ℕ → Fact → Bool
-stored_gives facts from to want = list_any (λ have. outlives from to have && gives have want) facts
-
-abbrev pub change_gives : Facts → Change → Fact → Bool
-change_gives facts Kept want = list_any (λ have. gives have want) facts
-change_gives facts (Put fact pin) want = put_gives facts fact pin want
-change_gives facts (Stored from to) want = stored_gives facts from to want
-change_gives facts (Made h i) want = made_gives facts h i want
-
--- that 0 is 0 holds always
-unfoldable pub holds_behind : Facts → Change → Fact → Bool
-holds_behind facts change want = gives (known_number None zero_term) want || change_gives facts change want
-
--- a register or slot has the same in both
-abbrev pub by_itself : Holder → Fact
-by_itself h = record { of = Some h; base = Some h; by = Some zero_term }
-
--- a slot in which the programs may have something else behind a change: it was one, or it is written
-abbrev pub is_parted : List Bool → Change → ℕ → Bool
-is_parted apart (Put fact pin) n = is_holder (Slot n) fact.of || is_noted apart n
-is_parted apart (Made h i) n = same_holder (Slot n) h || is_noted apart n
-is_parted apart change n = is_noted apart n
-
--- Each slot that isn't noted as one has the same. Else the old program would read a counter as its own number.
-abbrev pub is_told : Known → Change → List Bool → ℕ → Bool
-is_told known change apart n = not (is_parted known.apart change n) || (is_noted apart n || holds_behind known.facts change (by_itself (Slot n)))
-
-unfoldable pub are_told : Known → Change → List Bool → Bool
-are_told known change apart = each_slot (is_told known change apart) frame_slots

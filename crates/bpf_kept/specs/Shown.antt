@@ -6,10 +6,6 @@ use Rattle.bpf_kept.specs.Meaning.{Bounds, KeepsFlatMeaning}
 use Rattle.bpf_kept.specs.Anywhere.{KeepsFarMeaning}
 use Rattle.bpf_kept.specs.Exact.{KeepsExactMeaning}
 use Rattle.bpf_kept.specs.Matching.{Notes, StandsForExit}
-use Rattle.bpf_kept.specs.declared.bounds.RunBounds.{RunBounds}
-
-abbrev pub bounds_of : RunBounds → Bounds
-bounds_of b = record { length = b.length; padded = b.padded; turns = b.turns; untouched = b.untouched }
 
 -- The new program keeps the old one's meaning on each context of so many bytes, of the runs that come to no instruction too often in one call, and leave
 -- the lowest bytes of each frame to r10: on plain addresses, with frames near and wide; so wherever memory lies far and whatever is uninitialised; and so

@@ -1,5 +1,5 @@
 -- Terms: how far what the new program has is from what the old one has.
-use Rattle.std.specs.Prelude.{◌≡◌, ℕ, ◌+◌, ◌-◌, ◌*◌, ◌%◌, ◌^◌, ◌<◌, ◌==◌, ◌⊎◌, nat_lt, ℤ, pos, ◌+ℤ◌, ◌-ℤ◌, Bool, true, false, List, get_or, Option, Some, None, if◌then◌else◌}
+use Rattle.std.specs.Prelude.{◌≡◌, ℕ, ◌+◌, ◌-◌, ◌*◌, ◌%◌, ◌^◌, ◌<◌, ◌≤◌, ◌==◌, ◌⊎◌, nat_lt, ℤ, pos, ◌+ℤ◌, ◌-ℤ◌, Bool, true, false, List, [], ◌∷◌, get_or, Option, Some, None, if◌then◌else◌}
 use Rattle.std.specs.List.{AllByRecursion}
 use Rattle.bpf_insn.specs.Arithmetic.{modulo}
 use Rattle.bpf_insn.specs.Limits.{frame_bytes}
@@ -25,10 +25,13 @@ frame_slots = 64
 abbrev pub slot_number : Order → ℕ → FlatState → ℕ → ℕ
 slot_number order own f n = if nat_lt n frame_slots then flat_number order f 8 (own + 8 * n) else 0
 
--- What the old program is given: where its bytes begin, and how many they are. In blocks that is the packet.
+-- What lies around the own frame: what the old program is given, where its bytes begin, and how many they are (in blocks that is the packet). And where
+-- the frames begin that wait, the nearest caller's first, of which no access goes to so many of the lowest bytes.
 pub record Packet : Type 0 where
   pub first : ℕ
   pub length : ℕ
+  pub waiting : List ℕ
+  pub left : ℕ
 
 -- what a register or a slot holds, or 0; the packet's length is the same in both programs, all along
 abbrev pub value_in : Order → ℕ → Packet → FlatState → Option Holder → ℕ
@@ -73,13 +76,18 @@ is_noted noted n = get_or noted n false
 abbrev pub IsApart : ℕ → List Bool → ℕ → Type 0
 IsApart own apart a = (n : ℕ) × (n < frame_slots) × (is_noted apart n ≡ true) × IsAmong (own + 8 * n) 8 a
 
--- the old program may come to the byte: it lies below the context, where frames are, or in what is given
-abbrev pub IsSeen : Packet → ℕ → Type 0
-IsSeen packet a = (a < middle) ⊎ IsAmong packet.first packet.length a
+-- the byte lies in a frame that waits, above so many of its lowest bytes
+abbrev pub IsWaiting : ℕ → List ℕ → ℕ → Type 0
+IsWaiting left [] a = ⊥
+IsWaiting left (start ∷ starts) a = ((start + left ≤ a) × (a < start + frame_bytes)) ⊎ IsWaiting left starts a
+
+-- the old program may come to the byte: it lies in what is given, in the own frame, or in one that waits
+abbrev pub IsSeen : ℕ → Packet → ℕ → Type 0
+IsSeen own packet a = IsAmong packet.first packet.length a ⊎ (IsAmong own frame_bytes a ⊎ IsWaiting packet.left packet.waiting a)
 
 -- Each other byte that the old program may come to is the same. A block's head and padding the new one alone has.
 abbrev pub IsCommon : ℕ → Packet → List Bool → FlatState → FlatState → Type 0
-IsCommon own packet apart f g = (a : ℕ) → a < addresses → IsSeen packet a → (IsApart own apart a → ⊥) → g.memory a ≡ f.memory a
+IsCommon own packet apart f g = (a : ℕ) → a < addresses → IsSeen own packet a → (IsApart own apart a → ⊥) → g.memory a ≡ f.memory a
 
 -- ---- arithmetic on terms
 

@@ -11,6 +11,7 @@ use crate::notes::{Change, Fact, Holder, Term};
 use crate::pins::pin_of;
 use crate::results::{low_result, put_into, reads_same, result_term};
 use crate::terms::{are_offsets, frame_offset, same_term, zero};
+use crate::widened::is_widened;
 use bpf_insn::{AluOp, Cond, FRAME_BYTES, Insn, Operand, Reg, Width};
 
 /// Whether one moves the end of the own frame to a register, and the other puts its offset there.
@@ -169,11 +170,11 @@ fn is_kept(facts: &[Fact], insn: &Insn) -> bool
 {
     match *insn {
         Insn::JumpIf { .. } => reads_same(facts, &undirected(insn)) || by_equality(facts, insn),
-        Insn::Exit => is_same(facts, Reg::R0),
         Insn::Alu { .. } | Insn::Neg { .. } | Insn::MovSx { .. } | Insn::End { .. } => false,
         Insn::LoadImm64 { .. } | Insn::Load { .. } | Insn::LoadSx { .. } => false,
         Insn::Store { .. } | Insn::StoreImm { .. } | Insn::Atomic { .. } => false,
-        Insn::Ja { .. } | Insn::JaLong { .. } | Insn::CallLocal { .. } => false,
+        Insn::Ja { .. } | Insn::JaLong { .. } => false,
+        Insn::CallLocal { .. } | Insn::Exit => false,
     }
 }
 
@@ -196,7 +197,7 @@ fn put_by(known: &KnownHere<'_>, same: bool, insn: &Insn, moved: &Insn) -> Optio
             Some(t) => Some(Some(t)),
             None => low_result(known.facts, insn),
         }
-    } else if loads_alike(known, insn, moved) {
+    } else if loads_alike(known, insn, moved) || is_widened(known, insn, moved) {
         Some(Some(zero()))
     } else if is_framed(insn, moved) {
         Some(Some(frame_offset()))

@@ -5,7 +5,8 @@ ghost use Rattle.std.specs.List.{list_any};
 ghost use Rattle.std.specs.Option.{option_map_or};
 ghost use Rattle.bpf_kept.specs.Terms.{is_noted};
 ghost use Rattle.bpf_kept.specs.Slots.{each_slot};
-ghost use Rattle.bpf_kept.specs.Rules.{is_holder, same_holder, stays, pins, put_gives, made, made_gives, gives, outlives, stored_gives, change_gives, holds_behind, is_parted, is_told, are_told};
+ghost use Rattle.bpf_kept.specs.Rules.{is_holder, same_holder, gives};
+ghost use Rattle.bpf_kept.specs.Behind.{stays, pins, put_gives, made, made_gives, outlives, stored_gives, change_gives, holds_behind, is_parted, is_told, are_told};
 ghost use Rattle.bpf_kept.specs.Knowns.{known_of};
 
 use crate::facts::{gives, is_holder, known_number, same_holder, stays};
@@ -119,7 +120,7 @@ fn change_gives(facts: &[Fact], change: Change, want: Fact) -> bool
 }
 
 /// Whether a fact holds behind a change, by those in front of it.
-#[tactic(auto, unfolding(crate::specs::Rules::holds_behind))]
+#[tactic(auto, unfolding(crate::specs::Behind::holds_behind))]
 pub fn holds_behind(facts: &[Fact], change: Change, want: Fact) -> bool
     ensures { result ≡ holds_behind facts.now change want }
 {

@@ -160,7 +160,7 @@ fn makes_counter(turns: u64, counters: &[Option<TurnsLeft>], insn: &Insn, want: 
 // ---- behind a change
 
 /// Whether a change doesn't overwrite a register or slot.
-fn is_spared(change: Change, h: Holder) -> bool
+pub fn is_spared(change: Change, h: Holder) -> bool
     ensures { result ≡ is_spared change h }
 {
     match change {

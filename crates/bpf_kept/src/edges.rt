@@ -1,15 +1,19 @@
 //! Edges: what is noted where an instruction leads.
 
-ghost use Rattle.std.specs.Prelude.{◌≡◌, option_copied};
+ghost use Rattle.std.specs.Prelude.{◌≡◌, true, option_copied};
 ghost use Rattle.std.specs.List.{list_all};
-ghost use Rattle.bpf_kept.specs.Rules.{holds_behind};
-ghost use Rattle.bpf_kept.specs.Matching.{note_at, said, is_given, suits, arrives};
+ghost use Rattle.std.specs.Option.{option_map_or};
+ghost use Rattle.bpf_kept.specs.Calls.{is_this};
+ghost use Rattle.bpf_kept.specs.Behind.{holds_behind};
+ghost use Rattle.bpf_kept.specs.Matching.{note_at, said, still_barred, is_given, keeps_back, suits, arrives};
 ghost use Rattle.bpf_kept.specs.Knowns.{known_of};
 
 use crate::behind::{are_told, holds_behind};
-use crate::counters::all_count_behind;
+use crate::calls::is_this;
+use crate::counters::{all_count_behind, is_spared};
 use crate::known::{KnownHere, said};
-use crate::notes::{Change, Fact, Note};
+use crate::notes::{Change, Fact, Holder, Note};
+use bpf_insn::Reg;
 
 /// What is noted of a new slot.
 pub fn note_at(notes: &[Option<Note>], slot: u32) -> Option<&Note>
@@ -32,7 +36,7 @@ pub struct Arrival {
 }
 
 /// Whether all hold behind a change.
-fn all_hold(facts: &[Fact], change: Change, wants: &[Fact]) -> bool
+pub fn all_hold(facts: &[Fact], change: Change, wants: &[Fact]) -> bool
     ensures { result ≡ list_all (holds_behind facts.now change) wants.now }
 {
     wants.iter().all(|want| holds_behind(facts, change, *want))
@@ -46,20 +50,51 @@ fn said_holds(facts: &[Fact], change: Change, note: &Note) -> bool
     all_hold(facts, change, wants.as_slice())
 }
 
-/// Whether what is noted asks for no more than what holds: its facts, each slot of the frame, and its counters.
+/// Whether r0 of the new program is still known not to be this number.
+fn still_barred(known: &KnownHere<'_>, change: Change, barred: Option<u64>) -> bool
+    ensures { result ≡ option_map_or (still_barred (known_of known.now) change) barred true }
+{
+    match barred {
+        Some(n) => is_spared(change, Holder::Register(Reg::R0)) && is_this(known.barred, n),
+        None => true,
+    }
+}
+
+/// Whether what is noted asks for no more than what holds: its facts, each slot of the frame, its counters, and what r0 isn't.
 fn is_given(known: &KnownHere<'_>, change: Change, step: Option<u32>, note: &Note) -> bool
     ensures { result ≡ is_given (known_of known.now) change step note.now }
 {
     said_holds(known.facts, change, note)
         && are_told(known, change, &note.apart)
         && all_count_behind(known, change, step, &note.counters)
+        && still_barred(known, change, note.barred)
+}
+
+/// Whether the number that a function never gives back is the one that is known.
+fn keeps_spare(spare: Option<u64>, note: &Note) -> bool
+    ensures { result ≡ option_map_or (is_this note.now.spare) spare true }
+{
+    match spare {
+        Some(n) => is_this(note.spare, n),
+        None => true,
+    }
+}
+
+/// Whether what the function gives back as the note says, and never, is what is known of it.
+fn keeps_back(known: &KnownHere<'_>, note: &Note) -> bool
+    ensures { result ≡ keeps_back (known_of known.now) note.now }
+{
+    all_hold(&note.back, Change::Kept, known.back) && keeps_spare(known.spare, note)
 }
 
 /// Whether it does, in front of the old instruction, with few enough extra ones.
-fn suits(known: &KnownHere<'_>, change: Change, edge: Arrival, note: &Note) -> bool
+pub fn suits(known: &KnownHere<'_>, change: Change, edge: Arrival, note: &Note) -> bool
     ensures { result ≡ suits (known_of known.now) change edge.step edge.slot edge.most note.now }
 {
-    note.old == edge.slot && note.extras <= edge.most && is_given(known, change, edge.step, note)
+    note.old == edge.slot
+        && note.extras <= edge.most
+        && is_given(known, change, edge.step, note)
+        && keeps_back(known, note)
 }
 
 /// Whether an edge leads where that is so.

@@ -1,7 +1,8 @@
 //! Facts: which give which, and what they say of a register or of a slot of the frame.
 
 ghost use Rattle.std.specs.Prelude.{◌≡◌};
-ghost use Rattle.bpf_kept.specs.Rules.{same_register, same_holder, is_holder, is_register, is_base, gives, is_own, own_in, own, is_same, is_low_fact, is_low, is_pin, pinned, pin_fact, is_number, numbered, stays, by_itself, known_number};
+ghost use Rattle.bpf_kept.specs.Rules.{same_register, same_holder, is_holder, is_register, is_base, gives, is_own, own_in, own, is_same, is_low_fact, is_low, is_pin, pinned, pin_fact, is_number, numbered};
+ghost use Rattle.bpf_kept.specs.Behind.{stays, by_itself, known_number};
 
 use crate::notes::{Fact, Holder, Term};
 use crate::terms::{is_enough, is_zero, zero};

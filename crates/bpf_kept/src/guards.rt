@@ -7,7 +7,8 @@ ghost use Rattle.bpf_insn.specs.Effects.{register_written};
 ghost use Rattle.bpf_insn.specs.Instruction.{byte_count, register_number};
 ghost use Rattle.std.specs.List.{list_any};
 ghost use Rattle.bpf_kept.specs.Fronts.{front};
-ghost use Rattle.bpf_kept.specs.Guards.{if_by, accesses_by, is_passed, is_met, is_ahead, begins_low, ends_high, is_within, is_tested_by, is_tested, guarded, front_behind, is_added, guards_sum, is_limited, is_end_term, is_end, has_end, is_reached_by, is_reached, register_reached, number_reached, end_reached, passes};
+ghost use Rattle.bpf_kept.specs.Guards.{if_by, accesses_by, is_passed, is_met, is_ahead, begins_low, ends_high, is_within, is_tested_by, is_tested, guarded, front_behind, is_added, guards_sum, is_limited, is_end_term, is_end, has_end, is_reached_by, is_reached, register_reached, number_reached, end_reached, most_limit, passes};
+ghost use Rattle.bpf_kept.specs.Knowns.{known_of};
 ghost use Rattle.bpf_kept.specs.Rules.{pinned};
 ghost use Rattle.bpf_kept.specs.declared.reach.GuardLimit.TheVariants.{Least};
 ghost use Rattle.bpf_kept.specs.declared.notes.Holder.TheVariants.{Register};
@@ -15,12 +16,14 @@ ghost use Rattle.bpf_insn.specs.declared.instruction.Width.TheVariants.{W64};
 ghost use Rattle.bpf_insn.specs.declared.instruction.Insn.TheVariants.{JumpIf};
 ghost use Rattle.bpf_insn.specs.Limits.{max_slots};
 
-use crate::bounds::RunBounds;
+use crate::bounds::Bounds;
 use crate::code::insn_at;
 use crate::facts::{is_holder, is_register, is_same, pinned, same_register};
+use crate::known::KnownHere;
 use crate::made::of_number;
 use crate::notes::{Fact, Holder, Need, Term};
 use crate::reach::{GuardLimit, GuardReach, in_context, reach_of};
+use crate::states::is_small;
 use bpf_insn::{Access, AluOp, Code, Cond, Insn, Operand, Reg, Size, Width, extended};
 use bpf_semantics::HEAD_BYTES;
 
@@ -31,7 +34,7 @@ const FARTHEST_AHEAD: u32 = 33;
 #[derive(Clone, Copy)]
 pub struct GuardSite {
     pub slot: u32,
-    pub bounds: RunBounds,
+    pub bounds: Bounds,
 }
 
 // ---- accesses that surely follow
@@ -153,6 +156,7 @@ fn is_within<C: Code>(
         GuardLimit::Most { most } => {
             begins_low(old, site, r, reach, 0) && ends_high(old, site, r, reach, most)
         }
+        GuardLimit::MostOfSmall { most } => ends_high(old, site, r, reach, most),
         GuardLimit::Least { least } => begins_low(old, site, r, reach, least),
     }
 }
@@ -385,16 +389,26 @@ fn passes_lower<C: Code>(old: &C, site: GuardSite, facts: &[Fact], dst: Reg, lea
         || is_limited(old, site, facts, dst, GuardLimit::Least { least })
 }
 
+/// Which numbers of a register pass that is tested for being greater than one.
+fn most_limit(known: &KnownHere<'_>, dst: Reg, most: u64) -> GuardLimit
+    ensures { result ≡ most_limit (known_of known.now).state dst most }
+{
+    if is_small(known.state, dst) {
+        GuardLimit::MostOfSmall { most }
+    } else {
+        GuardLimit::Most { most }
+    }
+}
+
 /// Whether a test is a guard that passes.
 #[tactic(auto, unfolding(crate::specs::Guards::passes))]
-fn passes_test<C: Code>(old: &C, site: GuardSite, facts: &[Fact], test: WideTest) -> bool
-    ensures { (off : ℤ) → result ≡ passes (front (C.program old.now) site) facts.now (JumpIf test.cond W64 test.dst test.src off) }
+fn passes_test<C: Code>(old: &C, site: GuardSite, known: &KnownHere<'_>, test: WideTest) -> bool
+    ensures { (off : ℤ) → result ≡ passes (front (C.program old.now) site) (known_of known.now) (JumpIf test.cond W64 test.dst test.src off) }
 {
+    let facts = known.facts;
     match (test.cond, test.src) {
         (Cond::Gt, Operand::Imm(imm)) => {
-            let limit = GuardLimit::Most {
-                most: extended(imm),
-            };
+            let limit = most_limit(known, test.dst, extended(imm));
             is_limited(old, site, facts, test.dst, limit)
         }
         (Cond::Gt, Operand::Reg(end)) => passes_end(old, site, facts, test.dst, end),
@@ -405,8 +419,8 @@ fn passes_test<C: Code>(old: &C, site: GuardSite, facts: &[Fact], test: WideTest
 
 /// Whether an instruction is a guard that passes.
 #[tactic(auto, unfolding(crate::specs::Guards::passes))]
-pub fn passes<C: Code>(old: &C, site: GuardSite, facts: &[Fact], insn: &Insn) -> bool
-    ensures { result ≡ passes (front (C.program old.now) site) facts.now insn.now }
+pub fn passes<C: Code>(old: &C, site: GuardSite, known: &KnownHere<'_>, insn: &Insn) -> bool
+    ensures { result ≡ passes (front (C.program old.now) site) (known_of known.now) insn.now }
 {
     let Insn::JumpIf {
         cond,
@@ -418,5 +432,5 @@ pub fn passes<C: Code>(old: &C, site: GuardSite, facts: &[Fact], insn: &Insn) ->
     else {
         return false;
     };
-    passes_test(old, site, facts, WideTest { cond, dst, src })
+    passes_test(old, site, known, WideTest { cond, dst, src })
 }

@@ -1,6 +1,6 @@
 //! What is known in front of an instruction of the new program.
 
-ghost use Rattle.std.specs.Prelude.{◌≡◌, ◌+◌, ◌++◌, ◌<◌, ◌≤◌, [], ◌∷◌, not, false, if◌then◌else◌, length as list_length};
+ghost use Rattle.std.specs.Prelude.{◌≡◌, ◌+◌, ◌++◌, ◌<◌, ◌≤◌, [], ◌∷◌, not, false, option_copied, if◌then◌else◌, length as list_length};
 ghost use Rattle.std.specs.List.{list_all};
 ghost use Rattle.std.specs.Option.{option_map_or};
 ghost use Rattle.bpf_insn.specs.Instruction.{insn_at};
@@ -8,18 +8,20 @@ ghost use Rattle.bpf_kept.specs.Far.{bytes_before};
 ghost use Rattle.bpf_kept.specs.Terms.{is_noted, frame_slots};
 ghost use Rattle.bpf_kept.specs.Slots.{slot_facts};
 ghost use Rattle.bpf_kept.specs.Matching.{is_zero_slot, same_slot, said, end_facts, facts_at, hands_frame, left_alone, length_facts, start_facts};
-ghost use Rattle.bpf_kept.specs.Knowns.{facts_in, first_facts};
+ghost use Rattle.bpf_kept.specs.Knowns.{facts_in, first_facts, known_of, known_for};
 
+use crate::bounds::Bounds;
 use crate::facts::{by_itself, known_number, pin_fact};
 use crate::notes::{Fact, Holder, Note, SLOTS, TurnsLeft};
 use crate::slots::is_noted;
 use crate::terms::{MIDDLE, constant, context_offset, frame_end, negated, number_pin, zero};
 use bpf_insn::{Code, FRAME_BYTES, Insn, Operand, Reg};
 use bpf_semantics::HEAD_BYTES;
+use bpf_state::State;
 
 /// How many facts hold at most in front of an instruction: those of the note, one for each slot of the frame that the old program has 0 in, one for
-/// each that is the same in both, and those of r10, or of the start.
-const MOST_FACTS: usize = 160;
+/// each that is the same in both, those of r10, or of the start, and those that hold behind a call.
+const MOST_FACTS: usize = 162;
 
 /// Facts, in order: so many of the first ones.
 #[derive(Drop)]
@@ -30,7 +32,7 @@ pub struct FactList {
 
 impl FactList {
     /// None.
-    fn new() -> Self
+    pub fn new() -> Self
         ensures facts { facts_in result ≡ [] }
         ensures count { result.count ≡ 0 }
     {
@@ -46,8 +48,8 @@ impl FactList {
     }
 
     /// One more.
-    fn push(&mut self, fact: Fact)
-        requires { self.old.count < 160 }
+    pub fn push(&mut self, fact: Fact)
+        requires { self.old.count < 162 }
         ensures facts { facts_in self.new ≡ facts_in self.old ++ fact ∷ [] }
         ensures count { self.new.count ≡ self.old.count + 1 }
     {
@@ -57,7 +59,7 @@ impl FactList {
 
     /// All of them.
     pub fn as_slice(&self) -> &[Fact]
-        requires { self.now.count ≤ 160 }
+        requires { self.now.count ≤ 162 }
         ensures { result.now ≡ facts_in self.now }
     {
         &self.all[..self.count]
@@ -65,7 +67,8 @@ impl FactList {
 }
 
 /// What is known in front of an instruction: facts; which slots of the frame may differ; what counts turns, where the old program may come to an
-/// instruction so often; and how many of the frame's lowest bytes no access by another register than r10 goes to.
+/// instruction so often; how many of the frame's lowest bytes no access by another register than r10 goes to; what the function
+/// gives back, and a number that it never does; one that r0 of the new program isn't; and that program's state, if its certificate has one.
 #[derive(Clone, Copy)]
 pub struct KnownHere<'a> {
     pub facts: &'a [Fact],
@@ -73,6 +76,20 @@ pub struct KnownHere<'a> {
     pub counters: &'a [Option<TurnsLeft>],
     pub turns: u64,
     pub left: u32,
+    pub back: &'a [Fact],
+    pub spare: Option<u64>,
+    pub barred: Option<u64>,
+    pub state: Option<&'a State>,
+}
+
+/// A slot of the new program, of which runs something is said, how many of the lowest bytes of its frames no access by another register than r10 goes
+/// to, and the program's state there, if its certificate has one.
+#[derive(Clone, Copy)]
+pub struct NewSlot<'a> {
+    pub slot: u32,
+    pub bounds: Bounds,
+    pub left: u32,
+    pub state: Option<&'a State>,
 }
 
 // ---- facts of slots
@@ -97,7 +114,7 @@ pub fn same_slot(n: u8) -> Fact
 
 /// Adds that the old program has 0 in a slot, where that is noted.
 fn add_zero(facts: &mut FactList, zeros: &[bool], n: u8)
-    requires { facts.old.count < 160 }
+    requires { facts.old.count < 162 }
     ensures facts { facts_in facts.new ≡ facts_in facts.old ++ (if is_noted zeros.now n then is_zero_slot n ∷ [] else []) }
     ensures count { facts.new.count ≤ facts.old.count + 1 }
 {
@@ -107,7 +124,7 @@ fn add_zero(facts: &mut FactList, zeros: &[bool], n: u8)
 }
 
 /// Adds it of each slot of which it is noted.
-fn add_zeros(facts: &mut FactList, zeros: &[bool])
+pub fn add_zeros(facts: &mut FactList, zeros: &[bool])
     requires { facts.old.count ≤ 96 }
     ensures facts { facts_in facts.new ≡ facts_in facts.old ++ slot_facts is_zero_slot (is_noted zeros.now) frame_slots }
     ensures count { facts.new.count ≤ facts.old.count + frame_slots }
@@ -121,7 +138,7 @@ fn add_zeros(facts: &mut FactList, zeros: &[bool])
 
 /// Adds that both have the same in a slot, where nothing else is noted.
 fn add_common(facts: &mut FactList, apart: &[bool], n: u8)
-    requires { facts.old.count < 160 }
+    requires { facts.old.count < 162 }
     ensures facts { facts_in facts.new ≡ facts_in facts.old ++ (if not (is_noted apart.now n) then same_slot n ∷ [] else []) }
     ensures count { facts.new.count ≤ facts.old.count + 1 }
 {
@@ -131,7 +148,7 @@ fn add_common(facts: &mut FactList, apart: &[bool], n: u8)
 }
 
 /// Adds it of each slot of which nothing else is noted.
-fn add_same(facts: &mut FactList, apart: &[bool])
+pub fn add_same(facts: &mut FactList, apart: &[bool])
     requires { facts.old.count ≤ 96 }
     ensures facts { facts_in facts.new ≡ facts_in facts.old ++ slot_facts same_slot (λ n. not (is_noted apart.now n)) frame_slots }
     ensures count { facts.new.count ≤ facts.old.count + frame_slots }
@@ -194,12 +211,30 @@ fn add_end(facts: &mut FactList)
 /// What holds where it is noted.
 pub fn facts_at(note: &Note) -> FactList
     ensures facts { facts_in result ≡ facts_at note.now }
-    ensures count { result.count ≤ 160 }
+    ensures count { result.count ≤ 155 }
 {
     let mut facts = said(note);
     add_end(&mut facts);
     add_same(&mut facts, &note.apart);
     facts
+}
+
+/// What is known there, with these facts.
+pub fn known_here<'a>(facts: &'a [Fact], at: NewSlot<'a>, note: &'a Note) -> KnownHere<'a>
+    requires { facts.now ≡ facts_at note.now }
+    ensures { known_of result ≡ known_for at.entry.bounds.turns at.entry.left (option_copied at.entry.state) note.now }
+{
+    KnownHere {
+        facts,
+        apart: &note.apart,
+        counters: &note.counters,
+        turns: at.bounds.turns,
+        left: at.left,
+        back: &note.back,
+        spare: note.spare,
+        barred: note.barred,
+        state: at.state,
+    }
 }
 
 // ---- the start
@@ -268,7 +303,7 @@ fn add_length(facts: &mut FactList, padded: bool, length: u32)
 /// What holds at the start: that, and the frame is 0 in both.
 pub fn start_facts(padded: bool, length: u32) -> FactList
     ensures facts { facts_in result ≡ start_facts padded length }
-    ensures count { result.count ≤ 160 }
+    ensures count { result.count ≤ 162 }
 {
     let mut facts = facts_of(&first_facts(padded));
     add_length(&mut facts, padded, length);

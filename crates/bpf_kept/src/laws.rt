@@ -2,7 +2,7 @@
 
 ghost use Rattle.bpf_kept.specs.Laws.{FarIsPlacement, OneAddressIsContext, OneDistanceIsFrame, ZeroStartFits, ZeroStepIsStep, MatchingKeepsFlatMeaning, CertifiedKeepsFlatMeaning, OtherExitsAreTraps, ExactRunsAreFlat, FlatMeaningIsExact, NearAndWideAreFar, ZeroRunEnds, FlatMeaningIsFar};
 
-use bpf_safety::certified_is_safe;
+use bpf_safety::{certified_describes, certified_is_safe};
 use bpf_semantics::{finish_is_last, runs_are_one};
 
 /// The far placements are placements.
@@ -41,6 +41,7 @@ pub fn certified_keeps_flat_meaning()
     ensures { CertifiedKeepsFlatMeaning }
 {
     certified_is_safe();
+    certified_describes();
 }
 
 /// Where a new program that keeps the meaning ends at an exit that stands for none of the old one's, the old one has no answer.

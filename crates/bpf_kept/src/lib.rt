@@ -1,4 +1,4 @@
-//! Semantic preservation on plain addresses: notes of one function that show that a program keeps the meaning of
+//! Semantic preservation on plain addresses: notes that show that a program keeps the meaning of
 //! another, the laws, and the checker of notes.
 #![tactic(auto)]
 
@@ -6,17 +6,20 @@ mod accesses;
 mod alike;
 mod behind;
 mod bounds;
+mod calls;
 mod code;
 mod commons;
 mod counters;
 mod cut;
 mod edges;
+mod entries;
 mod facts;
+mod faults;
 mod guards;
 mod known;
 mod laws;
 mod made;
-mod note_fault;
+mod mismatch;
 mod notes;
 mod pass;
 mod pins;
@@ -24,17 +27,24 @@ mod reach;
 mod results;
 mod slots;
 mod stands;
+mod states;
 mod terms;
 mod ways;
+mod widened;
 
 pub use alike::{are_same, paired};
 pub use behind::{holds_behind, is_told};
-pub use bounds::RunBounds;
-pub use counters::counts_behind;
-pub use facts::{gives, is_holder, known_number, same_holder};
+pub use bounds::Bounds;
+pub use calls::{
+    apart_waits, are_results, entered_facts, returned_counters, returned_facts, spares,
+};
+pub use counters::{counts_behind, is_spared};
+pub use facts::{by_itself, gives, is_holder, known_number, same_holder};
+pub use faults::judged_at;
 pub use guards::GuardSite;
 pub use known::{
-    FactList, KnownHere, end_facts, facts_at, is_zero_slot, left_alone, same_slot, start_facts,
+    FactList, KnownHere, NewSlot, end_facts, facts_at, is_zero_slot, left_alone, same_slot,
+    start_facts,
 };
 pub use laws::{
     certified_keeps_flat_meaning, exact_runs_are_flat, far_is_placement, flat_meaning_is_exact,
@@ -42,10 +52,10 @@ pub use laws::{
     one_address_is_context, one_distance_is_frame, other_exits_are_traps, zero_run_ends,
     zero_start_fits, zero_step_is_step,
 };
-pub use note_fault::NoteFault;
-pub use notes::{COUNTERS, Change, FACTS, Fact, Holder, Need, Note, SLOTS, Term, TurnsLeft};
-pub use pass::{follows, follows_certified, start_slot};
+pub use mismatch::{Mismatch, NoteFault, mismatch_text};
+pub use notes::{BACK, COUNTERS, Change, FACTS, Fact, Holder, Need, Note, SLOTS, Term, TurnsLeft};
+pub use pass::{begun, start_slot};
 pub use slots::{Displaced, slot_at};
 pub use stands::extra;
 pub use terms::{constant, frame_end, minus, plus, zero};
-pub use ways::{may_fall, surely_falls};
+pub use ways::is_dead;

@@ -6,7 +6,8 @@ ghost use Rattle.std.specs.Option.{option_map_or};
 ghost use Rattle.bpf_insn.specs.declared.instruction.Insn.TheVariants.{Alu, Load, LoadImm64};
 ghost use Rattle.bpf_insn.specs.declared.instruction.AluOp.TheVariants.{Mov};
 ghost use Rattle.bpf_insn.specs.declared.instruction.Reg.{Reg};
-ghost use Rattle.bpf_kept.specs.Rules.{is_register, sum_base, difference_base, is_known, is_sum, is_difference, is_moved, made_by, known_operand, of_number, of_operand, by_operand, made_from, of_slot, made, both};
+ghost use Rattle.bpf_kept.specs.Rules.{is_register, both};
+ghost use Rattle.bpf_kept.specs.Behind.{sum_base, difference_base, is_known, is_sum, is_difference, is_moved, made_by, known_operand, of_number, of_operand, by_operand, made_from, of_slot, made};
 
 use crate::facts::{is_base, is_holder, is_register, known_number};
 use crate::notes::{Fact, Holder};
@@ -162,7 +163,7 @@ fn made_from(facts: &[Fact], wanted: WantedResult) -> bool
 }
 
 /// Whether a constant is known as wanted, by itself or by what 0 is.
-#[tactic(auto, unfolding(crate::specs::Rules::made))]
+#[tactic(auto, unfolding(crate::specs::Behind::made))]
 fn made_constant(facts: &[Fact], value: u64, want: Fact) -> bool
     ensures { (dst : Reg) → result ≡ made facts.now (LoadImm64 dst value) want }
 {
@@ -185,7 +186,7 @@ fn is_in_slot(facts: &[Fact], n: u8, want: Fact) -> bool
 }
 
 /// Whether what is loaded of a whole slot is known as wanted.
-#[tactic(auto, unfolding(crate::specs::Rules::made))]
+#[tactic(auto, unfolding(crate::specs::Behind::made))]
 fn made_of_slot(facts: &[Fact], size: Size, from: Displaced, want: Fact) -> bool
     ensures { (dst : Reg) → result ≡ made facts.now (Load size dst from.base from.off) want }
 {
@@ -209,7 +210,7 @@ fn made_of(facts: &[Fact], dst: Reg, src: Operand, want: Fact) -> bool
 }
 
 /// Whether the result of an operation is known as wanted.
-#[tactic(auto, unfolding(crate::specs::Rules::made))]
+#[tactic(auto, unfolding(crate::specs::Behind::made))]
 fn made_alu(facts: &[Fact], width: Width, wanted: WantedResult) -> bool
     ensures { result ≡ made facts.now (Alu wanted.op width wanted.dst wanted.src) wanted.want }
 {
@@ -220,7 +221,7 @@ fn made_alu(facts: &[Fact], width: Width, wanted: WantedResult) -> bool
 }
 
 /// Whether what an extra instruction puts is known as wanted.
-#[tactic(auto, unfolding(crate::specs::Rules::made))]
+#[tactic(auto, unfolding(crate::specs::Behind::made))]
 pub fn made(facts: &[Fact], insn: &Insn, want: Fact) -> bool
     ensures { result ≡ made facts.now insn.now want }
 {

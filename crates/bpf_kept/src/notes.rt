@@ -49,6 +49,12 @@ pub const COUNTERS: usize = 16;
 /// How many facts are noted in front of an instruction. That 0 is 0 fills what is left.
 pub const FACTS: usize = 24;
 
+/// The greatest number of extra instructions in front of one.
+pub const MOST_EXTRAS: u32 = 128;
+
+/// How many facts are noted of what a function gives back.
+pub const BACK: usize = 2;
+
 /// What is noted of an instruction of the new program.
 #[derive(Clone, Copy)]
 pub struct Note {
@@ -64,6 +70,12 @@ pub struct Note {
     pub facts: [Fact; FACTS],
     /// What counts turns there.
     pub counters: [Option<TurnsLeft>; COUNTERS],
+    /// What the function gives back: at each EXIT to which it comes from here, this holds of r0, and so behind a call of it.
+    pub back: [Fact; BACK],
+    /// A number that the new function never gives back at such an EXIT: the one that its trap answers.
+    pub spare: Option<u64>,
+    /// A number that r0 of the new program isn't here, as it never is behind a call.
+    pub barred: Option<u64>,
 }
 
 /// What an instruction changes in registers and in the frame.

@@ -5,9 +5,8 @@ ghost use Rattle.std.specs.Int.{cast_signed, w64};
 ghost use Rattle.bpf_semantics.specs.Flat.{addresses};
 ghost use Rattle.bpf_kept.specs.Far.{middle};
 ghost use Rattle.bpf_kept.specs.Guards.{in_context, first_in_frame, in_frame, reach_of};
-ghost use Rattle.bpf_kept.specs.Shown.{bounds_of};
 
-use crate::bounds::RunBounds;
+use crate::bounds::Bounds;
 use crate::known::bytes_before;
 use crate::notes::Term;
 use crate::terms::MIDDLE;
@@ -21,10 +20,11 @@ pub struct GuardReach {
     pub moved: i64,
 }
 
-/// Which numbers a guard lets pass: those up to one, or those from one on.
+/// Which numbers a guard lets pass: those up to one, where what is tested may have wrapped or is small; or those from one on.
 #[derive(Clone, Copy)]
 pub enum GuardLimit {
     Most { most: u64 },
+    MostOfSmall { most: u64 },
     Least { least: u64 },
 }
 
@@ -43,8 +43,8 @@ fn of_frame(moved: u64) -> i64
 }
 
 /// The context's bytes; in blocks those behind the head.
-pub fn in_context(bounds: RunBounds, t: Term) -> GuardReach
-    ensures { result ≡ in_context (bounds_of bounds) t }
+pub fn in_context(bounds: Bounds, t: Term) -> GuardReach
+    ensures { result ≡ in_context bounds t }
 {
     GuardReach {
         first: bytes_before(bounds.padded),
@@ -54,8 +54,8 @@ pub fn in_context(bounds: RunBounds, t: Term) -> GuardReach
 }
 
 /// The first byte of the frame that accesses by a register go to: the lowest ones are left to r10.
-fn first_in_frame(bounds: RunBounds, r: Reg) -> u64
-    ensures { result ≡ first_in_frame (bounds_of bounds) r }
+fn first_in_frame(bounds: Bounds, r: Reg) -> u64
+    ensures { result ≡ first_in_frame bounds r }
 {
     if r.is_frame_pointer() {
         0
@@ -65,8 +65,8 @@ fn first_in_frame(bounds: RunBounds, r: Reg) -> u64
 }
 
 /// The frame's bytes from there on.
-fn in_frame(bounds: RunBounds, t: Term, r: Reg) -> GuardReach
-    ensures { result ≡ in_frame (bounds_of bounds) t r }
+fn in_frame(bounds: Bounds, t: Term, r: Reg) -> GuardReach
+    ensures { result ≡ in_frame bounds t r }
 {
     GuardReach {
         first: first_in_frame(bounds, r),
@@ -76,8 +76,8 @@ fn in_frame(bounds: RunBounds, t: Term, r: Reg) -> GuardReach
 }
 
 /// Which bytes accesses by a register go to, of whose pointer a number is so far.
-pub fn reach_of(bounds: RunBounds, t: Term, r: Reg) -> Option<GuardReach>
-    ensures { result ≡ reach_of (bounds_of bounds) t r }
+pub fn reach_of(bounds: Bounds, t: Term, r: Reg) -> Option<GuardReach>
+    ensures { result ≡ reach_of bounds t r }
 {
     if t.frames == 0 {
         Some(in_context(bounds, t))

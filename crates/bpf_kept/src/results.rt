@@ -228,8 +228,8 @@ fn all_same(facts: &[Fact], insn: &Insn) -> bool
         .all(|place| is_same_in(facts, *place))
 }
 
-/// Whether the low half of each is the same.
-fn all_low(facts: &[Fact], insn: &Insn) -> bool
+/// Whether the low half of each register that is read is the same.
+pub fn all_low(facts: &[Fact], insn: &Insn) -> bool
     ensures { result ≡ list_all (is_low facts.now) (registers_read insn.now) }
 {
     insn.registers_read()

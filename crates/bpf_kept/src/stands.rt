@@ -1,39 +1,37 @@
 //! What is noted of a slot of the new program: an instruction that stands for an old one, or an extra one.
 
-ghost use Rattle.std.specs.Prelude.{◌≡◌, ◌<◌, ◌≤◌, ◌↔◌, ◌-◌, IsTrue, Some, None, option_map, option_and_then, if◌then◌else◌};
+ghost use Rattle.std.specs.Prelude.{◌≡◌, ◌<◌, ◌≤◌, ◌↔◌, ◌-◌, IsTrue, Some, None, false, option_map, option_and_then, option_copied, if◌then◌else◌};
 ghost use Rattle.bpf_insn.specs.Effects.{is_frame_pointer};
-ghost use Rattle.bpf_kept.specs.Rules.{put_into};
+ghost use Rattle.bpf_kept.specs.Rules.{put_into, paired};
+ghost use Rattle.std.specs.Option.{option_map_or};
 ghost use Rattle.bpf_kept.specs.declared.notes.Holder.TheVariants.{Register, Slot};
 ghost use Rattle.bpf_insn.specs.Limits.{max_slots};
 ghost use Rattle.bpf_kept.specs.Fronts.{front};
 ghost use Rattle.bpf_kept.specs.Knowns.{known_of, known_for};
 ghost use Rattle.bpf_kept.specs.Slots.{slot_at};
-ghost use Rattle.bpf_kept.specs.Shown.{bounds_of};
-ghost use Rattle.bpf_kept.specs.Matching.{left_alone, led, may_lead, falls, leads, stands, made_in, makes, extra, adds, IsBody, IsExtra, HoldsAt};
+ghost use Rattle.bpf_kept.specs.Matching.{left_alone, led, may_fall, may_lead, falls, leads, goes, is_exit, returns, calls, stands, made_in, makes, extra, adds, IsBody, IsExtra, HoldsAt};
 
 use crate::alike::{are_same, paired};
-use crate::bounds::RunBounds;
+use crate::calls::{apart_waits, spares, tests_barred};
 use crate::code::insn_at;
 use crate::counters::has_turn;
-use crate::edges::{Arrival, arrives, note_at};
+use crate::edges::{Arrival, all_hold, arrives, note_at};
+use crate::entries::calls;
 use crate::guards::{GuardSite, passes};
-use crate::known::{KnownHere, facts_at};
-use crate::notes::{Change, Fact, Holder, Note};
+use crate::known::{KnownHere, NewSlot, facts_at, known_here};
+use crate::notes::{Change, Holder, MOST_EXTRAS, Note};
 use crate::results::put_into;
 use crate::slots::{Displaced, slot_at};
-use crate::ways::{may_fall, surely_falls};
+use crate::ways::is_dead;
 use bpf_insn::{Code, Insn, Size, target};
-
-/// The greatest number of extra instructions in front of one.
-const MOST_EXTRAS: u32 = 128;
 
 /// An instruction of the old program, and the one of the new program that stands for it.
 #[derive(Clone, Copy)]
-struct StandIn {
-    slot: u32,
-    new_slot: u32,
-    insn: Insn,
-    moved: Insn,
+pub struct StandIn {
+    pub slot: u32,
+    pub new_slot: u32,
+    pub insn: Insn,
+    pub moved: Insn,
 }
 
 /// Where a jump leads.
@@ -45,25 +43,32 @@ fn led(slot: u32, insn: &Insn) -> Option<u32>
     target(slot, distance)
 }
 
-/// Where it may jump, unless it is a test that never does.
-fn may_lead(facts: &[Fact], slot: u32, insn: &Insn) -> Option<u32>
-    requires { slot ≤ max_slots }
-    ensures { result ≡ may_lead facts.now slot insn.now }
+/// Where it may jump, unless neither program goes that way.
+fn may_lead(known: &KnownHere<'_>, pair: StandIn) -> Option<u32>
+    requires { pair.slot ≤ max_slots }
+    ensures { result ≡ may_lead (known_of known.now) pair.slot pair.insn pair.moved }
 {
-    if surely_falls(facts, insn) {
+    if is_dead(known, &pair.insn, &pair.moved, true) {
         None
     } else {
-        led(slot, insn)
+        led(pair.slot, &pair.insn)
     }
 }
 
+/// Whether the next instruction may follow, unless neither program goes that way.
+fn may_fall(known: &KnownHere<'_>, pair: StandIn) -> bool
+    ensures { result ≡ may_fall (known_of known.now) pair.insn pair.moved }
+{
+    pair.insn.goes_on() && !is_dead(known, &pair.insn, &pair.moved, false)
+}
+
 /// Whether the next new instruction stands for the next old one, if that may follow.
-fn falls(notes: &[Option<Note>], known: &KnownHere<'_>, change: Change, pair: StandIn) -> bool
+pub fn falls(notes: &[Option<Note>], known: &KnownHere<'_>, change: Change, pair: StandIn) -> bool
     requires old { pair.slot < max_slots }
     requires new { pair.new_slot < max_slots }
     ensures { result ≡ falls notes.now (known_of known.now) change pair.slot pair.new_slot pair.insn pair.moved }
 {
-    if !may_fall(known.facts, &pair.insn) {
+    if !may_fall(known, pair) {
         return true;
     }
     let arrival = Arrival {
@@ -81,7 +86,7 @@ fn leads(notes: &[Option<Note>], known: &KnownHere<'_>, change: Change, pair: St
     requires new { pair.new_slot < max_slots }
     ensures { result ≡ leads notes.now (known_of known.now) change pair.slot pair.new_slot pair.insn pair.moved }
 {
-    let Some(slot) = may_lead(known.facts, pair.slot, &pair.insn) else {
+    let Some(slot) = may_lead(known, pair) else {
         return true;
     };
     let Some(new_slot) = led(pair.new_slot, &pair.moved) else {
@@ -96,17 +101,33 @@ fn leads(notes: &[Option<Note>], known: &KnownHere<'_>, change: Change, pair: St
     arrives(notes, known, change, arrival)
 }
 
-/// Whether the one stands for the other; `same` says whether they are the same but for where they lead.
-#[tactic(auto, unfolding(crate::specs::Matching::stands))]
-fn stands(notes: &[Option<Note>], known: &KnownHere<'_>, same: bool, pair: StandIn) -> bool
+/// Whether the one stands for the other, where neither calls or ends a function; `same` says whether they are the same but for where they lead.
+fn pairs(notes: &[Option<Note>], known: &KnownHere<'_>, same: bool, pair: StandIn) -> bool
     requires old { pair.slot < max_slots }
     requires new { pair.new_slot < max_slots }
-    ensures { result ≡ stands notes.now (known_of known.now) same pair.slot pair.new_slot pair.insn pair.moved }
+    ensures { result ≡ option_map_or (goes notes.now (known_of known.now) pair.slot pair.new_slot pair.insn pair.moved) (paired (known_of known.now) same pair.insn pair.moved) false }
 {
     match paired(known, same, &pair.insn, &pair.moved) {
         Some(change) => falls(notes, known, change, pair) && leads(notes, known, change, pair),
         None => false,
     }
+}
+
+/// Whether an instruction ends a function.
+fn is_exit(insn: &Insn) -> bool
+    ensures { result ≡ is_exit insn.now }
+{
+    matches!(*insn, Insn::Exit)
+}
+
+/// Whether both end a function, which gives back what the notes say.
+fn returns(known: &KnownHere<'_>, pair: StandIn) -> bool
+    ensures { result ≡ returns (known_of known.now) pair.insn pair.moved }
+{
+    is_exit(&pair.insn)
+        && is_exit(&pair.moved)
+        && all_hold(known.facts, Change::Kept, known.back)
+        && spares(known, known.spare)
 }
 
 /// The register into which it puts something, but for r10.
@@ -161,7 +182,10 @@ pub fn extra<O: Code>(
 ) -> Option<Change>
     ensures { result ≡ extra (front (O.program old.now) site) (known_of known.now) moved.now }
 {
-    if passes(old, site, known.facts, moved) || has_turn(known.counters, site.slot, moved) {
+    if passes(old, site, known, moved)
+        || has_turn(known.counters, site.slot, moved)
+        || tests_barred(known.barred, moved)
+    {
         Some(Change::Kept)
     } else {
         makes(moved)
@@ -204,30 +228,41 @@ fn adds<O: Code>(
 
 // ---- what is noted
 
-/// A slot of the new program, of which runs something is said, and how many of the lowest bytes of its frames no access by another register than r10
-/// goes to.
-#[derive(Clone, Copy)]
-pub struct NewSlot {
-    pub slot: u32,
-    pub bounds: RunBounds,
-    pub left: u32,
+/// Whether both call, where something is noted and each slot in which the programs have something else is out of the function's reach.
+fn calls_here(
+    notes: &[Option<Note>],
+    known: &KnownHere<'_>,
+    at: NewSlot<'_>,
+    note: &Note,
+    pair: StandIn,
+) -> bool
+    requires known { known_of known.now ≡ known_for at.bounds.turns at.left (option_copied at.state) note.now }
+    requires old { note.now.old < max_slots }
+    requires new { at.slot < max_slots }
+    ensures { result ≡ calls notes.now (known_of known.now) note.now.old at.entry.slot pair.insn pair.moved }
+{
+    apart_waits(known) && calls(notes, at, note, &pair.insn, &pair.moved)
 }
 
 /// Whether a pair stands for one another, where something is noted.
-fn stands_at(notes: &[Option<Note>], at: NewSlot, note: &Note, same: bool, pair: StandIn) -> bool
+#[tactic(auto, unfolding(crate::specs::Matching::stands))]
+fn stands_at(
+    notes: &[Option<Note>],
+    at: NewSlot<'_>,
+    note: &Note,
+    same: bool,
+    pair: StandIn,
+) -> bool
+    requires slots { (pair.slot ≡ note.now.old) × (pair.new_slot ≡ at.slot) }
     requires old { pair.slot < max_slots }
     requires new { pair.new_slot < max_slots }
-    ensures { result ≡ stands notes.now (known_for at.bounds.turns at.left note.now) same pair.slot pair.new_slot pair.insn pair.moved }
+    ensures { result ≡ stands notes.now (known_for at.entry.bounds.turns at.entry.left (option_copied at.entry.state) note.now) same pair.slot pair.new_slot pair.insn pair.moved }
 {
     let facts = facts_at(note);
-    let known = KnownHere {
-        facts: facts.as_slice(),
-        apart: &note.apart,
-        counters: &note.counters,
-        turns: at.bounds.turns,
-        left: at.left,
-    };
-    stands(notes, &known, same, pair)
+    let known = known_here(facts.as_slice(), at, note);
+    returns(&known, pair)
+        || calls_here(notes, &known, at, note, pair)
+        || pairs(notes, &known, same, pair)
 }
 
 /// Whether the instruction at a new slot stands for the old one that is noted.
@@ -235,11 +270,11 @@ fn is_body<O: Code, N: Code>(
     old: &O,
     new: &N,
     notes: &[Option<Note>],
-    at: NewSlot,
+    at: NewSlot<'_>,
     note: &Note,
 ) -> bool
     requires { at.left ≡ left_alone (N.program new.now) at.bounds.untouched }
-    ensures { IsTrue result ↔ IsBody (O.program old.now) (N.program new.now) notes.now (bounds_of at.bounds) at.slot note.now }
+    ensures { IsTrue result ↔ IsBody (O.program old.now) (N.program new.now) notes.now at.entry.bounds (option_copied at.entry.state) at.entry.slot note.now }
 {
     match (insn_at(old, note.old), insn_at(new, at.slot)) {
         (Some(insn), Some(moved)) => {
@@ -256,19 +291,19 @@ fn is_body<O: Code, N: Code>(
 }
 
 /// Whether an instruction of the new program is an extra one, where something is noted.
-fn adds_at<O: Code>(old: &O, notes: &[Option<Note>], at: NewSlot, note: &Note, moved: &Insn) -> bool
+fn adds_at<O: Code>(
+    old: &O,
+    notes: &[Option<Note>],
+    at: NewSlot<'_>,
+    note: &Note,
+    moved: &Insn,
+) -> bool
     requires some { 0 < note.now.extras }
     requires below { at.slot < max_slots }
-    ensures { result ≡ adds notes.now (front (O.program old.now) (record { slot = note.now.old; bounds = at.bounds })) (known_for at.bounds.turns at.left note.now) (note.now.extras - 1) at.slot moved.now }
+    ensures { result ≡ adds notes.now (front (O.program old.now) (record { slot = note.now.old; bounds = at.entry.bounds })) (known_for at.entry.bounds.turns at.entry.left (option_copied at.entry.state) note.now) (note.now.extras - 1) at.entry.slot moved.now }
 {
     let facts = facts_at(note);
-    let known = KnownHere {
-        facts: facts.as_slice(),
-        apart: &note.apart,
-        counters: &note.counters,
-        turns: at.bounds.turns,
-        left: at.left,
-    };
+    let known = known_here(facts.as_slice(), at, note);
     let site = GuardSite {
         slot: note.old,
         bounds: at.bounds,
@@ -286,12 +321,12 @@ fn is_extra<O: Code, N: Code>(
     old: &O,
     new: &N,
     notes: &[Option<Note>],
-    at: NewSlot,
+    at: NewSlot<'_>,
     note: &Note,
 ) -> bool
     requires some { 0 < note.now.extras }
     requires left { at.left ≡ left_alone (N.program new.now) at.bounds.untouched }
-    ensures { IsTrue result ↔ IsExtra (O.program old.now) (N.program new.now) notes.now (bounds_of at.bounds) at.slot note.now (note.now.extras - 1) }
+    ensures { IsTrue result ↔ IsExtra (O.program old.now) (N.program new.now) notes.now at.entry.bounds (option_copied at.entry.state) at.entry.slot note.now (note.now.extras - 1) }
 {
     match insn_at(new, at.slot) {
         Some(moved) => adds_at(old, notes, at, note, &moved),
@@ -300,9 +335,9 @@ fn is_extra<O: Code, N: Code>(
 }
 
 /// Whether what is noted of a new slot holds there.
-pub fn holds_at<O: Code, N: Code>(old: &O, new: &N, notes: &[Option<Note>], at: NewSlot) -> bool
+pub fn holds_at<O: Code, N: Code>(old: &O, new: &N, notes: &[Option<Note>], at: NewSlot<'_>) -> bool
     requires { at.left ≡ left_alone (N.program new.now) at.bounds.untouched }
-    ensures { IsTrue result ↔ HoldsAt (O.program old.now) (N.program new.now) notes.now (bounds_of at.bounds) at.slot }
+    ensures { IsTrue result ↔ HoldsAt (O.program old.now) (N.program new.now) notes.now at.entry.bounds (option_copied at.entry.state) at.entry.slot }
 {
     match note_at(notes, at.slot) {
         Some(note) if note.extras == 0 => is_body(old, new, notes, at, note),

@@ -2,21 +2,25 @@
 //!
 //! `old ORDER INSN ; INSN ..` and `new ORDER INSN ; INSN ..` set a program, in `little` or `big`. `none` takes all notes away, and `none SLOT` that of
 //! a new slot. `note SLOT OLD EXTRAS ITEM ..` notes something. `apart N` is a slot of the frame with something else, `zero N` one in which the old
-//! program has 0, and `counts PLACE HEAD TAKEN` a counter. Four other words are a fact: a new place, an old one, how often the frame's start is taken
+//! program has 0, and `counts PLACE HEAD TAKEN` a counter. `back` and a fact, once or twice, say what the function gives back (else r0 is the same),
+//! `spare N` what it never does, and `barred N` what r0 isn't. Four other words are a fact: a new place, an old one, how often the frame's start is taken
 //! away (`low`: the low halves are the same), and what is added. A place is a register, or `s` and a slot of the frame, or `len`, the packet's length.
 //! `0` in place of one is the number 0, and `m` is 2^63.
 //!
-//! `follows LENGTH TURNS UNTOUCHED` and `certified LENGTH LEAST MOST TURNS UNTOUCHED`, with a certificate for such lengths, are answered: `yes`, or `no`
-//! with the number of what fails, and `at SLOT` where it is a new slot's. A last word `padded` says that contexts are blocks. Other lines begin with `#`,
-//! and are written as they are.
+//! `certificate TEXT` sets a certificate, with `|` for LF. `follows LENGTH TURNS UNTOUCHED` is answered: `yes`, or `no` with the number of what fails
+//! beside that certificate, and `at SLOT` where it is a new slot's. A last word `padded` says that contexts are blocks.
+//!
+//! `written LENGTH TURNS UNTOUCHED` is answered by the text of the notes, with `|` for LF. `reads TEXT` is answered by how many notes a text has, and
+//! whether it is the one that is written for them, or by the number and the line of the refusal. Other lines begin with `#`, and are written as they are.
 #![tactic(auto)]
 
-use bpf_cert::{Certificate, read};
+use bpf_cert::{Certificate, read as read_certificate};
 use bpf_insn::{Order, Program, Reg};
 use bpf_kept::{
-    COUNTERS, FACTS, Fact, Holder, Note, NoteFault, RunBounds, SLOTS, Term, TurnsLeft, follows,
-    follows_certified,
+    BACK, Bounds, COUNTERS, FACTS, Fact, Holder, Mismatch, Note, SLOTS, Term, TurnsLeft,
 };
+use bpf_kept_notes::{read as read_notes, write as write_notes};
+use bpf_kept_pass::follows;
 use bpf_text::assemble;
 use std::alloc::Global;
 use std::io::{self, BufRead, BufReader, BufWriter, Write};
@@ -35,12 +39,23 @@ const NOTHING: Fact = Fact {
     }),
 };
 
+/// That r0 is the same.
+const SAME: Fact = Fact {
+    of: Some(Holder::Register(Reg::R0)),
+    base: Some(Holder::Register(Reg::R0)),
+    by: Some(Term {
+        frames: 0,
+        moved: 0,
+    }),
+};
+
 /// What was set so far.
 #[derive(Drop)]
 struct Session {
     old: Option<Program>,
     new: Option<Program>,
     notes: Vec<Option<Note>>,
+    certificate: Option<Certificate>,
 }
 
 // ---- words
@@ -115,11 +130,12 @@ fn term_of(words: &mut SplitWhitespace<'_>) -> Option<Term> {
     }
 }
 
-/// The next fact or counter is put in the first place that is left.
+/// The next fact, counter or fact of what the function gives back is put in the first place that is left.
 #[derive(Drop)]
 struct NextPlaces {
     facts: usize,
     counters: usize,
+    back: usize,
 }
 
 /// Notes that a slot of the frame is so.
@@ -139,6 +155,15 @@ fn note_counter(note: &mut Note, place: usize, words: &mut SplitWhitespace<'_>) 
     }
 }
 
+/// The fact that four words say.
+fn fact_of(words: &mut SplitWhitespace<'_>) -> Fact {
+    Fact {
+        of: holder_of(words.next()),
+        base: holder_of(words.next()),
+        by: term_of(words),
+    }
+}
+
 /// Notes a fact, whose first word is there.
 fn note_fact(note: &mut Note, place: usize, of: &str, words: &mut SplitWhitespace<'_>) {
     let noted = Fact {
@@ -151,6 +176,16 @@ fn note_fact(note: &mut Note, place: usize, of: &str, words: &mut SplitWhitespac
     }
 }
 
+/// Notes what the function gives back: nothing else than what is said.
+fn note_back(note: &mut Note, place: usize, fact: Fact) {
+    if place == 0 {
+        note.back = [NOTHING; BACK];
+    }
+    if let Some(back) = note.back.get_mut(place) {
+        *back = fact;
+    }
+}
+
 /// The note that words say.
 fn note_of(words: &mut SplitWhitespace<'_>) -> Note {
     let mut note = Note {
@@ -160,16 +195,26 @@ fn note_of(words: &mut SplitWhitespace<'_>) -> Note {
         zeros: [false; SLOTS],
         facts: [NOTHING; FACTS],
         counters: [None; COUNTERS],
+        back: [SAME, NOTHING],
+        spare: None,
+        barred: None,
     };
     let mut places = NextPlaces {
         facts: 0,
         counters: 0,
+        back: 0,
     };
     for _ in 0..NOTES {
         match words.next() {
             None => break,
             Some("apart") => mark(&mut note.apart, words.next()),
             Some("zero") => mark(&mut note.zeros, words.next()),
+            Some("spare") => note.spare = Some(moved_of(words.next())),
+            Some("barred") => note.barred = Some(moved_of(words.next())),
+            Some("back") => {
+                note_back(&mut note, places.back, fact_of(words));
+                places.back = places.back.saturating_add(1);
+            }
             Some("counts") => {
                 note_counter(&mut note, places.counters, words);
                 places.counters = places.counters.saturating_add(1);
@@ -184,11 +229,12 @@ fn note_of(words: &mut SplitWhitespace<'_>) -> Note {
 }
 
 /// Of which runs it is asked.
-fn bounds_of(length: u32, words: &mut SplitWhitespace<'_>) -> RunBounds {
+fn bounds_of(words: &mut SplitWhitespace<'_>) -> Bounds {
+    let length = number_of(words.next());
     let turns = u64::from(number_of(words.next()));
     let untouched = number_of(words.next());
     let padded = words.next() == Some("padded");
-    RunBounds {
+    Bounds {
         length,
         padded,
         turns,
@@ -210,12 +256,14 @@ fn program_of(alloc: Global, words: &mut SplitWhitespace<'_>) -> io::Result<Opti
     Ok(assemble(alloc, &text, order).ok())
 }
 
-/// A certificate for contexts of so many bytes.
-fn certificate_of(alloc: Global, least: u32, most: u32) -> io::Result<Option<Certificate>> {
-    let text = format!(in alloc;
-        "bpfcert 2 {least} {most} 2\nfn 0 1 *\nat 0 2\nr1 ctx0..0\nend\n"
-    )?;
-    Ok(read(alloc, text.as_bytes()).ok())
+/// The text that a line holds behind its first word, with LF for each `|`.
+fn text_of(alloc: Global, line: &str, word: &str) -> io::Result<Vec<u8>> {
+    let said = line.strip_prefix(word).unwrap_or("").trim_start();
+    let mut text = Vec::new(alloc);
+    for byte in said.as_bytes() {
+        text.push(if *byte == b'|' { b'\n' } else { *byte })?;
+    }
+    Ok(text)
 }
 
 // ---- lines
@@ -236,31 +284,56 @@ impl Session {
     }
 
     /// Whether the notes show that the new program keeps the meaning.
-    fn shown(
-        &self,
-        bounds: RunBounds,
-        certificate: Option<&Certificate>,
-    ) -> Option<Result<(), NoteFault>> {
+    fn shown(&self, bounds: Bounds) -> Option<Result<(), Mismatch>> {
         let old = self.old.as_ref()?;
         let new = self.new.as_ref()?;
-        match certificate {
-            Some(certificate) => {
-                Some(follows_certified(old, new, &self.notes, certificate, bounds))
-            }
-            None => Some(follows(old, new, &self.notes, bounds)),
-        }
+        let certificate = self.certificate.as_ref()?;
+        Some(follows(old, new, &self.notes, certificate, bounds))
     }
 }
 
 /// Writes an answer.
-fn tell(out: &mut impl Write, shown: Option<Result<(), NoteFault>>) -> io::Result<()> {
+fn tell(out: &mut impl Write, shown: Option<Result<(), Mismatch>>) -> io::Result<()> {
     match shown {
-        None => write!(out, "no programs\n"),
+        None => write!(out, "no programs, or no certificate\n"),
         Some(Ok(())) => write!(out, "yes\n"),
-        Some(Err(NoteFault::At { slot })) => write!(out, "no 4 at {slot}\n"),
-        Some(Err(fault)) => {
-            let number = fault.number();
-            write!(out, "no {number}\n")
+        Some(Err(mismatch)) => {
+            let number = mismatch.number();
+            match mismatch {
+                Mismatch::At { slot, .. } => write!(out, "no {number} at {slot}\n"),
+                _ => write!(out, "no {number}\n"),
+            }
+        }
+    }
+}
+
+/// Writes the text of notes in one line.
+fn tell_text(out: &mut impl Write, text: &[u8]) -> io::Result<()> {
+    for byte in text {
+        let told = if *byte == b'\n' { b'|' } else { *byte };
+        out.write_all(&[told])?;
+    }
+    out.write_all(b"\n")
+}
+
+/// Reads a text of notes, and writes what that is.
+fn tell_read(alloc: Global, out: &mut impl Write, text: &[u8]) -> io::Result<()> {
+    match read_notes(alloc, text) {
+        Ok(read) => {
+            let again = write_notes(alloc, read.runs, &read.notes)?;
+            let is_same = again.as_slice() == text;
+            let count = read.notes.len();
+            let told = if is_same {
+                "the same text"
+            } else {
+                "another text"
+            };
+            write!(out, "{count} notes, {told}\n")
+        }
+        Err(refusal) => {
+            let number = refusal.number();
+            let line = refusal.line();
+            write!(out, "N{number} at {line}\n")
         }
     }
 }
@@ -279,17 +352,18 @@ fn heed(alloc: Global, out: &mut impl Write, session: &mut Session, line: &str) 
             Some(slot) => session.note(number_of(Some(slot)), None)?,
             None => session.notes.clear(),
         },
-        Some("follows") => {
-            let length = number_of(words.next());
-            tell(out, session.shown(bounds_of(length, &mut words), None))?;
+        Some("certificate") => {
+            let text = text_of(alloc, line, "certificate")?;
+            session.certificate = read_certificate(alloc, text.as_slice()).ok();
         }
-        Some("certified") => {
-            let length = number_of(words.next());
-            let least = number_of(words.next());
-            let most = number_of(words.next());
-            let certificate = certificate_of(alloc, least, most)?;
-            let bounds = bounds_of(length, &mut words);
-            tell(out, session.shown(bounds, certificate.as_ref()))?;
+        Some("follows") => tell(out, session.shown(bounds_of(&mut words)))?,
+        Some("written") => {
+            let text = write_notes(alloc, bounds_of(&mut words), &session.notes)?;
+            tell_text(out, &text)?;
+        }
+        Some("reads") => {
+            let text = text_of(alloc, line, "reads")?;
+            tell_read(alloc, out, &text)?;
         }
         _ => write!(out, "{line}\n")?,
     }
@@ -303,6 +377,7 @@ fn main(rt: HostRuntime) -> io::Result<()> {
         old: None,
         new: None,
         notes: Vec::new(alloc),
+        certificate: None,
     };
     for line in BufReader::new(alloc, rt.reader())?.lines(alloc) {
         heed(alloc, &mut out, &mut session, &line?)?;

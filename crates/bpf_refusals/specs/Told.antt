@@ -24,11 +24,11 @@ use Rattle.bpf_infer_base.specs.declared.error.InferError.TheVariants as searche
 use Rattle.bpf_changes.specs.RefusalNumbers.{harden_number, harden_slot}
 use Rattle.bpf_changes.specs.declared.error.HardenError.{HardenError}
 use Rattle.bpf_changes.specs.declared.error.HardenError.TheVariants as hardenings
-use Rattle.bpf_follows.specs.Mismatches.{mismatch_number, mismatch_slot}
-use Rattle.bpf_follows.specs.declared.mismatch.Mismatch.{Mismatch}
-use Rattle.bpf_follows.specs.Refused.{refusal_number as notes_number}
-use Rattle.bpf_follows.specs.declared.error.NotesError.{NotesError}
-use Rattle.bpf_follows.specs.declared.error.NotesError.TheVariants as notes
+use Rattle.bpf_kept.specs.Mismatches.{mismatch_number, mismatch_slot}
+use Rattle.bpf_kept.specs.declared.mismatch.Mismatch.{Mismatch}
+use Rattle.bpf_kept_notes.specs.Refused.{refusal_number as notes_number}
+use Rattle.bpf_kept_notes.specs.declared.error.NotesError.{NotesError}
+use Rattle.bpf_kept_notes.specs.declared.error.NotesError.TheVariants as notes
 use Rattle.bpf_captures.specs.Refused.{refusal_number as capture_number}
 use Rattle.bpf_captures.specs.declared.error.CaptureError.{CaptureError}
 use Rattle.bpf_captures.specs.declared.error.CaptureError.TheVariants as captures
@@ -156,7 +156,7 @@ hardening_condition error = None
 abbrev pub told_hardening : HardenError → Told
 told_hardening e = record { letter = letters.Hardening; number = harden_number e; at = hardening_at e; condition = hardening_condition e }
 
--- H13: the slot of the old program at which notes fail, and the number of what fails, from 1 to 7
+-- H13: the slot of the old program at which notes fail, and the number of what fails, from 1 to 9
 abbrev pub told_not_shown : Mismatch → Told
 told_not_shown m = record { letter = letters.Hardening; number = NOT_SHOWN; at = Slot (mismatch_slot m); condition = Some (mismatch_number m) }
 

@@ -7,9 +7,10 @@ use bpf_cert::CertError;
 use bpf_changes::HardenError;
 use bpf_check::Refusal as CheckRefusal;
 use bpf_classic::{FilterRefusal, TextFault};
-use bpf_follows::{Mismatch, NotesError};
 use bpf_infer_base::InferError;
 use bpf_insn::DecodeError;
+use bpf_kept::Mismatch;
+use bpf_kept_notes::NotesError;
 use bpf_semantics::Reason;
 use bpf_text::TextError;
 
@@ -167,7 +168,7 @@ impl Tells for CertError {
     }
 }
 
-/// M1 to M7.
+/// M1 to M9.
 impl Tells for Mismatch {
     ghost use Rattle.bpf_refusals.specs.Told.{told_mismatch};
 

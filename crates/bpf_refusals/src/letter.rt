@@ -7,9 +7,9 @@ use crate::sentences::{
     capture_sentence, filter_sentence, hardening_sentence, notes_sentence, text_sentence,
 };
 use bpf_cert::CertError;
-use bpf_follows::mismatch_text;
 use bpf_infer_base::InferError;
 use bpf_insn::DecodeError;
+use bpf_kept::mismatch_text;
 use bpf_semantics::Reason;
 use bpf_state::Condition;
 

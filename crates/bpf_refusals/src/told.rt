@@ -5,7 +5,7 @@ ghost use Rattle.bpf_refusals.specs.Told.{at_number, named, told_at, told_not_sh
 
 use crate::letter::Letter;
 use bpf_check::Refusal;
-use bpf_follows::Mismatch;
+use bpf_kept::Mismatch;
 
 /// B9: memory ran out while a filter was read or converted.
 pub const FILTER_MEMORY: u8 = 9;

@@ -101,7 +101,8 @@ IsHardening rows h =
     × IsCount 32 usual_turns (one_of (codes "turns") rows) h.turns × IsNumber (one_of (codes "untouched") rows) h.untouched
     × IsCount 64 0 (one_of (codes "otherwise") rows) h.otherwise
     × IsFlag (one_of (codes "padded") rows) h.padded × IsFlag (one_of (codes "unproved") rows) h.unproved
-    × (option_map (λ s. s.now) h.notes ≡ first_of (codes "notes") rows) × (option_map (λ s. s.now) h.changes ≡ first_of (codes "changes") rows)
+    × (option_map (λ s. s.now) h.notes ≡ first_of (codes "notes") rows) × (option_map (λ s. s.now) h.certificate ≡ first_of (codes "certificate") rows)
+    × (option_map (λ s. s.now) h.changes ≡ first_of (codes "changes") rows)
 
 -- what is to be certified, within which bound, how, and where the answers go
 abbrev pub IsCertifying : List Row → Certifying → Type 0
@@ -125,6 +126,7 @@ hardening_of c = record {
   padded = c.padded;
   unproved = c.unproved;
   notes = c.notes;
+  certificate = None;
   changes = c.changes;
   order = c.order;
 }
@@ -148,12 +150,11 @@ IsEmitting rows e =
     IsInput rows e.input.now e.order × (e.certificate.now ≡ word_of (codes "CERT") rows) × (e.output.now ≡ word_of (codes "OUT") rows)
     × (e.name.now ≡ unwrap_or (first_of (codes "name") rows) usual_name)
 
--- which programs are to be compared, by which notes, for which contexts and runs
+-- which programs are to be compared, by which notes, beside which certificate
 abbrev pub IsFollowing : List Row → Following → Type 0
 IsFollowing rows f =
     (f.original.now ≡ word_of (codes "OLD") rows) × (f.rewritten.now ≡ word_of (codes "NEW") rows) × (f.notes.now ≡ word_of (codes "NOTES") rows)
-    × IsCount 32 0 (one_of (codes "LEN") rows) f.length × IsCount 32 usual_turns (one_of (codes "turns") rows) f.turns
-    × IsCount 32 0 (one_of (codes "untouched") rows) f.untouched × IsFlag (one_of (codes "padded") rows) f.padded × IsOrder rows f.order
+    × (f.certificate.now ≡ word_of (codes "CERT") rows) × IsOrder rows f.order
 
 -- for which image and contexts a certificate is to be found, how, and where it goes
 abbrev pub IsInferring : List Row → Inferring → Type 0

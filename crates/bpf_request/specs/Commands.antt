@@ -114,8 +114,8 @@ harden_places = with_rule (with_rule (with_rule (new_app (codes "harden")) (plac
 
 abbrev pub harden : App
 harden =
-    with_rule (with_rule (with_rule (with_rule (with_rule (with_rule (with_rule (with_rule harden_places turns) untouched) otherwise) (flag (codes "padded")))
-    (flag (codes "unproved"))) (option (codes "notes"))) (option (codes "changes"))) big
+    with_rule (with_rule (with_rule (with_rule (with_rule (with_rule (with_rule (with_rule (with_rule harden_places turns) untouched) otherwise) (flag (codes "padded")))
+    (flag (codes "unproved"))) (option (codes "notes"))) (option (codes "certificate"))) (option (codes "changes"))) big
 
 -- the option `--bound`, with a number from 1 to the greatest
 abbrev pub bound : Rule
@@ -150,10 +150,10 @@ abbrev pub to_c : App
 to_c = with_rule (with_rule to_c_places (option (codes "name"))) big
 
 abbrev pub follows_places : App
-follows_places = with_rule (with_rule (with_rule (with_rule (new_app (codes "follows")) (place (codes "OLD"))) (place (codes "NEW"))) (place (codes "NOTES"))) context_length
+follows_places = with_rule (with_rule (with_rule (with_rule (new_app (codes "follows")) (place (codes "OLD"))) (place (codes "NEW"))) (place (codes "NOTES"))) (place (codes "CERT"))
 
 abbrev pub follows : App
-follows = with_rule (with_rule (with_rule (with_rule follows_places turns) untouched) (flag (codes "padded"))) big
+follows = with_rule follows_places big
 
 abbrev pub migrate : App
 migrate = with_rule (with_rule (new_app (codes "migrate")) (place (codes "CERT"))) (place (codes "OUT"))

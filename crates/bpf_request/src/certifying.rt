@@ -51,6 +51,7 @@ impl<'a> Certifying<'a> {
             padded: self.padded,
             unproved: self.unproved,
             notes: self.notes,
+            certificate: None,
             changes: self.changes,
             order: self.order,
         }

@@ -23,6 +23,8 @@ pub struct Hardening<'a> {
     pub unproved: bool,
     /// Where the notes go by which that is shown.
     pub notes: Option<&'a str>,
+    /// Where the certificate goes beside which the notes stand.
+    pub certificate: Option<&'a str>,
     /// Where a line for each change goes.
     pub changes: Option<&'a str>,
     pub order: Order,

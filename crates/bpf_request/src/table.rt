@@ -60,6 +60,11 @@ const PADDED: Argument = Flag(
 
 const NOTES: Argument = Named("notes", "the notes that `follows` reads go to FILE");
 
+const BESIDE: Argument = Named(
+    "certificate",
+    "the certificate beside which the notes stand goes to FILE",
+);
+
 const CHANGES: Argument = Named(
     "changes",
     "what was done goes to FILE, a line for each change",
@@ -177,6 +182,7 @@ pub const SECOND: [Entry; 4] = [
                 "writes an image of which `follows` doesn't say yes, too",
             ),
             NOTES,
+            BESIDE,
             CHANGES,
             BIG,
         ],
@@ -281,26 +287,11 @@ pub const LAST: [Entry; 6] = [
         arguments: &[
             Place("OLD", "the image whose meaning is kept"),
             Place("NEW", "the image that keeps it"),
-            Place("NOTES", "what stands in NEW for what in OLD"),
-            LENGTH,
-            Number(
-                "turns",
-                "N",
-                1,
-                u32::MAX as i64,
-                "how often a run of OLD comes to one slot at most, else 65536",
+            Place(
+                "NOTES",
+                "what stands in NEW for what in OLD, and for which contexts and runs",
             ),
-            Number(
-                "untouched",
-                "M",
-                0,
-                FRAME_BYTES as i64,
-                "how many of the lowest bytes of each frame a run of OLD accesses by r10 alone, else 0",
-            ),
-            Flag(
-                "padded",
-                "contexts are blocks, and OLD is given the packets that they hold",
-            ),
+            Place("CERT", "the certificate of NEW beside which NOTES stand"),
             BIG,
         ],
     },

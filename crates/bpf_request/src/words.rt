@@ -195,6 +195,7 @@ fn hardening_in<'a>(matches: &ArgMatches<'a>) -> Hardening<'a>
         padded: has_flag(matches, "padded"),
         unproved: has_flag(matches, "unproved"),
         notes: word_if(matches, "notes"),
+        certificate: word_if(matches, "certificate"),
         changes: word_if(matches, "changes"),
         order: order_of(matches),
     }
@@ -261,10 +262,7 @@ fn following_in<'a>(matches: &ArgMatches<'a>) -> Following<'a>
         original: word(matches, "OLD"),
         rewritten: word(matches, "NEW"),
         notes: word(matches, "NOTES"),
-        length: number(matches, "LEN", 0),
-        turns: number(matches, "turns", USUAL_TURNS),
-        untouched: number(matches, "untouched", 0),
-        padded: has_flag(matches, "padded"),
+        certificate: word(matches, "CERT"),
         order: order_of(matches),
     }
 }

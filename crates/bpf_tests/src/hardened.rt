@@ -3,16 +3,18 @@
 //!
 //! Each line of standard input is a case: `little` or `big`, the length of contexts, the turns that a loop has, an image in hex, and
 //! contexts in hex, `none` for an empty one. The line that answers it has `yes` where the new program is shown to keep the meaning, `yes-32`
-//! where that is for runs that leave the lowest 32 bytes of each frame alone, else the number of what fails, as `M3`, and then `OLD/NEW` for each context, what the old and the new program end with: a number, `trap`, the
-//! number of a fault, as `F3`, or `on` where it goes on. Where there is no new program it has the number of the refusal, as `E3` or `H2`.
+//! where that is for runs that leave the lowest 32 bytes of each frame alone, else the number of what fails, as `M3`, or `M9` where no certificate
+//! is found for it; and then `OLD/NEW` for each context, what the old and the new program end with: a number, `trap`, the number of a fault, as `F3`,
+//! or `on` where it goes on. Where there is no new program it has the number of the refusal, as `E3` or `H2`.
 
 ghost use Rattle.std.specs.Prelude.{◌≤◌, IfSome, length};
 ghost use Rattle.bpf_insn.specs.Limits.{max_context};
 
-use bpf_follows::{Bounds, Mismatch};
-use bpf_harden::{Options, harden};
-use bpf_harden_follows::evidence_of;
+use bpf_harden::{Hardened, Options, harden};
+use bpf_harden_kept::evidence_of;
+use bpf_infer::{Unwatched, search};
 use bpf_insn::{MAX_CONTEXT, Order, Program, decode};
+use bpf_kept::{Bounds, Mismatch};
 use bpf_machine::{Outcome, run};
 use std::alloc::Global;
 use std::io::{self, Write};
@@ -78,6 +80,25 @@ impl<'a> Case<'a> {
     }
 }
 
+/// The program of a case with guards and counters forced on it, and the certificate that the search finds for it, if it does.
+fn forced(alloc: Global, old: &Program, length: u32, turns: u32) -> Result<Hardened, NotHardened>
+    requires { length ≤ max_context }
+{
+    let options = Options {
+        turns,
+        otherwise: TRAP,
+        padded: false,
+        everywhere: true,
+    };
+    let mut hardened = match harden(alloc, old, length, &options) {
+        Ok(hardened) => hardened,
+        Err(error) => return Err(NotHardened::Hardening(error.number())),
+    };
+    let found = search(alloc, &hardened.program, length, length, &mut Unwatched);
+    hardened.certificate = found.ok();
+    Ok(hardened)
+}
+
 impl Pair {
     /// The programs of a case.
     fn of(alloc: Global, case: Case<'_>) -> Result<Pair, NotHardened> {
@@ -88,21 +109,12 @@ impl Pair {
             Ok(old) => old,
             Err(error) => return Err(NotHardened::Image(error.number())),
         };
-        let options = Options {
-            turns: case.turns,
-            otherwise: TRAP,
-            padded: false,
-            everywhere: true,
-        };
         let length = case.length.min(MAX_CONTEXT as u32);
-        let hardened = match harden(alloc, &old, length, &options) {
-            Ok(hardened) => hardened,
-            Err(error) => return Err(NotHardened::Hardening(error.number())),
-        };
+        let hardened = forced(alloc, &old, length, case.turns)?;
         let runs = Bounds {
             length,
             padded: false,
-            turns: case.turns,
+            turns: u64::from(case.turns),
             untouched: 0,
         };
         let Ok(found) = evidence_of(alloc, &old, &hardened, runs) else {

@@ -4,17 +4,19 @@ ghost use Rattle.std.specs.Prelude.{◌≡◌, ◌≤◌, IfOk, IfErr, IfSome, f
 ghost use Rattle.bpf_insn.specs.Limits.{max_context};
 ghost use Rattle.bpf_certify.specs.Certified.{Answers as IsAnswer, IsRefused};
 ghost use Rattle.bpf_answers.specs.Both.{putting};
-ghost use Rattle.bpf_follows.specs.NotesText.{notes_text};
-ghost use Rattle.bpf_command.specs.Certified.{CertifyFails, CertifySays, CertifyWithFails, CertifyWithSays, IsAllPut, NotAllPut, NotAllStand, NotCertified, NotCertifiedWith, assessment_answer, made_of, notes_of, refused_as, rewriting_of, told_of, wish_of};
+ghost use Rattle.bpf_request.specs.CommandLine.{hardening_of};
+ghost use Rattle.std.specs.String.{string_bytes};
+ghost use Rattle.bpf_command.specs.Certified.{CertifyFails, CertifySays, CertifyWithFails, CertifyWithSays, IsAllPut, NotAllPut, NotCertified, NotCertifiedWith, assessment_answer, made_of, noted_text, notes_of, refused_as, retold, rewriting_of, runs_told, told_of, wish_of};
+ghost use Rattle.bpf_command.specs.Texts.{notes_and_changes};
 
 use crate::commands::explain::lines_at;
-use crate::commands::harden::{SideTexts, changes_of, put_beside, text_of};
+use crate::commands::texts::{SideTexts, changes_of, put_beside, text_of};
 use bpf_answers::{Answer, Certification, Failure, Places, Rewriting, program_at, put_both};
 use bpf_cert::Certificate;
-use bpf_certify::{Certified, CertifyError, MOST_BOUND, Wish, certify};
-use bpf_follows::Counterpart;
+use bpf_certify::{Certified, CertifyError, MOST_BOUND, Rewritten, Wish, certify};
 use bpf_harden::HardenError;
 use bpf_insn::{Code, DecodeError, MAX_CONTEXT, Program};
+use bpf_kept::Bounds;
 use bpf_request::Certifying;
 use std::alloc::{AllocError, Global};
 
@@ -83,18 +85,37 @@ fn length_of(asked: Certifying<'_>) -> u32
     asked.length.min(MAX_CONTEXT as u32)
 }
 
-/// What is told of what was done to a program; None of one that stands as it is.
+/// What is told of what was done to a program.
+fn retold(asked: Certifying<'_>, rewritten: &Rewritten) -> Rewriting
+    ensures { result ≡ retold asked.entry rewritten.now }
+{
+    Rewriting {
+        turns: rewritten.turns,
+        padded: asked.padded,
+        untouched: rewritten.untouched,
+        is_shown: rewritten.is_shown,
+    }
+}
+
+/// The same; None of one that stands as it is.
 fn rewriting_of(asked: Certifying<'_>, certified: &Certified) -> Option<Rewriting>
     ensures { result ≡ rewriting_of asked.entry certified.now.rewritten }
 {
     match &certified.rewritten {
         None => None,
-        Some(rewritten) => Some(Rewriting {
-            turns: rewritten.turns,
-            padded: asked.padded,
-            untouched: rewritten.untouched,
-            is_shown: rewritten.is_shown,
-        }),
+        Some(rewritten) => Some(retold(asked, rewritten)),
+    }
+}
+
+/// The runs that are told.
+fn runs_told(length: u32, told: Rewriting) -> Bounds
+    ensures { result ≡ runs_told length told }
+{
+    Bounds {
+        length,
+        padded: told.padded,
+        turns: u64::from(told.turns),
+        untouched: told.untouched,
     }
 }
 
@@ -119,29 +140,24 @@ fn made_of<'a>(program: &'a Program, certified: &'a Certified) -> &'a Program
     }
 }
 
-/// The notes of a hardened program; none of one that stands as it is.
-fn notes_of<'a>(certified: &'a Certified) -> &'a [Option<Counterpart>]
-    ensures { result.now ≡ notes_of certified.now.rewritten }
-{
-    match &certified.rewritten {
-        None => &[],
-        Some(rewritten) => &rewritten.notes,
-    }
-}
-
-/// What goes beside the image and its certificate.
+/// What goes beside the image and its certificate: nothing of a program that stands as it is.
 fn beside_of(
     alloc: Global,
     asked: Certifying<'_>,
+    length: u32,
     certified: &Certified,
 ) -> Result<SideTexts, AllocError>
-    ensures { IfOk result (λ beside. IfSome asked.entry.notes (λ _. beside.notes.items ≡ notes_text (notes_of certified.now.rewritten))) }
+    ensures { IfOk result (λ beside. IfSome asked.entry.notes (λ _. beside.notes.items ≡ noted_text (told_of asked.entry length certified.now) (notes_of certified.now.rewritten))) }
 {
-    let notes = text_of(alloc, asked.hardening(), notes_of(certified))?;
-    let changes = match &certified.rewritten {
-        None => String::new(alloc),
-        Some(rewritten) => changes_of(alloc, asked.hardening(), &rewritten.hardened)?,
+    let Some(rewritten) = &certified.rewritten else {
+        return Ok(SideTexts {
+            notes: Vec::new(alloc),
+            changes: String::new(alloc),
+        });
     };
+    let runs = runs_told(length, retold(asked, rewritten));
+    let notes = text_of(alloc, asked.hardening(), runs, &rewritten.notes)?;
+    let changes = changes_of(alloc, asked.hardening(), &rewritten.hardened)?;
     Ok(SideTexts { notes, changes })
 }
 
@@ -153,12 +169,10 @@ fn put_all<'a, P: Places>(
     certificate: &Certificate,
     beside: &SideTexts,
 ) -> Result<u8, Failure<'a>>
-    ensures ok { IfOk result (IsAllPut (putting P.creates P.ends P.Writer.contents)
-        places.old asked.entry made.now certificate.now beside.now.notes.items places.new) }
-    ensures err { IfErr result (NotAllPut (putting P.creates P.ends P.Writer.contents)
-        places.old asked.entry made.now certificate.now places.new) }
-    ensures names { IfErr result (λ _. NotAllStand (putting P.creates P.ends P.Writer.contents)
-        places.old asked.entry made.now certificate.now places.new) }
+    ensures ok { IfOk result (IsAllPut (putting P.creates P.ends P.Writer.contents) places.old asked.entry made.now certificate.now
+        (notes_and_changes (hardening_of asked.entry) beside.now.notes.items (string_bytes beside.now.changes)) places.new) }
+    ensures err { IfErr result (NotAllPut (putting P.creates P.ends P.Writer.contents) places.old asked.entry made.now certificate.now
+        (notes_and_changes (hardening_of asked.entry) beside.now.notes.items (string_bytes beside.now.changes)) places.new) }
 {
     put_both(places, asked.output, made, asked.certificate, certificate)?;
     put_beside(places, asked.hardening(), beside)
@@ -181,12 +195,12 @@ fn found_for(
     requires { length ≤ max_context }
     ensures ok { IfOk result (λ f. IsAnswer program.now length (wish_of asked.entry) f.certified) }
     ensures shown { asked.entry.unproved ≡ false → IfOk result (λ f. IfSome f.certified.rewritten (λ r. IsTrue r.is_shown)) }
-    ensures notes { IfOk result (λ f. IfSome asked.entry.notes (λ _. f.beside.notes.items ≡ notes_text (notes_of f.certified.rewritten))) }
+    ensures notes { IfOk result (λ f. IfSome asked.entry.notes (λ _. f.beside.notes.items ≡ noted_text (told_of asked.entry length f.certified) (notes_of f.certified.rewritten))) }
     ensures err { IfErr result (IsRefused program.now length (wish_of asked.entry)) }
 {
     let _slots = Code::slots(program);
     let certified = certify(alloc, program, length, wish_of(asked))?;
-    match beside_of(alloc, asked, &certified) {
+    match beside_of(alloc, asked, length, &certified) {
         Ok(beside) => Ok(FoundWithin { certified, beside }),
         Err(_no_memory) => Err(CertifyError::Unhardened(HardenError::Memory)),
     }

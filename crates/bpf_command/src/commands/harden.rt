@@ -1,19 +1,21 @@
 //! `bpf harden IN LEN OUT`.
 
-ghost use Rattle.std.specs.Prelude.{◌≡◌, ◌<◌, IfOk, IfErr, IfSome, None, false};
+ghost use Rattle.std.specs.Prelude.{◌≡◌, ◌<◌, IfOk, IfErr, IfSome, IsSome, None, false};
+ghost use Rattle.std.specs.String.{string_bytes};
 ghost use Rattle.bpf_insn.specs.Instruction.{slots};
 ghost use Rattle.bpf_insn.specs.Image.{IsProgram};
 ghost use Rattle.bpf_changes.specs.RefusalNumbers.{harden_slot};
-ghost use Rattle.bpf_follows.specs.NotesText.{notes_text};
-ghost use Rattle.bpf_command.specs.Hardened.{AreLeft, BothStand, HardenFails, HardenSays, IsLeft, IsLeftSaid, IsNoted, IsUnshown, NotAllMade, NotBothPut, NotBothStand, Show, Stands, Unput, asked_bytes, attempt_answer, bounds_of};
+ghost use Rattle.bpf_harden_kept.specs.Evidence.{IsEvidence};
+ghost use Rattle.bpf_command.specs.Hardened.{AreLeft, HardenFails, HardenSays, IsLeftSaid, IsNoted, IsUnshown, NotAllMade, asked_bytes, attempt_answer, bounds_of, found_text, goes_out, texts_of};
+ghost use Rattle.bpf_command.specs.Texts.{TextsFail, TextsStand, named};
 ghost use Rattle.bpf_answers.specs.Made.{making};
 
-use crate::commands::changes::changes_text;
-use bpf_answers::{Answer, Content, DONE, Failure, Places, program_at, put};
-use bpf_follows::{Bounds, Counterpart, Mismatch, matching_keeps_meaning, write};
+use crate::commands::texts::{SideTexts, changes_of, put_beside, put_if, text_of};
+use bpf_answers::{Answer, DONE, Failure, Places, program_at, put};
 use bpf_harden::{HardenError, Hardened, Options, harden};
-use bpf_harden_follows::{Evidence, evidence_for, evidence_of};
+use bpf_harden_kept::{Evidence, evidence_for, evidence_of};
 use bpf_insn::{Code, DecodeError, MAX_CONTEXT, Program};
+use bpf_kept::{Bounds, Mismatch};
 use bpf_request::Hardening;
 use std::alloc::{AllocError, Global};
 
@@ -83,7 +85,7 @@ fn bounds_of(asked: Hardening<'_>, untouched: u32) -> Bounds
     Bounds {
         length: asked.length,
         padded: asked.padded,
-        turns: asked.turns,
+        turns: u64::from(asked.turns),
         untouched,
     }
 }
@@ -135,13 +137,14 @@ impl From<AllocError> for UnshownMeaning {
 fn is_free(asked: Hardening<'_>) -> bool {
     let taken = [
         asked.output,
+        asked.certificate.unwrap_or(""),
         asked.notes.unwrap_or(""),
         asked.changes.unwrap_or(""),
     ];
-    taken[0] != "-" && taken[1] != "-" && taken[2] != "-"
+    taken[0] != "-" && taken[1] != "-" && taken[2] != "-" && taken[3] != "-"
 }
 
-/// Notes of a hardened program for the runs that are asked for. Where nothing is said of untouched bytes, and it can be told, they are for each
+/// Notes of a hardened program beside its certificate, for the runs that are asked for. Where nothing is said of untouched bytes, and it can be told, they are for each
 /// run, or for those that leave the bytes to r10 that hardening takes.
 fn evidence(
     alloc: Global,
@@ -151,7 +154,7 @@ fn evidence(
 ) -> Result<Evidence, AllocError>
     ensures left { IfOk result (λ found. AreLeft asked.entry found.untouched) }
     ensures all { IfOk result (λ found. IfSome found.mismatch (λ _. found.untouched ≡ asked_bytes asked.entry)) }
-    ensures exact { IfOk result (λ found. Show program.now hardened.now.program found.notes.items (bounds_of asked.entry found.untouched) found.mismatch) }
+    ensures exact { IfOk result (λ found. IsEvidence program.now hardened.now.program hardened.now.certificate found.notes.items (bounds_of asked.entry found.untouched) found.mismatch) }
 {
     match asked.untouched {
         None if is_free(asked) => evidence_of(alloc, program, hardened, bounds_of(asked, 0)),
@@ -181,6 +184,17 @@ fn said_of(asked: Hardening<'_>, untouched: u32) -> Option<u32>
     }
 }
 
+/// Whether a hardened program goes out of which this fails: with `--unproved`. A certificate that is asked for has to be there all the same.
+fn goes_out(asked: Hardening<'_>, mismatch: Mismatch) -> bool
+    ensures { result ≡ goes_out asked.entry mismatch }
+{
+    match mismatch {
+        Mismatch::Length => asked.unproved && asked.certificate.is_none(),
+        Mismatch::Order | Mismatch::Start | Mismatch::TooMany => asked.unproved,
+        Mismatch::At { .. } => asked.unproved,
+    }
+}
+
 /// Notes of a hardened program. They show that it keeps the meaning, or it is refused, but with `--unproved`.
 fn shown(
     alloc: Global,
@@ -189,55 +203,23 @@ fn shown(
     asked: Hardening<'_>,
 ) -> Result<Evidence, UnshownMeaning>
     ensures left { IfOk result (λ found. AreLeft asked.entry found.untouched) }
-    ensures kept { IfOk result (λ found. Show program.now hardened.now.program found.notes.items (bounds_of asked.entry found.untouched) found.mismatch) }
+    ensures kept { IfOk result (λ found. IsEvidence program.now hardened.now.program hardened.now.certificate found.notes.items (bounds_of asked.entry found.untouched) found.mismatch) }
     ensures proved { IfOk result (λ found. asked.entry.unproved ≡ false → found.mismatch ≡ None) }
+    ensures there { IfOk result (λ _. IfSome asked.entry.certificate (λ _. IsSome hardened.now.certificate)) }
     ensures err { IfErr result (IsUnshown program.now hardened.now.program asked.entry) }
 {
     let found = evidence(alloc, program, hardened, asked)?;
     match found.mismatch {
-        Some(mismatch) if !asked.unproved => Err(UnshownMeaning::Differs(mismatch)),
+        Some(mismatch) if !goes_out(asked, mismatch) => Err(UnshownMeaning::Differs(mismatch)),
         Some(_) | None => Ok(found),
     }
 }
 
-/// What goes beside the hardened image: the text of its notes and that of the changes, empty where no name for it is given.
-#[derive(Drop)]
-pub(super) struct SideTexts {
-    pub(super) notes: Vec<u8>,
-    pub(super) changes: String,
-}
-
-/// The same with what is shown by the notes.
+/// What goes behind a hardened image, and what is shown of it.
 #[derive(Drop)]
 struct HardenedNoted {
     beside: SideTexts,
     kept: KeptMeaning,
-}
-
-/// The text of notes, if a name for it is given.
-pub(super) fn text_of(
-    alloc: Global,
-    asked: Hardening<'_>,
-    notes: &[Option<Counterpart>],
-) -> Result<Vec<u8>, AllocError>
-    ensures { IfOk result (λ text. IfSome asked.entry.notes (λ _. text.items ≡ notes_text notes.now)) }
-{
-    match asked.notes {
-        Some(_name) => write(alloc, notes),
-        None => Ok(Vec::new(alloc)),
-    }
-}
-
-/// The text of the changes, if a name for it is given.
-pub(super) fn changes_of(
-    alloc: Global,
-    asked: Hardening<'_>,
-    hardened: &Hardened,
-) -> Result<String, AllocError> {
-    match asked.changes {
-        Some(_name) => changes_text(alloc, hardened),
-        None => Ok(String::new(alloc)),
-    }
 }
 
 /// What goes beside a hardened program, and what is shown of it.
@@ -247,56 +229,60 @@ fn notes_for(
     hardened: &Hardened,
     asked: Hardening<'_>,
 ) -> Result<HardenedNoted, UnshownMeaning>
-    ensures kept { IfOk result (λ n. IsNoted program.now hardened.now.program asked.entry n.kept n.beside.notes.items) }
+    ensures kept { IfOk result (λ n. IsNoted program.now hardened.now.program asked.entry hardened.now.certificate n.kept n.beside.notes.items) }
     ensures err { IfErr result (IsUnshown program.now hardened.now.program asked.entry) }
 {
     let found = shown(alloc, program, hardened, asked)?;
-    let notes = text_of(alloc, asked, &found.notes)?;
+    let bounds = bounds_of(asked, found.untouched);
+    let notes = text_of(alloc, asked, bounds, &found.notes)?;
     let changes = changes_of(alloc, asked, hardened)?;
     Ok(HardenedNoted {
         beside: SideTexts { notes, changes },
         kept: KeptMeaning {
-            bounds: bounds_of(asked, found.untouched),
+            bounds,
             mismatch: found.mismatch,
             said: said_of(asked, found.untouched),
         },
     })
 }
 
-/// Puts content at a name, if one is given.
-fn put_if<'a, P: Places, C: Content>(
+/// Puts the certificate that hardening found at a name, if one is given.
+fn put_found<'a, P: Places>(
     places: &mut P,
     name: Option<&'a str>,
-    content: &C,
+    hardened: &Hardened,
 ) -> Result<u8, Failure<'a>>
-    ensures ok { IfOk result (λ status. (status ≡ 0) × Stands (making P.creates P.ends P.Writer.contents) places.old name.entry (C.bytes content.now)
-        places.new) }
-    ensures err { IfErr result (Unput (making P.creates P.ends P.Writer.contents) places.old name.entry places.new) }
-    ensures names { IfErr result (λ _. IsLeft (making P.creates P.ends P.Writer.contents) places.old name.entry places.new) }
+    requires { IfSome name (λ _. IsSome hardened.now.certificate) }
+    ensures ok { IfOk result (λ status. (status ≡ 0) × TextsStand (making P.creates P.ends P.Writer.contents) places.old
+        (named name.entry (found_text hardened.now.certificate)) places.new) }
+    ensures err { IfErr result (TextsFail (making P.creates P.ends P.Writer.contents) places.old
+        (named name.entry (found_text hardened.now.certificate)) places.new) }
 {
-    match name {
-        Some(name) => put(places, name, content),
+    match &hardened.certificate {
+        Some(certificate) => put_if(places, name, certificate),
         None => Ok(DONE),
     }
 }
 
-/// Writes the texts, each where a name for it is given: the notes, and then the changes.
-pub(super) fn put_beside<'a, P: Places>(
+/// Writes the texts behind the image, each where a name for it is given: the certificate, the notes, and then the changes.
+fn put_texts<'a, P: Places>(
     places: &mut P,
     asked: Hardening<'a>,
+    hardened: &Hardened,
     beside: &SideTexts,
 ) -> Result<u8, Failure<'a>>
-    ensures ok { IfOk result (λ status. (status ≡ 0) × BothStand (making P.creates P.ends P.Writer.contents) places.old asked.entry
-        beside.now.notes.items places.new) }
-    ensures err { IfErr result (NotBothPut (making P.creates P.ends P.Writer.contents) places.old asked.entry places.new) }
-    ensures names { IfErr result (λ _. NotBothStand (making P.creates P.ends P.Writer.contents) places.old asked.entry places.new) }
+    requires { IfSome asked.certificate (λ _. IsSome hardened.now.certificate) }
+    ensures ok { IfOk result (λ status. (status ≡ 0) × TextsStand (making P.creates P.ends P.Writer.contents) places.old
+        (texts_of asked.entry hardened.now.certificate beside.now.notes.items (string_bytes beside.now.changes)) places.new) }
+    ensures err { IfErr result (TextsFail (making P.creates P.ends P.Writer.contents) places.old
+        (texts_of asked.entry hardened.now.certificate beside.now.notes.items (string_bytes beside.now.changes)) places.new) }
 {
-    put_if(places, asked.notes, &beside.notes)?;
-    put_if(places, asked.changes, &beside.changes)
+    put_found(places, asked.certificate, hardened)?;
+    put_beside(places, asked, beside)
 }
 
-/// Writes the hardened image of an image, notes that `follows` reads, and what was done. The places for what is written are made only where there
-/// is an image to write.
+/// Writes the hardened image of an image, its certificate, notes that `follows` reads beside it, and what was done. The places for what is written
+/// are made only where there is an image to write.
 pub fn hardened<'a, P: Places>(
     alloc: Global,
     places: &mut P,
@@ -306,7 +292,6 @@ pub fn hardened<'a, P: Places>(
     ensures err { IfErr result (HardenFails P.opens (making P.creates P.ends P.Writer.contents) places.old asked.entry places.new) }
     ensures names { IfErr result (λ _. NotAllMade P.opens (making P.creates P.ends P.Writer.contents) places.old asked.entry places.new) }
 {
-    matching_keeps_meaning();
     let program = match program_at(alloc, places, asked.input, asked.order)? {
         Ok(program) => program,
         Err(error) => return Ok(Attempt::NoImage(error)),
@@ -321,6 +306,6 @@ pub fn hardened<'a, P: Places>(
         Err(UnshownMeaning::Differs(mismatch)) => return Ok(Attempt::NotShown(mismatch)),
     };
     put(places, asked.output, &hardened.program)?;
-    put_beside(places, asked, &beside)?;
+    put_texts(places, asked, &hardened, &beside)?;
     Ok(Attempt::Hardened(kept))
 }

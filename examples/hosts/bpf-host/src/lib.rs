@@ -130,7 +130,7 @@ unsafe extern "C" {
 }
 
 /// The version of the library that these functions are of, as BPF_HOST_VERSION of bpf.h.
-pub const VERSION: u32 = 301;
+pub const VERSION: u32 = 302;
 
 /// `struct bpf_wish` of bpf.h.
 #[repr(C)]

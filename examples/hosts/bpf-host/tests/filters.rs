@@ -104,7 +104,7 @@ fn proposes_certificates() {
 fn hardens_images() {
     let asked = Hardening::default();
     assert_eq!(harden(PORT.0, Order::Little, 128, &asked).unwrap(), PORT.0);
-    // Pointers that are put in order: the meaning isn't shown to be kept.
+    // Pointers that are put in order: offsets with their signs have the same order.
     let ordered: Vec<u8> = [
         [0xb7, 0, 0, 0, 0, 0, 0, 0],
         [0xbf, 0x12, 0, 0, 0, 0, 0, 0],
@@ -115,7 +115,18 @@ fn hardens_images() {
         [0x95, 0, 0, 0, 0, 0, 0, 0],
     ]
     .concat();
-    let why = harden(&ordered, Order::Little, 16, &asked).unwrap_err();
+    assert!(harden(&ordered, Order::Little, 16, &asked).unwrap() != ordered);
+    // A pointer that is compared with a number: the meaning isn't shown to be kept.
+    let compared: Vec<u8> = [
+        [0xb7, 0, 0, 0, 0, 0, 0, 0],
+        [0x71, 0x13, 0, 0, 0, 0, 0, 0],
+        [0x0f, 0x13, 0, 0, 0, 0, 0, 0],
+        [0x15, 3, 1, 0, 5, 0, 0, 0],
+        [0x71, 0x30, 0, 0, 0, 0, 0, 0],
+        [0x95, 0, 0, 0, 0, 0, 0, 0],
+    ]
+    .concat();
+    let why = harden(&compared, Order::Little, 16, &asked).unwrap_err();
     assert!(
         why.to_string().starts_with("refused by H13 at slot 3: "),
         "{why}"
@@ -124,7 +135,7 @@ fn hardens_images() {
         unproved: true,
         ..asked
     };
-    assert!(harden(&ordered, Order::Little, 16, &unproved).unwrap() != ordered);
+    assert!(harden(&compared, Order::Little, 16, &unproved).unwrap() != compared);
 }
 
 #[test]

@@ -1,9 +1,13 @@
-use Rattle.std.proofs.Common.{◌∙◌, [], sym}
-use Rattle.std.proofs.lemmas.Bool.{false≢true}
-use Rattle.bpf_follows.specs.Mismatches.{IsMismatch}
+use Rattle.bpf_certify.proofs.CertifiedLemmas.{evidence_fails}
 use Rattle.bpf_certify.proofs.certified.judged.Goals as goal
 
-pub returns-then-not-same_order-clause-err : goal.returns-then-not-same_order-clause-err
-unfolding IsMismatch
-returns-then-not-same_order-clause-err c =
-    ([], λ same. false≢true (sym c.if-not-same_order.true ∙ c.same_order.ensures.1 (c.order.ensures ∙ same ∙ sym c.order-2.ensures)))
+pub returns-in-Some-2-clause-err : goal.returns-in-Some-2-clause-err
+returns-in-Some-2-clause-err c =
+    let old = c.args.old.now in
+    let new = c.args.new.now in
+    let found = c.in-Ok.found in
+    let evidence = c.in-Ok.ensures in
+    let count = c.slots.ensures in
+    let told = c.within-mismatch in
+    evidence_fails old new.program new.certificate found.notes.items c.args.runs found.untouched c.slots.result found.mismatch c.in-Some-2.mismatch told.result
+    count.count count.valid.some_slot c.in-Some-2.is evidence.all evidence.exact told.ensures.told told.ensures.inside

@@ -1,7 +1,7 @@
 use Rattle.std.proofs.Common.{◌≡◌, arith, sym, ap, ◌∙◌}
 use Rattle.bpf_kept.specs.Terms.{frame_slots}
 use Rattle.bpf_kept.specs.Slots.{each_slot}
-use Rattle.bpf_kept.specs.Rules.{is_told, are_told}
+use Rattle.bpf_kept.specs.Behind.{is_told, are_told}
 use Rattle.bpf_kept.specs.Knowns.{known_of}
 use Rattle.bpf_kept.proofs.SlotLemmas.{one_slot, not_each}
 use Rattle.bpf_kept.proofs.behind.are_told.Goals as goal

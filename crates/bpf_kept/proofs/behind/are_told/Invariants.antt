@@ -1,6 +1,6 @@
 use Rattle.std.proofs.Common.{◌≡◌, true}
 use Rattle.bpf_kept.specs.Slots.{each_slot}
-use Rattle.bpf_kept.specs.Rules.{is_told}
+use Rattle.bpf_kept.specs.Behind.{is_told}
 use Rattle.bpf_kept.specs.Knowns.{known_of}
 use Rattle.bpf_kept.proofs.behind.are_told.Given as goal
 

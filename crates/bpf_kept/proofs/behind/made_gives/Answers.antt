@@ -3,7 +3,8 @@ use Rattle.std.specs.Prelude.{not, ◌&&◌}
 use Rattle.std.specs.List.{list_any}
 use Rattle.std.proofs.lemmas.Iterator.{YieldsList-from_slice}
 use Rattle.std.proofs.lemmas.Iterator.Search.{any_from_yields_List}
-use Rattle.bpf_kept.specs.Rules.{is_holder, gives, made}
+use Rattle.bpf_kept.specs.Rules.{is_holder, gives}
+use Rattle.bpf_kept.specs.Behind.{made}
 use Rattle.bpf_kept.proofs.RuleLemmas.{or_else}
 use Rattle.bpf_kept.proofs.behind.made_gives.Goals as goal
 

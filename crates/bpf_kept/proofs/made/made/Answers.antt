@@ -2,7 +2,7 @@ use Rattle.std.proofs.Common.{sym, ap, ◌∙◌, rules}
 use Rattle.std.specs.Int.{w16}
 use Rattle.std.proofs.lemmas.Int.{to_z-of_z}
 use Rattle.bpf_insn.specs.declared.instruction.Insn.TheVariants.{Load}
-use Rattle.bpf_kept.specs.Rules.{made}
+use Rattle.bpf_kept.specs.Behind.{made}
 use Rattle.bpf_kept.proofs.made.made.Goals as goal
 
 pub returns-in-LoadImm64 : goal.returns-in-LoadImm64

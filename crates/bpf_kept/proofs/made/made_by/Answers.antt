@@ -1,7 +1,7 @@
 use Rattle.std.proofs.Common.{sym, ap, ◌∙◌, rules, tests}
 use Rattle.std.proofs.lemmas.Iterator.{YieldsList-from_slice}
 use Rattle.std.proofs.lemmas.Iterator.Search.{any_from_yields_List}
-use Rattle.bpf_kept.specs.Rules.{is_sum, is_difference, made_by}
+use Rattle.bpf_kept.specs.Behind.{is_sum, is_difference, made_by}
 use Rattle.bpf_kept.proofs.made.made_by.Goals as goal
 
 pub returns-in-Add : goal.returns-in-Add

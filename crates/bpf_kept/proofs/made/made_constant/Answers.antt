@@ -4,7 +4,7 @@ use Rattle.std.specs.Option.{option_map_or}
 use Rattle.std.proofs.lemmas.Iterator.{YieldsList-from_slice}
 use Rattle.std.proofs.lemmas.Iterator.Search.{any_from_yields_List}
 use Rattle.bpf_kept.specs.Terms.{constant}
-use Rattle.bpf_kept.specs.Rules.{is_moved, known_number, of_number, made}
+use Rattle.bpf_kept.specs.Behind.{is_moved, known_number, of_number, made}
 use Rattle.bpf_kept.proofs.RuleLemmas.{or_else}
 use Rattle.bpf_kept.proofs.made.made_constant.Goals as goal
 

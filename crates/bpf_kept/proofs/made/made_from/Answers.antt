@@ -3,7 +3,7 @@ use Rattle.std.specs.List.{list_any}
 use Rattle.std.specs.Option.{option_map_or}
 use Rattle.std.proofs.lemmas.Iterator.{YieldsList-from_slice}
 use Rattle.std.proofs.lemmas.Iterator.Search.{any_from_yields_List}
-use Rattle.bpf_kept.specs.Rules.{made_by, known_operand, by_operand}
+use Rattle.bpf_kept.specs.Behind.{made_by, known_operand, by_operand}
 use Rattle.bpf_kept.proofs.RuleLemmas.{or_else}
 use Rattle.bpf_kept.proofs.made.made_from.Goals as goal
 

@@ -1,0 +1,3 @@
+-- Definitions.
+-- what notes of a hardened program show
+pub mod Evidence

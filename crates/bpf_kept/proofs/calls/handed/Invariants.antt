@@ -1,0 +1,12 @@
+use Rattle.std.proofs.Common.{◌≡◌, ◌≤◌, take}
+use Rattle.std.specs.Prelude.{filter}
+use Rattle.bpf_kept.specs.Calls.{is_handed}
+use Rattle.bpf_kept.specs.Knowns.{facts_in}
+use Rattle.bpf_kept.proofs.calls.handed.Given as goal
+
+-- those of the facts so far
+abbrev pub invariant-loop-fact : goal.invariant-loop-fact
+invariant-loop-fact l = record {
+  facts : facts_in l.all ≡ filter is_handed (take l.fact-index l.facts);
+  count : l.all.count ≤ l.fact-index;
+}

@@ -1,0 +1,11 @@
+mod Spelled
+mod Loops
+mod Decimals
+mod TermLemmas
+mod FactLemmas
+mod ListLemmas
+mod Elements
+mod Again
+mod Found
+mod Said
+mod Whole

@@ -1,0 +1,4 @@
+mod Course
+mod Noted
+mod ShownLemmas
+mod FaultLemmas
