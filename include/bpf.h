@@ -19,8 +19,8 @@
 extern "C" {
 #endif
 
-/* The version of this header, 0.3.2, as one number: 10,000 times its first part, 100 times its second, and its third, together. */
-#define BPF_HOST_VERSION 302
+/* The version of this header, 0.3.3, as one number: 10,000 times its first part, 100 times its second, and its third, together. */
+#define BPF_HOST_VERSION 303
 
 /* The greatest image that there is, in bytes. */
 enum { BPF_IMAGE_MOST = 524288 };
@@ -66,10 +66,10 @@ struct bpf_refusal {
     uint32_t kind;      /* enum bpf_kind, but BPF_FAULT */
     uint32_t number;    /* from 1 */
     uint64_t place;     /* the slot, from 0; of BPF_CERTIFICATE and BPF_NOTES the line, from 1; of BPF_CLASSIC the filter's instruction, from 0 */
-    uint64_t condition; /* of I4 and H7: the number of the checker's condition, 3 to 12; of H13: that of BPF_MISMATCH, 1 to 9, of which M8 is that there
-                           are more notes than slots, and M9 that there is no certificate for contexts of this length; of H14: the bound that is too
-                           great; of H15: the number of BPF_CHECK, 1 to 13; of BPF_IMAGE by bpf_follows: 0 of the old image, 1 of the new one;
-                           else 0 */
+    uint64_t condition; /* of I4 and H7: the number of the checker's condition, 3 to 12; of H13: that of BPF_MISMATCH, 1 to 10, of which M8 is that there
+                           are more notes than slots, M9 that there is no certificate for contexts of this length, and M10 that the old image comes to
+                           no exit on these; of H14: the bound that is too great; of H15: the number of BPF_CHECK, 1 to 13; of BPF_IMAGE by
+                           bpf_follows: 0 of the old image, 1 of the new one; else 0 */
 };
 
 enum bpf_end {
@@ -96,12 +96,16 @@ struct bpf_wish {
     uint32_t unproved;  /* 0: a new image that isn't shown to keep the meaning of the old one is refused, by H13; 1: nobody shows it */
 };
 
+/* In the place of a number of turns: no note has a counter, so it is shown however often a run comes to an instruction. */
+#define BPF_ANY_TURNS UINT32_MAX    /* of struct bpf_certified */
+#define BPF_ANY_TURNS_64 UINT64_MAX /* of struct bpf_following */
+
 /* What was certified. */
 struct bpf_certified {
     size_t image_len;       /* how many bytes the image has, at most BPF_IMAGE_MOST */
     size_t certificate_len; /* and how many its certificate */
     uint32_t bound;         /* the greatest number of instructions of a run */
-    uint32_t turns;         /* it is shown of runs of the old image that come to no instruction more often; 0 where it is the old one */
+    uint32_t turns;         /* it is shown of runs of the old image that come to no instruction more often, BPF_ANY_TURNS of all; 0 where it is the old one */
     uint32_t untouched;     /* and that leave so many of the lowest bytes of each frame to r10 */
     uint32_t is_rewritten;  /* 0: the image is the old one; 1: it is hardened */
     uint32_t is_shown;      /* 1: it keeps the meaning of the old one, on those runs; 0: nobody showed it */
@@ -111,7 +115,7 @@ struct bpf_certified {
 struct bpf_following {
     uint32_t size;      /* how many bytes a context has, at most 4,096 */
     uint32_t padded;    /* 1: a context is a block, of which the old program is given the packet; else 0 */
-    uint64_t turns;     /* runs of the old image that come to no instruction more often */
+    uint64_t turns;     /* runs of the old image that come to no instruction more often; BPF_ANY_TURNS_64: however often they do */
     uint32_t untouched; /* and that leave so many of the lowest bytes of each frame to r10 */
     uint32_t bound;     /* the greatest number of instructions of a run of the new image, which its certificate says */
 };
@@ -159,6 +163,8 @@ int32_t bpf_host_run_prepared(const uint8_t *memory, size_t memory_len, const ui
 int32_t bpf_host_follows(const uint8_t *old_image, size_t old_len, const uint8_t *new_image, size_t new_len, uint32_t order,
                          const uint8_t *notes, size_t notes_len, const uint8_t *certificate, size_t certificate_len,
                          struct bpf_following *following, struct bpf_refusal *refusal);
+int32_t bpf_host_ends_at_trap(const uint8_t *image, size_t image_len, uint32_t order, const uint8_t *notes, size_t notes_len,
+                              const uint8_t *context, size_t context_len, uint64_t most, uint32_t *trap, struct bpf_refusal *refusal);
 size_t bpf_host_convert_size(size_t count);
 int32_t bpf_host_convert(const uint8_t *filter, size_t filter_len, uint32_t filter_order, uint32_t form, uint32_t size, uint32_t order,
                          uint8_t *made, size_t made_len, uint8_t *text, size_t text_len, struct bpf_converted *converted,
@@ -528,6 +534,27 @@ static inline int32_t bpf_follows(const void *old_image, size_t old_len, const v
     answer = bpf_host_follows(bpf_bytes(old_image), old_len, bpf_bytes(new_image), new_len, order, bpf_bytes(notes), notes_len, bpf_bytes(certificate),
                               certificate_len, &shown, &why);
     if (answer == BPF_YES && following) *following = shown;
+    if (answer == BPF_NO && refusal) *refusal = why;
+    return answer;
+}
+
+/* Whether a run of an image on a context ends at a trap: at an EXIT that the notes don't have stand for one of the old program's. The run is made on the
+ * exact machine, for at most `most` instructions. BPF_YES: *trap is 1 if it does; it is 0 if the run ends at another EXIT, at a fault, or not so soon.
+ * BPF_NO: *refusal says why, by E (the image) or N (the notes), the first of these that fails. BPF_NO_MEMORY: while the notes were read. BPF_BAD_CALL: an
+ * order that isn't one. BPF_BAD_LENGTH: a context of more than 4,096 bytes. BPF_BAD_MEMORY: no bytes, or an answer that lies in what is read. *trap stays
+ * but for BPF_YES, and *refusal but for BPF_NO. Nothing here looks whether the notes match the image: bpf_follows does. */
+static inline int32_t bpf_ends_at_trap(const void *image, size_t image_len, uint32_t order, const void *notes, size_t notes_len,
+                                       const void *context, size_t context_len, uint64_t most, uint32_t *trap, struct bpf_refusal *refusal) {
+    struct bpf_refusal why = {0, 0, 0, 0};
+    uint32_t told = 0;
+    int32_t answer;
+    if (!bpf_are_bytes(image, image_len) || !bpf_are_bytes(notes, notes_len) || !bpf_are_bytes(context, context_len)) return BPF_BAD_MEMORY;
+    if (!bpf_is_apart(trap, sizeof *trap, image, image_len, notes, notes_len)) return BPF_BAD_MEMORY;
+    if (!bpf_is_apart(trap, sizeof *trap, context, context_len, NULL, 0)) return BPF_BAD_MEMORY;
+    if (!bpf_is_apart(refusal, sizeof *refusal, image, image_len, notes, notes_len)) return BPF_BAD_MEMORY;
+    if (!bpf_is_apart(refusal, sizeof *refusal, context, context_len, NULL, 0)) return BPF_BAD_MEMORY;
+    answer = bpf_host_ends_at_trap(bpf_bytes(image), image_len, order, bpf_bytes(notes), notes_len, bpf_bytes(context), context_len, most, &told, &why);
+    if (answer == BPF_YES && trap) *trap = told;
     if (answer == BPF_NO && refusal) *refusal = why;
     return answer;
 }

@@ -124,6 +124,11 @@ PLAIN = {
     "a trap's exit stands for an old one": ["bpf_kept/returns-takes-the-exit-of-a-trap-for-an-old-one"],
     "the new program alone stores": ["bpf_kept/extra-lets-a-store-of-the-new-program-alone"],
     "an edge leads elsewhere": ["bpf_kept/suits-takes-a-later-old-slot", "bpf_kept/leads-needs-no-target"],
+    "an atomic operation is taken for another, or finds something else": [
+        "bpf_kept/same_modify-takes-an-or-for-a-xor", "bpf_kept/same_atomic-takes-one-that-fetches-for-one-that-does-not",
+        "bpf_kept/takes_alike-compares-with-any-r0", "bpf_kept/goes_alike-finds-what-differs", "bpf_kept/is_atomic_of-finds-a-counter-behind-the-first-byte"],
+    "what a register held is known where an atomic operation fetched": [
+        "bpf_kept/unfetched_give-keeps-the-facts-of-the-register", "bpf_kept/is_spared-keeps-a-counter-that-is-fetched-over", "bpf_kept/fetches-puts-into-r10-alone"],
     "the start asks for nothing": ["bpf_kept/begun-takes-any-start", "bpf_kept_pass/all_hold-leaves-the-first-slot-out"],
     "a certificate is of another length": ["bpf_kept_pass/is_for-takes-a-certificate-of-another-length"],
     "a number is taken for a small one": ["bpf_kept/is_small-takes-the-least-for-the-greatest", "bpf_kept/most_limit-takes-each-number-for-a-small-one"],
@@ -140,6 +145,8 @@ PLAIN = {
     "a function may give back the number that its trap answers": ["bpf_kept/is_unlike-takes-any-constant", "bpf_kept/never_holds-takes-a-number-that-may-be-the-one",
                                                                   "bpf_kept/still_barred-outlives-a-write-to-r0", "bpf_kept/tests_barred-tests-any-register"],
     "a state is told that reaches nothing": ["bpf_kept_pass/stated-tells-a-state-that-reaches-nothing"],
+    "any number of turns is told though a counter is noted": ["bpf_kept/turns_shown-always-says-any", "bpf_certify/told-says-any-of-what-is-not-shown"],
+    "a yes says nothing": ["bpf_kept_pass/follows-says-yes-where-nothing-ends", "bpf_kept_pass/ends_here-takes-an-exit-that-is-not-reached"],
     "what is noted of a second slot isn't looked at": ["bpf_kept_pass/hold_here-leaves-second-slots-out"],
 }
 
@@ -170,6 +177,8 @@ CALLS = {
     "bpf_host_certify": ["bpf_host_calls/certify-writes-the-old-image", "bpf_host_calls/certify-tells-another-bound"],
     "bpf_host_convert": ["bpf_host_calls/convert-converts-for-half-the-size", "bpf_host_calls/convert-reads-the-filter-in-the-order-of-the-image",
                          "bpf_host_calls/conversion-tells-another-bound"],
+    "bpf_host_ends_at_trap": ["bpf_host_calls/runs_to_trap-tells-traps-as-answers", "bpf_host_calls/runs_to_trap-tells-a-trap-of-a-run-that-goes-on",
+                              "bpf_host_calls/trapped-tells-notes-as-the-image", "bpf_host_calls/trapped-answers-without-notes"],
     "bpf_host_explain": ["bpf_host_calls/explain-says-yes-of-a-refused-program"],
     "bpf_host_explain_search": ["bpf_host_calls/explain_search-says-yes-of-a-refused-certificate"],
     "bpf_host_follows": ["bpf_host_calls/follows-judges-the-old-image-beside-itself", "bpf_host_calls/follows-leaves-the-certificate-unchecked",

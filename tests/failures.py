@@ -44,6 +44,7 @@ COMMANDS = [
     ('infer checksum.img 15 OUT', [E9, I5]),
     ('infer --deep checksum.img 15 OUT', [E9, I5]),
     ('harden first-byte.img 1 OUT', [E9, H12]),
+    ('harden nth.img 16 OUT', [E9, H12]),
     ('harden checksum.img 15 OUT', [E9, H12]),
     ('harden checksum.img 16 OUT --unproved --notes /dev/null --changes /dev/zero', [E9, H12]),
     ('harden checksum.img 16 OUT --unproved --certificate /dev/null', [E9, H12]),
@@ -79,8 +80,8 @@ COMMANDS = [
     ('explain checksum.img --infer 16', [E9, I5_TOLD]),
     ('explain checksum.img --infer 15', [E9, I5_TOLD]),
     ('explain checksum.img --infer 15 --deep', [E9, I5_TOLD]),
-    ('explain checksum.img --harden 15', [E9, H12_TOLD]),
-    ('explain checksum.img --harden 15 --padded', [E9, H12_TOLD]),
+    ('explain nth.img --harden 16', [E9, H12_TOLD]),
+    ('explain nth.img --harden 16 --padded', [E9, H12_TOLD]),
 ]
 
 
@@ -276,7 +277,8 @@ def main():
     (extra / 'two.pcap').write_bytes(two_packets())
     (extra / 'cut.pcap').write_bytes(two_packets()[:-1])
     subprocess.run([BPF, 'asm', str(extra / 'told.asm'), str(extra / 'told.img')], check=True)
-    subprocess.run([BPF, 'asm', str(EXAMPLES / 'checksum.asm'), str(extra / 'checksum.img')], check=True)
+    for name in ('checksum', 'nth'):
+        subprocess.run([BPF, 'asm', str(EXAMPLES / f'{name}.asm'), str(extra / f'{name}.img')], check=True)
     subprocess.run([BPF, 'harden', str(EXAMPLES / 'first-byte.img'), '1', os.devnull, '--notes', str(extra / 'first-byte.notes')], check=True)
     totals = {'allocations refused': 0, 'reads and writes failed': 0, 'reads and writes shortened': 0}
     with ThreadPoolExecutor(os.cpu_count()) as pool:

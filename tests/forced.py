@@ -9,7 +9,8 @@ orders and with few and many turns; and as many have one byte changed. On random
   take the lowest bytes of a frame that is written by a register, and the new program isn't shown to keep the meaning;
 - where the old one leaves the context or its frame by a register (F3), the new one goes to the trap.
 
-At least 19 of 20 for which a certificate is found are shown to keep the meaning; what fails first of the others is counted, M9 where there is none.
+At least 19 of 20 for which a certificate is found, and of which the old one comes to an exit, are shown to keep the meaning; what fails first of the
+others is counted, M9 where there is no certificate, M10 where no exit is reached.
 """
 import collections
 import os
@@ -129,7 +130,8 @@ def main():
         sys.exit(f'forced.py: {wrong}')
     if found['programs'] < count or found['trap'] < count or found['same'] < count:
         sys.exit(f'forced.py: too few were compared: {dict(found)}')
-    if 20 * (found['yes'] + found['left']) < 19 * (found['programs'] - found['M9']) or 2 * found['M9'] > found['programs']:
+    ending = found['programs'] - found['M9'] - found['M10']
+    if 20 * (found['yes'] + found['left']) < 19 * ending or 2 * found['M9'] > found['programs']:
         sys.exit(f'forced.py: too few are shown to keep the meaning: {dict(found)}')
     print(f'forced: of {2 * count} programs {found["programs"]} with guards and counters by force: {found["same"]} runs end with the same number, '
           f'{found["trap"]} in the trap; no image {found["E"]}, refused {found["H"]}; shown to keep the meaning {found["yes"]}, '

@@ -29,8 +29,8 @@ FORMS = {
     'migrate': {0: '', 1: r'no K[1-4] at line \d+\n'},
     'explain': {0: r'[^\0]+\n', 1: r'[^\0]+\n'},
     'harden': {0: '', 1: rf'no E\d+ at slot {SLOT}\n|no H\d+ at slot {SLOT}\n'},
-    'follows': {0: r'yes length \d+ turns \d+ bound \d+( padded)?( untouched \d+)?\n',
-                1: rf'no E\d+ of (OLD|NEW) at slot {SLOT}\n|no N1 at line \d+\n|no K[1-4] at line \d+\n|no C\d+ at slot {SLOT}\n|no M[1-9] at slot {SLOT}\n'},
+    'follows': {0: r'yes length \d+ turns (\d+|any) bound \d+( padded)?( untouched \d+)?\n',
+                1: rf'no E\d+ of (OLD|NEW) at slot {SLOT}\n|no N1 at line \d+\n|no K[1-4] at line \d+\n|no C\d+ at slot {SLOT}\n|no M([1-9]|10) at slot {SLOT}\n'},
 }
 ERRORS = {2: r'bad hex\n|context too long\n|most below least\n|words that don\'t go together\n|error: [^\0]*', 3: r'cannot (read|write) [^\n]*\n|no memory\n'}
 
@@ -201,7 +201,7 @@ def try_followed(run, r, image, order):
     if r.random() < 0.7:
         run.put('n.notes', altered_text(r, run.get('n.notes').decode()).encode('latin-1'))
     status, said = run.bpf('follows', *order, old, 'n.img', 'n.notes', 'n.cert')
-    if status != 0 or not re.fullmatch(rf'yes length {length} turns 65536 bound \d+\n', said):
+    if status != 0 or not re.fullmatch(rf'yes length {length} turns (65536|any) bound \d+\n', said):
         return 0
     for _ in range(4):
         context = hex_of(bytes(r.choice([0, 1, r.randrange(256)]) for _ in range(length)))

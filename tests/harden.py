@@ -199,7 +199,7 @@ class Runner:
         takes, and that `harden` goes by it without `--unproved`: what is shown for fewer runs than all it says, and `--untouched 0` refuses it."""
         blocks = ' padded' if '--padded' in harden else ''
         status, out = self.call('follows', *order, 'old.img', 'new.img', 'notes', 'new.cert')
-        said = re.fullmatch(rf'yes length {length} turns 65536 bound \d+{blocks}(?: untouched (\d+))?\n|no (M\d) at (slot \d+)\n', out)
+        said = re.fullmatch(rf'yes length {length} turns (?:65536|any) bound \d+{blocks}(?: untouched (\d+))?\n|no (M\d+) at (slot \d+)\n', out)
         if not said:
             raise Wrong(f'follows says {out!r}')
         shown, left = status == 0, int(said[1] or 0)
@@ -376,7 +376,7 @@ def try_longest(bpf):
         run.put('own-notes', b'bpfnotes 2 length 0 turns 65536 untouched 0\n' + b''.join(b'%d old %d\n' % (n, n) for n in range(65535)) + b'65535 old 65535 r0\n')
         run.call('asm', 'p.asm', 'p.img')
         run.call('harden', 'p.img', '0', 'new.img', '--unproved', '--notes', 'notes', '--certificate', 'cert')
-        for notes, wanted in (('own-notes', 'yes length 0 turns 65536 bound 65536\n'), ('notes', 'no M2 at slot 0\n')):
+        for notes, wanted in (('own-notes', 'yes length 0 turns any bound 65536\n'), ('notes', 'no M2 at slot 0\n')):
             said = run.call('follows', 'p.img', 'new.img', notes, 'cert')[1]
             if said != wanted:
                 raise Wrong(f'of the longest program follows says {said!r} by {notes}')

@@ -257,7 +257,8 @@ static void say_follows(uint32_t order, char **word) {
                why.kind == BPF_NOTES || why.kind == BPF_CERTIFICATE ? "line" : "slot", (unsigned)why.place);
         break;
     case BPF_YES:
-        printf("0 yes length %u turns %llu bound %u", (unsigned)shown.size, (unsigned long long)shown.turns, (unsigned)shown.bound);
+        if (shown.turns == BPF_ANY_TURNS_64) printf("0 yes length %u turns any bound %u", (unsigned)shown.size, (unsigned)shown.bound);
+        else printf("0 yes length %u turns %llu bound %u", (unsigned)shown.size, (unsigned long long)shown.turns, (unsigned)shown.bound);
         if (shown.padded) printf(" padded");
         if (shown.untouched) printf(" untouched %u", (unsigned)shown.untouched);
         puts("");
@@ -265,6 +266,30 @@ static void say_follows(uint32_t order, char **word) {
     default: abort();
     }
     free(old.at), free(new.at), free(notes.at), free(certificate.at);
+}
+
+/* traps ORDER IMAGE NOTES CONTEXT STEPS: a run with notes */
+static void say_traps(uint32_t order, char **word) {
+    struct bytes from = read_file(word[0]), by = read_file(word[1]), context = from_hex(word[2]);
+    const uint64_t most = strtoull(word[3], NULL, 10);
+    struct bpf_outcome end;
+    struct bpf_refusal why = {7, 7, 7, 7};
+    uint32_t trap = 7;
+    switch (bpf_ends_at_trap(from.at, from.len, order, by.at, by.len, context.at, context.len, most, &trap, &why)) {
+    case BPF_NO:
+        if (!bpf_refusal_text(why.kind, why.number, NULL, 0) || trap != 7 || why.condition) abort();
+        printf("1 no %c%u at %s %u\n", (int)why.kind, (unsigned)why.number, why.kind == BPF_NOTES ? "line" : "slot", (unsigned)why.place);
+        break;
+    case BPF_YES:
+        if (trap > 1 || why.kind != 7) abort();
+        if (bpf_run(from.at, from.len, order, context.at, context.len, most, &end) != BPF_YES) abort();
+        if (trap && end.kind != BPF_DONE) abort();
+        if (trap) printf("0 done %llu steps %llu trap\n", (unsigned long long)end.value, (unsigned long long)end.steps);
+        else say_run(order, &from, &context, most);
+        break;
+    default: abort();
+    }
+    free(from.at), free(by.at), free(context.at);
 }
 
 /* How it is certified in exactly the room that it takes. */
@@ -308,7 +333,9 @@ static void say_certify(uint32_t order, char **word) {
         if (why.kind != 7 || told.image_len > BPF_IMAGE_MOST || told.certificate_len > bpf_infer_size(told.image_len)) abort();
         certify_in(order, &from, size, &wish, told, word + 6);
         printf("0 yes length %u bound %u", (unsigned)size, (unsigned)told.bound);
-        if (told.is_rewritten) printf(" hardened turns %u%s", (unsigned)told.turns, wish.padded ? " padded" : "");
+        if (told.is_rewritten && told.turns == BPF_ANY_TURNS) printf(" hardened turns any");
+        else if (told.is_rewritten) printf(" hardened turns %u", (unsigned)told.turns);
+        if (told.is_rewritten && wish.padded) printf(" padded");
         if (told.untouched) printf(" untouched %u", (unsigned)told.untouched);
         puts(told.is_shown ? "" : " unproved");
         break;
@@ -372,6 +399,10 @@ static void answer(char **word) {
     }
     if (!strcmp(word[0], "follows")) {
         say_follows(order, word + 2);
+        return;
+    }
+    if (!strcmp(word[0], "traps")) {
+        say_traps(order, word + 2);
         return;
     }
     if (!strcmp(word[0], "certify")) {
@@ -710,7 +741,66 @@ static void bad_following(void) {
     why.kind = 7;
     WANTS(bpf_follows(IMAGE, IMAGE, BPF_LITTLE, NOTES, CERTIFICATE, NULL, NULL), BPF_YES);
     WANTS(bpf_follows(IMAGE, IMAGE, BPF_LITTLE, NOTES, CERTIFICATE, &shown, &why), BPF_YES);
-    WANTS(why.kind == 7 && !shown.size && !shown.padded && shown.turns == 65536 && !shown.untouched && shown.bound == 2, 1);
+    WANTS(why.kind == 7 && !shown.size && !shown.padded && shown.turns == BPF_ANY_TURNS_64 && !shown.untouched && shown.bound == 2, 1);
+}
+
+static void bad_traps(void) {
+    /* r0 is the byte whose number the context begins with; where that is above 15, the EXIT of slot 9 is a trap. */
+    static const uint8_t guarded[80] = {
+        0xbf, 0x19, 0, 0, 0, 0, 0, 0, 0xb7, 0x1, 0, 0, 0, 0, 0, 0,
+        0x71, 0x92, 0, 0, 0, 0, 0, 0, 0xf, 0x21, 0, 0, 0, 0, 0, 0,
+        0x25, 0x1, 0x3, 0, 0xf, 0, 0, 0, 0xf, 0x91, 0, 0, 0, 0, 0, 0,
+        0x71, 0x10, 0, 0, 0, 0, 0, 0, 0x95, 0, 0, 0, 0, 0, 0, 0,
+        0xb7, 0, 0, 0, 0, 0, 0, 0, 0x95, 0, 0, 0, 0, 0, 0, 0,
+    };
+    static const char by[] = "bpfnotes 2 length 16 turns 7 untouched 0\n0 old 0 extras 2 r1=0-context 0=r1-context\n"
+                             "1 old 0 extras 1 r9=0-context 0=r1-context\n2 old 0 r1=r1-context r9=0-context 0=r1-context\n"
+                             "3 old 1 r1=r1-context r2 r9=0-context\n4 old 2 extras 2 r1=r1-context r9=0-context\n"
+                             "5 old 2 extras 1 r1=r1-context r9=0-context\n6 old 2 r1\n7 old 3 r0\n";
+    static const char older[] = "bpfnotes 1 length 16 turns 7 untouched 0\n", cut[] = "bpfnotes 2 length 16 turns 7 untouched 0\n0 old\n";
+    static const uint8_t inside[16] = {1}, outside[16] = {16}, long_context[4097];
+    struct bpf_refusal why = {7, 7, 7, 7};
+    uint32_t trap = 7;
+#define GUARDED guarded, sizeof guarded
+#define BY by, sizeof by - 1
+    WANTS(bpf_ends_at_trap(NULL, 16, BPF_LITTLE, BY, inside, 16, 9, &trap, &why), BPF_BAD_MEMORY);
+    WANTS(bpf_ends_at_trap(GUARDED, BPF_LITTLE, NULL, 9, inside, 16, 9, &trap, &why), BPF_BAD_MEMORY);
+    WANTS(bpf_ends_at_trap(GUARDED, BPF_LITTLE, by, HUGE_LEN, inside, 16, 9, &trap, &why), BPF_BAD_MEMORY);
+    WANTS(bpf_ends_at_trap(GUARDED, BPF_LITTLE, BY, NULL, 16, 9, &trap, &why), BPF_BAD_MEMORY);
+    WANTS(bpf_ends_at_trap(GUARDED, BPF_LITTLE, BY, inside, 16, 9, (void *)guarded, &why), BPF_BAD_MEMORY);
+    WANTS(bpf_ends_at_trap(GUARDED, BPF_LITTLE, BY, inside, 16, 9, (void *)by, &why), BPF_BAD_MEMORY);
+    WANTS(bpf_ends_at_trap(GUARDED, BPF_LITTLE, BY, inside, 16, 9, (void *)inside, &why), BPF_BAD_MEMORY);
+    WANTS(bpf_ends_at_trap(GUARDED, BPF_LITTLE, BY, inside, 16, 9, &trap, (void *)guarded), BPF_BAD_MEMORY);
+    WANTS(bpf_ends_at_trap(GUARDED, BPF_LITTLE, BY, inside, 16, 9, &trap, (void *)by), BPF_BAD_MEMORY);
+    WANTS(bpf_ends_at_trap(GUARDED, BPF_LITTLE, BY, inside, 16, 9, &trap, (void *)inside), BPF_BAD_MEMORY);
+    WANTS(bpf_ends_at_trap(GUARDED, 2, BY, inside, 16, 9, &trap, &why), BPF_BAD_CALL);
+    WANTS(bpf_ends_at_trap(NO_IMAGE, 2, CERTIFICATE, long_context, 4097, 9, &trap, &why), BPF_BAD_CALL);
+    WANTS(bpf_ends_at_trap(GUARDED, BPF_LITTLE, BY, long_context, 4097, 9, &trap, &why), BPF_BAD_LENGTH);
+    WANTS(bpf_ends_at_trap(NO_IMAGE, BPF_LITTLE, CERTIFICATE, long_context, 4097, 9, &trap, &why), BPF_BAD_LENGTH);
+    WANTS(trap == 7 && why.kind == 7, 1);
+    WANTS(bpf_ends_at_trap(NO_IMAGE, BPF_LITTLE, CERTIFICATE, inside, 16, 9, &trap, &why), BPF_NO);
+    WANTS(why.kind == BPF_IMAGE && why.number == 2 && !why.condition, 1);
+    WANTS(bpf_ends_at_trap(GUARDED, BPF_LITTLE, CERTIFICATE, inside, 16, 9, &trap, NULL), BPF_NO);
+    WANTS(bpf_ends_at_trap(GUARDED, BPF_LITTLE, older, sizeof older - 1, inside, 16, 9, &trap, &why), BPF_NO);
+    WANTS(why.kind == BPF_NOTES && why.number == 1 && why.place == 1 && !why.condition, 1);
+    WANTS(bpf_ends_at_trap(GUARDED, BPF_LITTLE, cut, sizeof cut - 1, inside, 16, 9, &trap, &why), BPF_NO);
+    WANTS(why.kind == BPF_NOTES && why.number == 1 && why.place == 2 && !why.condition, 1);
+    WANTS(trap, 7);
+    why.kind = 7;
+    WANTS(bpf_ends_at_trap(GUARDED, BPF_LITTLE, BY, inside, 16, 9, NULL, NULL), BPF_YES);
+    WANTS(bpf_ends_at_trap(GUARDED, BPF_LITTLE, BY, inside, 16, 9, &trap, &why), BPF_YES);
+    WANTS(trap, 0);
+    WANTS(bpf_ends_at_trap(GUARDED, BPF_LITTLE, BY, outside, 16, 7, &trap, &why), BPF_YES);
+    WANTS(trap, 1);
+    /* The run isn't at its end; it is at a fault. */
+    WANTS(bpf_ends_at_trap(GUARDED, BPF_LITTLE, BY, outside, 16, 6, &trap, &why), BPF_YES);
+    WANTS(trap, 0);
+    trap = 7;
+    WANTS(bpf_ends_at_trap(GUARDED, BPF_LITTLE, BY, NULL, 0, 9, &trap, &why), BPF_YES);
+    WANTS(trap == 0 && why.kind == 7, 1);
+    /* Without a note each EXIT is a trap. */
+    WANTS(bpf_ends_at_trap(GUARDED, BPF_LITTLE, by, strlen("bpfnotes 2 length 16 turns 7 untouched 0\n"), inside, 16, 9, &trap, &why), BPF_YES);
+    WANTS(trap, 1);
 }
 
 static void bad_certifying(void) {
@@ -900,7 +990,7 @@ static void bad_answers(void) {
 }
 
 static void bad_texts(void) {
-    static const struct { char kind; uint32_t count; } kinds[] = {{'A', 7}, {'B', 10}, {'C', 13}, {'E', 10}, {'F', 9}, {'H', 15}, {'I', 5}, {'K', 5}, {'M', 9}, {'N', 2}, {'P', 5}};
+    static const struct { char kind; uint32_t count; } kinds[] = {{'A', 7}, {'B', 10}, {'C', 13}, {'E', 10}, {'F', 9}, {'H', 15}, {'I', 5}, {'K', 5}, {'M', 10}, {'N', 2}, {'P', 5}};
     char text[128] = "as it was";
     for (size_t i = 0; i < sizeof kinds / sizeof *kinds; i++) {
         WANTS(bpf_refusal_text((uint32_t)kinds[i].kind, 0, text, sizeof text), 0);
@@ -938,6 +1028,7 @@ static int bad(void) {
     other_versions();
     bad_explanations();
     bad_following();
+    bad_traps();
     bad_certifying();
     bad_conversions();
     conversions();

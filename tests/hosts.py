@@ -141,6 +141,9 @@ class Table:
     def follows(self, order, old, new, notes, certificate):
         self.add(bpf('follows', *big(order), old, new, notes, certificate), 'follows', order, old, new, notes, certificate)
 
+    def traps(self, order, image, notes, context, fuel):
+        self.add(bpf('run', *big(order), image, context, '--steps', fuel, '--notes', notes), 'traps', order, image, notes, context, fuel)
+
     def certify(self, order, image, size, bound=1000000, turns=0, padded=0, unproved=0):
         """What is certified, and where the image and its certificate stand of both."""
         here, there = FOLDER / f'{len(self.lines)}.here', FOLDER / f'{len(self.lines)}.there'
@@ -193,6 +196,7 @@ class Table:
         assert len(got) == len(wants) and not wrong, wrong[:5]
         seen = {kind for line in got for kind in re.findall(r'(?:no|fault) ([A-Z]\d+)', line)}
         assert KINDS <= seen, sorted(KINDS - seen)
+        assert any(line.endswith(' trap') for line in got)
         for here, words in self.words.items():
             assert words and here.read_bytes() == words, (here, self.lines[int(here.stem)])
         for here, there in map(lambda pair: map(pathlib.Path, pair), self.made):
@@ -216,11 +220,17 @@ def fill_follows(table, images):
                     changed = made(f'{name}.{order}.{padded}.{len(table.lines)}', said.replace(was, other, 1))
                     table.follows(order, old, new, changed, certificate)
                 table.follows(order, old, old, notes, certificate)
+                for context in ['none', 'c8' + '00' * 15, *CONTEXTS[3:4]]:
+                    for fuel in [5, 1000]:
+                        table.traps(order, new, notes, context, fuel)
+                        table.traps(order, old, notes, context, fuel)
+                table.traps(order, new, none, 'none', 9)
                 table.follows(order, old, new, none, certificate)
                 table.follows(order, old, new, notes, none)
                 table.follows(order, old, new, notes, zero)
     for name in NO_IMAGES:
         table.follows('little', images[name]['little'], images['order.text']['little'], none, none)
+        table.traps('little', images[name]['little'], made('empty.notes', b'bpfnotes 2 length 0 turns 7 untouched 0\n'), 'none', 9)
         table.follows('little', images['order.text']['little'], images[name]['little'], none, none)
 
 

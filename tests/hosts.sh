@@ -50,9 +50,9 @@ hardens() {
     cmp "$dir/new.img" "$dir/their.img" && cmp "$dir/new.cert" "$dir/their.cert"
     [[ $("$dir/bin/bpf" check "$dir/new.img" "$dir/new.cert") == "yes length $size $(cat "$dir/said")" ]]
 }
-"$dir/bin/bpf" asm "$root/examples/checksum.asm" "$dir/checksum.img"
+"$dir/bin/bpf" asm "$root/examples/nth.asm" "$dir/nth.img"
 for unproved in 0 1; do
-    hardens "$dir/checksum.img" 15 0 "$unproved"
+    hardens "$dir/nth.img" 16 0 "$unproved"
     hardens "$root/examples/first-byte.img" 64 0 "$unproved"
     hardens "$root/examples/first-byte.img" 64 1 "$unproved"
 done

@@ -9,8 +9,6 @@ import sys
 
 ROOT = pathlib.Path(__file__).resolve().parent.parent
 SPECS = "crates/bpf_refusals/specs/Letters.antt"
-# Its errors are printed as sentences, and stand in the table, too.
-CAPTURES = "crates/bpf_captures/src/error.rt"
 
 # Which letters a document lists: in rows of a table (`| E4 |`), or anywhere.
 LISTS = {
@@ -81,16 +79,10 @@ def unnumbered(name, refusals):
                 yield f"{name}:{at}: `{sentence}` is said by {' and '.join(numbers)}"
 
 
-def printed(name):
-    """What the errors of a file say where they are printed, one behind the other."""
-    return re.findall(r'#\[error\("([^"]*)"\)\]', (ROOT / name).read_text())
-
-
 def main():
     refusals = table()
     faults = [fault for name, letters in LISTS.items() for fault in missing(name, letters, refusals)]
     faults += [fault for path in sorted(ROOT.glob("docs/*.md")) for fault in unnumbered(path.relative_to(ROOT), refusals)]
-    faults += [f"{CAPTURES} says `{it}`" for it in printed(CAPTURES) if it not in refusals["P"]]
     empty = [f"{letter}{number}" for letter, said in refusals.items() for number, it in enumerate(said, 1) if not it]
     faults += [f"{it} says nothing" for it in empty]
     count = sum(map(len, refusals.values()))

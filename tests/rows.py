@@ -117,6 +117,9 @@ def images_made(bpf, room, words, files):
 
 def context_of(room, words):
     """The context that a run is given, or None where it isn't one of these ways."""
+    if "--notes" in words:
+        at = words.index("--notes")
+        words = words[:at] + words[at + 2:]
     if "--context" in words:
         with open(f"{room}/{words[words.index('--context') + 1]}", "rb") as it:
             return it.read()
@@ -187,8 +190,8 @@ def packets_of(length, padded, big):
 
 
 def kept_meaning(bpf, room, words, said):
-    """What the new program answers otherwise than the old one, of which notes show that it keeps the meaning of all runs with so few turns."""
-    promise = re.fullmatch(r"yes length (\d+) turns (\d+) bound (\d+)( padded)?\n", said)
+    """What the new program answers otherwise than the old one, of which notes show that it keeps the meaning of all runs, or of those with so few turns."""
+    promise = re.fullmatch(r"yes length (\d+) turns (\d+|any) bound (\d+)( padded)?\n", said)
     if not promise or "-" in words or int(promise[1]) > 256:
         return ""
     big, padded = "--big" in words, bool(promise[4])
@@ -196,7 +199,7 @@ def kept_meaning(bpf, room, words, said):
     with open(f"{room}/{old}", "rb") as it:
         code = it.read()
     for context, given in packets_of(int(promise[1]), padded, big):
-        wanted = flat.far_answer(code, big, given, 8 if padded else 0, int(promise[2]))
+        wanted = flat.far_answer(code, big, given, 8 if padded else 0, *([] if promise[2] == "any" else [int(promise[2])]))
         answer = call(bpf, room, ["run-checked", *(["--big"] if big else []), new, certificate, context.hex() or "none"])[1]
         if wanted is not None and answer != f"done {wanted}\n":
             return f"on {context.hex()} the old program ends with {wanted} wherever memory lies far, and the new one says: {answer}"

@@ -54,11 +54,13 @@ static void *convert(void *at) {
 }
 
 static void *harden(void *at) {
+    static const uint8_t context[4096];
     struct job *job = at;
     struct bpf_refusal why;
     size_t wanted;
     struct bpf_certified told;
     struct bpf_following shown;
+    uint32_t trap = 0;
     char notes[128];
     int notes_len = snprintf(notes, sizeof notes, "bpfnotes 2 length %u turns 1 untouched 0\n0 old 0\n", (unsigned)job->verdict.least);
     job->wrong |= bpf_harden(job->image, job->image_len, BPF_LITTLE, job->verdict.least, NULL, NULL, 0, &wanted, &why) == BPF_BAD_CALL;
@@ -66,6 +68,9 @@ static void *harden(void *at) {
     job->wrong |= bpf_follows(job->image, job->image_len, job->image, job->image_len, BPF_LITTLE, notes, (size_t)notes_len, job->certificate,
                               job->certificate_len, &shown, &why) != BPF_NO;
     job->wrong |= why.kind != BPF_MISMATCH;
+    job->wrong |= bpf_ends_at_trap(job->image, job->image_len, BPF_LITTLE, notes, (size_t)notes_len, context, job->verdict.least, 1000000, &trap,
+                                   &why) != BPF_YES;
+    job->wrong |= trap != 1;
     job->wrong |= bpf_infer(job->image, job->image_len, BPF_LITTLE, job->verdict.least, job->verdict.most, 1, NULL, 0, &wanted, &why) == BPF_BAD_CALL;
     return NULL;
 }

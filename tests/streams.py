@@ -63,7 +63,7 @@ LINES = [
     ('groups smallest.img', b'base\n'),
     ('check smallest.img smallest.cert', b'yes length 0 bound 2\n'),
     ('run-checked smallest.img smallest.cert none', b'done 0\n'),
-    ('follows smallest.img smallest.img smallest.notes smallest.cert', b'yes length 0 turns 65536 bound 2\n'),
+    ('follows smallest.img smallest.img smallest.notes smallest.cert', b'yes length 0 turns any bound 2\n'),
     ('list smallest.img', b'r0 = 0\nexit\n'),
     ('migrate falling.cert -', b'bpfcert 2 0 0 23\nfn 0 1 *\nat 0 23\nat 1 2 +1*r6\nr6 u1..10\nend\n'),
     ('explain smallest.img', b'an image of 2 slots\n'),

@@ -15,6 +15,8 @@ use Rattle.bpf_infer_base.specs.RefusalNumbers.{condition_number}
 use Rattle.bpf_infer_base.specs.declared.error.InferError.{InferError}
 use Rattle.bpf_infer_base.specs.declared.error.InferError.TheVariants.{Unstable, NoBudget, Recursion, Fault as NoState, Memory as InferMemory}
 use Rattle.bpf_kept.specs.declared.bounds.Bounds.{Bounds}
+use Rattle.bpf_kept.specs.declared.bounds.Turns.{Turns}
+use Rattle.bpf_kept.specs.declared.bounds.Turns.TheVariants.{Any, Most}
 use Rattle.bpf_refusals.specs.Letters.{code_of}
 use Rattle.bpf_refusals.specs.Told.{at_number, told_at, told_certificate, told_check, told_hardening, told_image, told_mismatch, told_not_shown, told_notes}
 use Rattle.bpf_refusals.specs.declared.letter.Letter.{Letter}
@@ -24,7 +26,7 @@ use Rattle.bpf_refusals.specs.declared.told.At.{At}
 use Rattle.bpf_refusals.specs.declared.told.At.TheVariants.{Nowhere, Slot, Line, Instruction, Packet}
 use Rattle.bpf_refusals.specs.declared.told.TheConstants.{TOO_DEAR, UNCERTIFIED}
 pub use Rattle.bpf_answers.specs.declared.answer.Answer.{Answer}
-use Rattle.bpf_answers.specs.declared.answer.Answer.TheVariants.{Yes, NoImage, NoText, NoCertificate, NotCertified, NotProposed, NotHardened, NotShown, Certified, TooDear, Uncertified, NotConverted, Follows, NoOld, NoNew, NoNotes, NotFollowed, NoContext, NoCapture, Ends, Ran, Occur, Lists, Annotates, Written, WrittenFor}
+use Rattle.bpf_answers.specs.declared.answer.Answer.TheVariants.{Yes, NoImage, NoText, NoCertificate, NotCertified, NotProposed, NotHardened, NotShown, Certified, TooDear, Uncertified, NotConverted, Follows, NoOld, NoNew, NoNotes, NotFollowed, NoContext, NoCapture, Ends, EndsAtTrap, Ran, RanToTrap, Occur, Lists, Annotates, Written, WrittenFor}
 use Rattle.bpf_answers.specs.declared.certified.Rewriting.{Rewriting}
 use Rattle.bpf_captures.specs.Refused.{refusal_number as capture_number}
 use Rattle.bpf_captures.specs.declared.error.CaptureRefusal.{CaptureRefusal}
@@ -51,7 +53,7 @@ status_of (Certified told) = 0
 status_of TooDear = 1
 status_of Uncertified = 1
 status_of (NotConverted told) = 1
-status_of (Follows bounds bound) = 0
+status_of (Follows bounds turns bound) = 0
 status_of (NoOld error) = 1
 status_of (NoNew error) = 1
 status_of (NoNotes error) = 1
@@ -59,7 +61,9 @@ status_of (NotFollowed mismatch) = 1
 status_of (NoContext count least most) = 1
 status_of (NoCapture refusal) = 1
 status_of (Ends value) = 0
+status_of (EndsAtTrap value) = 0
 status_of (Ran outcome) = status_of_run outcome
+status_of (RanToTrap value steps) = 0
 status_of (Occur groups) = 0
 status_of (Lists program) = 0
 status_of (Annotates a) = 0
@@ -150,6 +154,14 @@ run_line (FaultRun slot reason steps) =
     concat (codes "fault F" ∷ decimal (reason_number reason) ∷ codes " at slot " ∷ decimal slot ∷ codes " steps " ∷ decimal steps ∷ codes "\n" ∷ [])
 run_line OutOfFuel = codes "out of fuel\n"
 
+-- `done 0 steps 23 trap`
+abbrev pub run_to_trap_line : ℕ → ℕ → List ℕ
+run_to_trap_line value steps = concat (codes "done " ∷ decimal value ∷ codes " steps " ∷ decimal steps ∷ codes " trap\n" ∷ [])
+
+-- `done 0 trap`
+abbrev pub end_at_trap_line : ℕ → List ℕ
+end_at_trap_line value = concat (codes "done " ∷ decimal value ∷ codes " trap\n" ∷ [])
+
 -- a word where it is true
 abbrev pub word_if : Bool → List ℕ → List (List ℕ)
 word_if true word = word ∷ []
@@ -175,21 +187,26 @@ untouched_pieces untouched = if nat_eq untouched 0 then [] else codes " untouche
 abbrev pub padded_word : Bool → List ℕ
 padded_word padded = if padded then codes " padded" else []
 
--- `yes length 16 turns 65536 bound 23`, with ` padded` and ` untouched 32` behind it
-abbrev pub follows_line : Bounds → ℕ → List ℕ
-follows_line runs bound =
-    concat (codes "yes length " ∷ decimal runs.length ∷ codes " turns " ∷ decimal runs.turns ∷ codes " bound " ∷ decimal bound ∷ padded_word runs.padded
+-- a number of turns: any, or the greatest
+abbrev pub turns_word : Turns → List ℕ
+turns_word Any = codes "any"
+turns_word (Most turns) = decimal turns
+
+-- `yes length 16 turns 65536 bound 23`, or `yes length 16 turns any bound 23`, with ` padded` and ` untouched 32` behind it
+abbrev pub follows_line : Bounds → Turns → ℕ → List ℕ
+follows_line runs turns bound =
+    concat (codes "yes length " ∷ decimal runs.length ∷ codes " turns " ∷ turns_word turns ∷ codes " bound " ∷ decimal bound ∷ padded_word runs.padded
     ∷ (untouched_pieces runs.untouched ++ (codes "\n" ∷ [])))
 
 -- what isn't shown to keep the meaning is named last
 abbrev pub proved_end : Bool → List ℕ
 proved_end is_shown = if is_shown then codes "\n" else codes " unproved\n"
 
--- `yes length 264 bound 13561`, or `yes length 264 bound 13561 hardened turns 264`, with ` padded`, ` untouched 32` and ` unproved` behind it
+-- `yes length 264 bound 13561`, or `yes length 264 bound 13561 hardened turns 264`, or `turns any`, with ` padded`, ` untouched 32` and ` unproved` behind it
 abbrev pub certified_line : (length bound : ℕ) → Option Rewriting → List ℕ
 certified_line length bound None = concat (codes "yes length " ∷ decimal length ∷ codes " bound " ∷ decimal bound ∷ codes "\n" ∷ [])
 certified_line length bound (Some r) =
-    concat (codes "yes length " ∷ decimal length ∷ codes " bound " ∷ decimal bound ∷ codes " hardened turns " ∷ decimal r.turns ∷ padded_word r.padded
+    concat (codes "yes length " ∷ decimal length ∷ codes " bound " ∷ decimal bound ∷ codes " hardened turns " ∷ turns_word r.told ∷ padded_word r.padded
     ∷ (untouched_pieces r.untouched ++ (proved_end r.is_shown ∷ [])))
 
 -- `no context of 3 bytes, want 16`
@@ -219,7 +236,7 @@ text_of (Certified told) = certified_line told.length told.bound told.rewriting
 text_of TooDear = told_line (told_at letters.Hardening TOO_DEAR Nowhere)
 text_of Uncertified = told_line (told_at letters.Hardening UNCERTIFIED Nowhere)
 text_of (NotConverted told) = told_line told
-text_of (Follows bounds bound) = follows_line bounds bound
+text_of (Follows bounds turns bound) = follows_line bounds turns bound
 text_of (NoOld error) = line_at at_slot_of_old (told_image error)
 text_of (NoNew error) = line_at at_slot_of_new (told_image error)
 text_of (NoNotes error) = told_line (told_notes error)
@@ -227,7 +244,9 @@ text_of (NotFollowed mismatch) = told_line (told_mismatch mismatch)
 text_of (NoContext count least most) = no_context_line count least most
 text_of (NoCapture refusal) = capture_line refusal
 text_of (Ends value) = concat (codes "done " ∷ decimal value ∷ codes "\n" ∷ [])
+text_of (EndsAtTrap value) = end_at_trap_line value
 text_of (Ran outcome) = run_line outcome
+text_of (RanToTrap value steps) = run_to_trap_line value steps
 text_of (Occur groups) = groups_line groups
 text_of (Lists program) = listing program.list
 text_of (Annotates a) = annotated a.notes a.program.order a.program.list

@@ -10,9 +10,9 @@ use crate::annotated::CommentedListing;
 use crate::certified::Certification;
 use crate::counted::Counted;
 use crate::failure::{DONE, Failure, REFUSED};
-use crate::lines;
 use crate::pieces::{put_at, write_at};
 use crate::refusal::{write_refusal, write_refusal_at};
+use crate::{lines, trapped};
 use bpf_captures::CaptureRefusal;
 use bpf_cert::CertError;
 use bpf_changes::HardenError;
@@ -20,7 +20,7 @@ use bpf_check::Refusal;
 use bpf_infer_base::InferError;
 use bpf_insn::written::Pending;
 use bpf_insn::{DecodeError, Groups, Program};
-use bpf_kept::{Bounds, Mismatch};
+use bpf_kept::{Bounds, Mismatch, Turns};
 use bpf_kept_notes::NotesError;
 use bpf_machine::Outcome;
 use bpf_refusals::{At, Letter, TOO_DEAR, Tells, Told, UNCERTIFIED};
@@ -60,10 +60,11 @@ pub enum Answer {
     Uncertified,
     /// A filter of classic BPF isn't converted.
     NotConverted(Told),
-    /// Notes beside a certificate show that one image's program keeps the meaning of another's, on these contexts and for these runs; and it is
-    /// certified within this bound.
+    /// Notes beside a certificate show that one image's program keeps the meaning of another's, on these contexts and for these runs, of so
+    /// many turns; and it is certified within this bound.
     Follows {
         bounds: Bounds,
+        turns: Turns,
         bound: u32,
     },
     /// What is at the name of the old one is no image.
@@ -82,10 +83,17 @@ pub enum Answer {
     },
     /// A checked program ends with this number.
     Ends(u64),
+    /// It does so at a trap, by notes.
+    EndsAtTrap(u64),
     /// A capture is refused, behind the answers to its packets in front.
     NoCapture(CaptureRefusal),
     /// How a run of any program ends.
     Ran(Outcome),
+    /// It ends with this number after so many steps, at a trap, by notes.
+    RanToTrap {
+        value: u64,
+        steps: u64,
+    },
     /// The conformance groups of an image.
     Occur(Groups),
     /// The instructions of a program.
@@ -117,6 +125,7 @@ impl Answer {
         match self {
             Answer::Yes { .. } | Answer::Certified(_) | Answer::Follows { .. } => DONE,
             Answer::Ends(_) | Answer::Occur(_) | Answer::Lists(_) | Answer::Annotates(_) => DONE,
+            Answer::EndsAtTrap(_) | Answer::RanToTrap { .. } => DONE,
             Answer::Written | Answer::WrittenFor(_) => DONE,
             Answer::Ran(outcome) => status_of_run(*outcome),
             Answer::NoImage(_) | Answer::NoText(_) | Answer::NoCertificate(_) => REFUSED,
@@ -137,6 +146,7 @@ impl Answer {
             Answer::Written => true,
             Answer::Yes { .. } | Answer::Certified(_) | Answer::Follows { .. } => false,
             Answer::Ends(_) | Answer::Occur(_) | Answer::Lists(_) => false,
+            Answer::EndsAtTrap(_) | Answer::RanToTrap { .. } => false,
             Answer::Annotates(_) | Answer::WrittenFor(_) | Answer::Ran(_) => false,
             Answer::NoImage(_) | Answer::NoText(_) | Answer::NoCertificate(_) => false,
             Answer::NotCertified(_) | Answer::NotProposed(_) => false,
@@ -176,7 +186,11 @@ impl Answer {
                 write_refusal(out, Told::new(Letter::Hardening, UNCERTIFIED, At::Nowhere))
             }
             Answer::NotConverted(told) => write_refusal(out, *told),
-            Answer::Follows { bounds, bound } => lines::write_followed(out, *bounds, *bound),
+            Answer::Follows {
+                bounds,
+                turns,
+                bound,
+            } => lines::write_followed(out, *bounds, *turns, *bound),
             Answer::NoOld(error) => write_refusal_at(out, error.told(), " of OLD at slot "),
             Answer::NoNew(error) => write_refusal_at(out, error.told(), " of NEW at slot "),
             Answer::NoNotes(error) => write_refusal(out, error.told()),
@@ -186,7 +200,9 @@ impl Answer {
             }
             Answer::NoCapture(refusal) => lines::write_no_capture(out, *refusal),
             Answer::Ends(value) => write_at(out, "done ", *value),
+            Answer::EndsAtTrap(value) => trapped::write_end_at_trap(out, *value),
             Answer::Ran(outcome) => lines::write_run(out, *outcome),
+            Answer::RanToTrap { value, steps } => trapped::write_run_to_trap(out, *value, *steps),
             Answer::Occur(groups) => lines::write_groups(out, *groups),
             Answer::Lists(program) => bpf_text::list(program, out),
             Answer::Annotates(annotated) => annotated.write(out),
@@ -203,7 +219,11 @@ impl Answer {
     {
         match self {
             Answer::Ends(value) => put_at(pending, out, "done ", *value),
+            Answer::EndsAtTrap(value) => trapped::put_end_at_trap(pending, out, *value),
             Answer::Ran(outcome) => lines::put_run(pending, out, *outcome),
+            Answer::RanToTrap { value, steps } => {
+                trapped::put_run_to_trap(pending, out, *value, *steps)
+            }
             _ => {
                 pending.flush(out)?;
                 self.write(out)

@@ -19,8 +19,8 @@ fn unmade<'a>(error: PlaceError, name: &'a str) -> Failure<'a>
     }
 }
 
-/// Puts two contents at two names, whole. Both are made and written before either is finished, so that a failure leaves what stood at both
-/// names; but where finishing the second fails, the first stands already. `NoMemory` where there is none to make them.
+/// Puts two contents at two names, whole. Both are made and written before either is finished, so that a failure leaves what stood at both names. But where
+/// finishing the second fails, the first stands already. `NoMemory` where there is none to make them.
 pub fn put_both<'a, P: Places, C: Content, D: Content>(
     places: &mut P,
     first: &'a str,

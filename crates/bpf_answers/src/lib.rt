@@ -1,6 +1,5 @@
-//! What the command `bpf` finds at names, and the lines that it answers: images, texts, certificates and contexts by
-//! name, each refusal in its line, and what is told of failures. What is read and written by name are the files of the
-//! system, whole or not at all.
+//! What the command `bpf` finds at names: images, texts, certificates and contexts. The lines that it answers, each refusal in its line, and what is told of
+//! failures. What is read and written by name are the files of the system, whole or not at all.
 #![tactic(auto)]
 
 mod annotated;
@@ -29,6 +28,7 @@ mod reading;
 mod refusal;
 mod reply;
 mod text;
+mod trapped;
 mod whole;
 
 pub use annotated::CommentedListing;

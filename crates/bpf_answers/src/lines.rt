@@ -3,7 +3,7 @@
 ghost use Rattle.std.specs.Prelude.{◌≡◌, ◌++◌, OnOk, OnErr, Some};
 ghost use Rattle.std.specs.Io.KnownBytes.{Appends};
 ghost use Rattle.bpf_insn.specs.Written.{AppendsBeginning, Gathers};
-ghost use Rattle.bpf_answers.specs.Answer.{capture_line, certified_line, follows_line, groups_line, infer_refusal_line, no_context_line, padded_word, proved_end, run_line, text_of, text_refusal_line, work_line, yes_line};
+ghost use Rattle.bpf_answers.specs.Answer.{capture_line, certified_line, follows_line, groups_line, infer_refusal_line, no_context_line, padded_word, proved_end, run_line, text_of, text_refusal_line, turns_word, work_line, yes_line};
 ghost use Rattle.bpf_answers.specs.declared.answer.Answer.TheVariants.{Yes};
 ghost use Rattle.bpf_text.specs.declared.error.TextError.TheVariants.{Program as InProgram};
 ghost use Rattle.bpf_infer_base.specs.declared.error.InferError.TheVariants.{Fault as NoState};
@@ -15,7 +15,7 @@ use bpf_captures::CaptureRefusal;
 use bpf_infer_base::{ForeseenCondition, InferError};
 use bpf_insn::written::{Pending, write_bytes};
 use bpf_insn::{BuildError, Groups};
-use bpf_kept::Bounds;
+use bpf_kept::{Bounds, Turns};
 use bpf_machine::Outcome;
 use bpf_text::TextError;
 use itoa::Buffer;
@@ -187,6 +187,16 @@ fn proved_end(is_shown: bool) -> &'static str
     if is_shown { "\n" } else { " unproved\n" }
 }
 
+/// A number of turns in words: `any`, or the greatest.
+fn turns_word(buffer: &mut Buffer, turns: Turns) -> &str
+    ensures { result.now ≡ turns_word turns }
+{
+    match turns {
+        Turns::Any => "any",
+        Turns::Most(most) => buffer.format(most),
+    }
+}
+
 /// The line of a certified program that was hardened.
 fn write_rewritten<W: Write>(
     out: &mut W,
@@ -203,7 +213,7 @@ fn write_rewritten<W: Write>(
     let mut fourth = Buffer::new();
     let length = first.format(length);
     let bound = second.format(bound);
-    let turns = third.format(rewriting.turns);
+    let turns = turns_word(&mut third, rewriting.told);
     let word = padded_word(rewriting.padded);
     let end = proved_end(rewriting.is_shown);
     if rewriting.untouched == 0 {
@@ -258,17 +268,22 @@ pub fn write_certified<W: Write>(out: &mut W, told: Certification) -> io::Result
 }
 
 /// For which contexts and runs notes show that a meaning is kept, and within which bound the new program is certified:
-/// `yes length 16 turns 65536 bound 23`.
-pub fn write_followed<W: Write>(out: &mut W, runs: Bounds, bound: u32) -> io::Result<()>
-    ensures ok { OnOk result (Appends (W.contents out.old) (W.contents out.new) (follows_line runs bound)) }
-    ensures err { OnErr result (AppendsBeginning (W.contents out.old) (W.contents out.new) (follows_line runs bound)) }
+/// `yes length 16 turns 65536 bound 23`, or `yes length 16 turns any bound 23`.
+pub fn write_followed<W: Write>(
+    out: &mut W,
+    runs: Bounds,
+    turns: Turns,
+    bound: u32,
+) -> io::Result<()>
+    ensures ok { OnOk result (Appends (W.contents out.old) (W.contents out.new) (follows_line runs turns bound)) }
+    ensures err { OnErr result (AppendsBeginning (W.contents out.old) (W.contents out.new) (follows_line runs turns bound)) }
 {
     let mut first = Buffer::new();
     let mut second = Buffer::new();
     let mut third = Buffer::new();
     let mut fourth = Buffer::new();
     let length = first.format(runs.length);
-    let turns = second.format(runs.turns);
+    let turns = turns_word(&mut second, turns);
     let bound = third.format(bound);
     let word = padded_word(runs.padded);
     if runs.untouched == 0 {

@@ -57,8 +57,7 @@ fn target_of<R: Files>(runtime: &R, alloc: Global, name: &str) -> io::Result<Opt
     }))
 }
 
-/// Whether what is written for the one name would come to stand in the place of what is written for the other, whatever links and
-/// folders they lead through.
+/// Whether what is written for the one name would come to stand in the place of what is written for the other. They may lead through any links and folders.
 pub fn lead_to_one<R: Files>(
     runtime: &R,
     alloc: Global,

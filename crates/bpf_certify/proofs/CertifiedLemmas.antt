@@ -9,7 +9,7 @@ use Rattle.bpf_kept.specs.Matching.{Notes, arrives, starts}
 use Rattle.bpf_kept.specs.Mismatches.{IsFor, IsMismatch, IsUnbegun, MatchesBeside, Starts, mismatch_slot}
 use Rattle.bpf_kept.specs.Shown.{Keeps}
 use Rattle.bpf_kept.specs.declared.mismatch.Mismatch.{Mismatch}
-use Rattle.bpf_kept.specs.declared.mismatch.Mismatch.TheVariants.{Order, Start, At, TooMany, Length}
+use Rattle.bpf_kept.specs.declared.mismatch.Mismatch.TheVariants.{Order, Start, At, TooMany, Length, NoExit}
 use Rattle.bpf_kept.specs.declared.mismatch.NoteFault.{NoteFault}
 use Rattle.bpf_harden_kept.specs.Evidence.{Fails, IsEvidence, Shows, leaving}
 use Rattle.bpf_certify.specs.Certified.{AreWished, IsPaid, IsRefused, IsRewritten, IsUnjudged, IsUnshown, certify_slot, runs_for, runs_of}
@@ -69,6 +69,7 @@ start_fails_first old new notes c bounds Order some past fails = absurd (omega a
 start_fails_first old new notes c bounds Start some past fails = absurd (omega arith)
 start_fails_first old new notes c bounds TooMany some past fails = absurd (omega arith)
 start_fails_first old new notes c bounds Length some past fails = absurd (omega arith)
+start_fails_first old new notes c bounds NoExit some past fails = absurd (omega arith)
 start_fails_first old new notes c bounds (At slot before fault) some past fails = start_fails old new notes c bounds slot before fault fails
 
 length_inside : (old : Instructions) (m : Mismatch) → 0 < slots old.list → slots old.list ≤ mismatch_slot m → m ≡ Length → ⊥

@@ -1,5 +1,5 @@
 -- What is answered of a program and a bound.
-use Rattle.std.specs.Prelude.{◌≡◌, ℕ, ◌<◌, ◌≤◌, false, Option, Some, None, IfSome, IsTrue}
+use Rattle.std.specs.Prelude.{◌≡◌, ℕ, ◌<◌, ◌≤◌, false, Option, Some, None, IfSome, IsTrue, if◌then◌else◌}
 use Rattle.bpf_insn.specs.Instruction.{Instructions, slots}
 use Rattle.bpf_insn.specs.Limits.{frame_bytes}
 use Rattle.bpf_cert.specs.View.{CertificateView}
@@ -8,7 +8,9 @@ use Rattle.bpf_check.specs.CheckedProgram.{IsCertifiedBy}
 use Rattle.bpf_check.specs.RefusalNumbers.{refusal_number, refusal_slot}
 use Rattle.bpf_check.specs.declared.refusal.Refusal.{Refusal}
 use Rattle.bpf_kept.specs.declared.bounds.Bounds.{Bounds}
-use Rattle.bpf_kept.specs.Matching.{Notes}
+use Rattle.bpf_kept.specs.declared.bounds.Turns.{Turns}
+use Rattle.bpf_kept.specs.declared.bounds.Turns.TheVariants.{Most}
+use Rattle.bpf_kept.specs.Matching.{Notes, shown_turns}
 use Rattle.bpf_kept.specs.Mismatches.{MatchesBeside, mismatch_slot}
 use Rattle.bpf_kept.specs.Shown.{Keeps}
 use Rattle.bpf_kept.specs.declared.mismatch.Mismatch.{Mismatch}
@@ -56,6 +58,10 @@ runs_for length wish turns = record { length = length; padded = wish.padded; tur
 -- the runs of which it is shown: those of them that leave so many of the lowest bytes of each frame to r10
 abbrev pub runs_of : ℕ → Wish → Rewritten → Bounds
 runs_of length wish r = leaving (runs_for length wish r.turns) r.untouched
+
+-- of how many turns it is told
+abbrev pub told_turns : Rewritten → Turns
+told_turns r = if r.is_shown then shown_turns r.notes.items r.turns else Most r.turns
 
 -- The certificate is that of the new program, which has the old one's byte order, for the turns that are wished. Where it is told so, the notes match
 -- beside this certificate, and the new program keeps the meaning of the old one, for the turns and the bytes that are told.

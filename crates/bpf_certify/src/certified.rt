@@ -7,7 +7,7 @@ ghost use Rattle.bpf_kept.specs.Mismatches.{mismatch_slot};
 ghost use Rattle.bpf_kept.specs.declared.mismatch.Mismatch.TheVariants.{Start};
 ghost use Rattle.bpf_harden_kept.specs.Evidence.{Shows, leaving};
 ghost use Rattle.bpf_changes.specs.declared.error.HardenError.TheVariants.{Memory, NoBudget};
-ghost use Rattle.bpf_certify.specs.Certified.{Answers, AreWished, IsPaid, IsRefused, IsUnjudged, IsUnpaid, certify_slot};
+ghost use Rattle.bpf_certify.specs.Certified.{Answers, AreWished, IsPaid, IsRefused, IsUnjudged, IsUnpaid, certify_slot, told_turns};
 ghost use Rattle.bpf_certify.specs.declared.error.CertifyError.TheVariants.{Unhardened};
 
 use crate::error::CertifyError;
@@ -19,7 +19,7 @@ use bpf_harden_kept::{Evidence, evidence_of};
 use bpf_infer::{InferError, search};
 use bpf_infer_base::Unwatched;
 use bpf_insn::{Code, Order, Program};
-use bpf_kept::{Bounds, Mismatch, Note};
+use bpf_kept::{Bounds, Mismatch, Note, Turns, turns_shown};
 use std::alloc::Global;
 
 /// A program in the place of the one that was given, and what is shown of it.
@@ -37,6 +37,19 @@ pub struct Rewritten {
     pub mismatch: Option<Mismatch>,
     /// The notes by which it is shown, beside the certificate. Empty where nothing was to be shown and none were wanted.
     pub notes: Vec<Option<Note>>,
+}
+
+impl Rewritten {
+    /// Of how many turns it is told: where it is shown and no note has a counter, of any number.
+    pub fn told(&self) -> Turns
+        ensures { result ≡ told_turns self.now }
+    {
+        if self.is_shown {
+            turns_shown(&self.notes, u64::from(self.turns))
+        } else {
+            Turns::Most(u64::from(self.turns))
+        }
+    }
 }
 
 /// A certificate within a bound, and what it certifies.
@@ -167,7 +180,7 @@ fn same_order(a: Order, b: Order) -> bool
     a == b
 }
 
-/// A mismatch with a slot of a program of so many slots: of notes in front of one behind it is told that the start fails, as it does without them.
+/// A mismatch with a slot of a program of so many slots. Of notes in front of a slot behind it, it is told that the start fails, as it does without them.
 fn within(mismatch: Mismatch, slots: u32) -> Mismatch
     requires { 0 < slots }
     ensures inside { mismatch_slot result < slots }
@@ -180,7 +193,7 @@ fn within(mismatch: Mismatch, slots: u32) -> Mismatch
     }
 }
 
-/// What is shown of a hardened program: that it keeps the meaning of the old one, or it is refused, but where what isn't proved is wanted, too.
+/// What is shown of a hardened program: that it keeps the meaning of the old one. Else it is refused, but where what isn't proved is wanted, too.
 fn judged(
     alloc: Global,
     old: &Program,
@@ -342,12 +355,13 @@ fn as_hardened(
     as_fitted(alloc, program, fitted, length, wish)
 }
 
-/// A certificate for contexts of `length` bytes, at most 4,096, whose bound is within the wish: of the program as it stands where the deep search
-/// finds one, else of the program hardened, for the turns that are wished, or for the greatest number of turns that is found to stay
-/// within the bound. What comes out was checked; and it is shown that a hardened program keeps the meaning, for the turns and the bytes that are
-/// told, unless what isn't proved is wanted, too. Blocks are given to hardened programs alone. H1 to H12 where the program isn't hardened,
-/// H13 where what comes of it isn't shown to keep the meaning, H14 where its bound is too great with the turns that are wished, or with
-/// one, H15 where the checker refuses what the search proposed.
+/// A certificate for contexts of `length` bytes, at most 4,096, whose bound is within the wish. It is one of the program as it stands where the deep search
+/// finds one. Else it is one of the program hardened, for the turns that are wished, or for the greatest number that is found to stay within the bound.
+/// What comes out was checked. A hardened program is shown to keep the meaning, for the turns and the bytes that are told, unless what isn't proved is wanted,
+/// too. Blocks are given to hardened programs alone.
+///
+/// H1 to H12: the program isn't hardened. H13: what comes of it isn't shown to keep the meaning. H14: its bound is too great with the turns that are wished, or
+/// with one. H15: the checker refuses what the search proposed.
 pub fn certify(
     alloc: Global,
     program: &Program,

@@ -6,7 +6,7 @@ mod error;
 mod wish;
 
 pub use bpf_harden::{FunctionNote, HardenError, Hardened, Note};
-pub use bpf_kept::{Mismatch, Note as KeptNote};
+pub use bpf_kept::{Mismatch, Note as KeptNote, Turns};
 pub use certified::{Certified, Rewritten, certify};
 pub use error::CertifyError;
 pub use wish::{MOST_BOUND, Wish};

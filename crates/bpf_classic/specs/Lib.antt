@@ -9,6 +9,8 @@ pub mod Auxiliary
 pub mod Machine
 -- which instructions are filters
 pub mod Valid
+-- what is said of those that are none
+pub mod Refused
 -- Definitions, in the order in which they read best.
 -- the bytes of `struct sock_filter`
 pub mod Bytes

@@ -136,14 +136,17 @@ IsRefused kind raws (InstructionRefused at fault) = (IsBadLength raws → ⊥) �
 IsRefused kind raws Memory = ⊤
 IsRefused kind raws Unshown = ⊥
 
+abbrev pub fault_number : Fault → ℕ
+fault_number Code = 2
+fault_number CellFault = 3
+fault_number ConstantFault = 4
+fault_number Target = 5
+fault_number SeccompFault = 6
+fault_number ExtensionFault = 7
+fault_number NoWord = 7
+
 abbrev pub refusal_number : FilterRefusal → ℕ
 refusal_number LengthRefused = 1
-refusal_number (InstructionRefused at Code) = 2
-refusal_number (InstructionRefused at CellFault) = 3
-refusal_number (InstructionRefused at ConstantFault) = 4
-refusal_number (InstructionRefused at Target) = 5
-refusal_number (InstructionRefused at SeccompFault) = 6
-refusal_number (InstructionRefused at ExtensionFault) = 7
-refusal_number (InstructionRefused at NoWord) = 7
+refusal_number (InstructionRefused at fault) = fault_number fault
 refusal_number Memory = 9
 refusal_number Unshown = 10

@@ -36,7 +36,7 @@ made_for : (program : Instructions) (c : Certifying) (length : ℕ) (d : Certifi
     → IsMadeOf program (program_of program rewritten) c length d.certificate (notes_of rewritten) (rewriting_of c rewritten)
 made_for program c length d None stands shown = (refl, stands.0, refl)
 made_for program c length d (Some r) stands shown =
-    record { padded_is = refl; turns_are = stands.turns_are; order_is = stands.order_is; shown = shown; matches = stands.matches; keeps = stands.keeps }
+    record { padded_is = refl; turns_are = stands.turns_are; told_are = refl; order_is = stands.order_is; shown = shown; matches = stands.matches; keeps = stands.keeps }
 
 -- what was found for the program at the name is certified as it is told
 pub certifies_of : {S : Type 0} (opening : Opening S) (old : S) (c : Certifying) (new : S) (program : Instructions) (length : ℕ) (d : Certified)

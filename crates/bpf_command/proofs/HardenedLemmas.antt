@@ -7,8 +7,8 @@ use Rattle.bpf_insn.specs.Image.{IsProgram, image}
 use Rattle.bpf_cert.specs.View.{CertificateView}
 use Rattle.bpf_kept.specs.declared.bounds.Bounds.{Bounds}
 use Rattle.bpf_kept.specs.declared.mismatch.Mismatch.{Mismatch}
-use Rattle.bpf_kept.specs.declared.mismatch.Mismatch.TheVariants.{Order, Start, At, TooMany, Length}
-use Rattle.bpf_kept.specs.Matching.{Notes}
+use Rattle.bpf_kept.specs.declared.mismatch.Mismatch.TheVariants.{Order, Start, At, TooMany, Length, NoExit}
+use Rattle.bpf_kept.specs.Matching.{Notes, shown_turns}
 use Rattle.bpf_kept.specs.Shown.{Keeps}
 use Rattle.bpf_kept_notes.specs.NotesText.{notes_text}
 use Rattle.bpf_harden_kept.specs.Evidence.{IsEvidence}
@@ -61,6 +61,7 @@ unproved_out h Order out = out
 unproved_out h Start out = out
 unproved_out h (At slot before fault) out = out
 unproved_out h TooMany out = out
+unproved_out h NoExit out = out
 unproved_out h Length out = both_true h.unproved (is_none h.certificate) out
 
 pub proved_of : (h : Hardening) (mismatch : Option Mismatch) → IfSome mismatch (λ m. goes_out h m ≡ true) → h.unproved ≡ false → mismatch ≡ None
@@ -71,13 +72,14 @@ proved_of h (Some m) out asked = absurd (true≢false (sym (unproved_out h m out
 
 -- what is told of the notes is so, since it is what was found
 pub kept_of : (program made : Instructions) (h : Hardening) (found : Option CertificateView) (notes : Notes) (kept : KeptMeaning) (untouched : ℕ) (mismatch : Option Mismatch) → kept.bounds ≡ bounds_of h untouched
-    → kept.mismatch ≡ mismatch → AreLeft h untouched → IsLeftSaid h untouched kept.said → IsEvidence program made found notes (bounds_of h untouched) mismatch → (h.unproved ≡ false → mismatch ≡ None)
+    → kept.turns ≡ shown_turns notes (bounds_of h untouched).turns → kept.mismatch ≡ mismatch → AreLeft h untouched → IsLeftSaid h untouched kept.said → IsEvidence program made found notes (bounds_of h untouched) mismatch → (h.unproved ≡ false → mismatch ≡ None)
     → IfSome h.certificate (λ _. IsSome found) → IsKept program made h found notes kept
-kept_of program made h found notes kept untouched mismatch runs fails left said shown proved there = record {
+kept_of program made h found notes kept untouched mismatch runs turns fails left said shown proved there = record {
   untouched = untouched;
   left = left;
   said = said;
   bounds_are = runs;
+  turns_are = subst (λ b. kept.turns ≡ shown_turns notes b.turns) (sym runs) turns;
   shown = subst (λ b. IsEvidence program made found notes b kept.mismatch) (sym runs) (subst (IsEvidence program made found notes (bounds_of h untouched)) (sym fails) shown);
   proved = λ asked. subst (λ m. m ≡ None) (sym fails) (proved asked);
   there = there;

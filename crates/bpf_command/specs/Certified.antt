@@ -1,5 +1,5 @@
 -- What is certified, and what is put at the names of the answers.
-use Rattle.std.specs.Prelude.{◌≡◌, ◌⊎◌, ◌≤◌, ℕ, List, [], false, Option, Some, None, IsTrue, IfSome, is_some, unwrap_or, ⊤}
+use Rattle.std.specs.Prelude.{◌≡◌, ◌⊎◌, ◌≤◌, ℕ, List, [], false, Option, Some, None, IsTrue, IfSome, is_some, unwrap_or, ⊤, if◌then◌else◌}
 use Rattle.std.specs.String.{string_bytes}
 use Rattle.bpf_insn.specs.Instruction.{Instructions}
 use Rattle.bpf_insn.specs.Image.{image}
@@ -7,11 +7,12 @@ use Rattle.bpf_insn.specs.Limits.{max_context}
 use Rattle.bpf_cert.specs.View.{CertificateView}
 use Rattle.bpf_cert.specs.Spelling.{certificate_text}
 use Rattle.bpf_kept.specs.declared.bounds.Bounds.{Bounds}
-use Rattle.bpf_kept.specs.Matching.{Notes}
+use Rattle.bpf_kept.specs.declared.bounds.Turns.TheVariants.{Most}
+use Rattle.bpf_kept.specs.Matching.{Notes, shown_turns}
 use Rattle.bpf_kept.specs.Mismatches.{MatchesBeside}
 use Rattle.bpf_kept.specs.Shown.{Keeps}
 use Rattle.bpf_kept_notes.specs.NotesText.{notes_text}
-use Rattle.bpf_certify.specs.Certified.{IsPaid, IsRefused}
+use Rattle.bpf_certify.specs.Certified.{IsPaid, IsRefused, told_turns}
 use Rattle.bpf_certify.specs.declared.certified.Certified.{Certified}
 use Rattle.bpf_certify.specs.declared.certified.Rewritten.{Rewritten}
 use Rattle.bpf_certify.specs.declared.error.CertifyError.{CertifyError}
@@ -57,10 +58,11 @@ runs_told length r = record { length = length; padded = r.padded; turns = r.turn
 
 -- What is told of a hardened program, which has the byte order of the one at IN, for the turns that are asked for: without `--unproved` it is
 -- shown. What is shown keeps the meaning of the program at IN, for the very contexts, turns and bytes left to r10 that are told: the notes match
--- beside the certificate.
+-- beside the certificate. Where none of them has a counter, that is told of any number of turns.
 pub record IsRewriting (program made : Instructions) (c : Certifying) (length : ℕ) (certificate : CertificateView) (notes : Notes) (r : Rewriting) : Type 0 where
   pub padded_is : r.padded ≡ c.padded
   pub turns_are : IfSome c.turns (λ asked. r.turns ≡ asked)
+  pub told_are : r.told ≡ (if r.is_shown then shown_turns notes r.turns else Most r.turns)
   pub order_is : made.order ≡ program.order
   pub shown : c.unproved ≡ false → IsTrue r.is_shown
   pub matches : IsTrue r.is_shown → MatchesBeside program made notes certificate (runs_told length r)
@@ -95,7 +97,7 @@ notes_of (Some r) = r.notes.items
 
 -- what is told of it
 abbrev pub retold : Certifying → Rewritten → Rewriting
-retold c r = record { turns = r.turns; padded = c.padded; untouched = r.untouched; is_shown = r.is_shown }
+retold c r = record { turns = r.turns; told = told_turns r; padded = c.padded; untouched = r.untouched; is_shown = r.is_shown }
 
 abbrev pub rewriting_of : Certifying → Option Rewritten → Option Rewriting
 rewriting_of c None = None

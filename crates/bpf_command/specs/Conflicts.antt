@@ -35,7 +35,7 @@ twice_in_four first second third fourth = option_or (option_or (option_or (thric
 abbrev pub name_given : Option (Bor (List ℕ)) → List ℕ
 name_given name = unwrap_or (option_map (λ s. s.now) name) []
 
--- source lines where none are shown
+-- a name of what isn't wanted there: source lines where none are shown, notes where no trap is told
 abbrev pub misplaced : Option (Bor (List ℕ)) → Option Failure
 misplaced None = None
 misplaced (Some lines) = Some NotTogether
@@ -114,10 +114,10 @@ abbrev pub conflict_of : Request → Option Failure
 conflict_of (Groups g) = None
 conflict_of (Asm a) = None
 conflict_of (ListOf l) = None
-conflict_of (Run r) = twice r.input.now (name_of r.contexts)
+conflict_of (Run r) = thrice r.input.now (name_of r.contexts) (name_given r.notes)
 conflict_of (Check c) = twice c.input.now c.certificate.now
-conflict_of (RunChecked r) = thrice r.input.now r.certificate.now (name_of r.contexts)
-conflict_of (Replay r) = thrice r.input.now r.certificate.now (name_given r.packets)
+conflict_of (RunChecked r) = twice_in_four r.input.now r.certificate.now (name_of r.contexts) (name_given r.notes)
+conflict_of (Replay r) = option_or (misplaced r.notes) (thrice r.input.now r.certificate.now (name_given r.packets))
 conflict_of (Infer i) = out_of_order i.least i.most
 conflict_of (Harden h) = harden_conflict h
 conflict_of (Certify c) = certify_conflict c

@@ -5,10 +5,10 @@ use Rattle.bpf_insn.specs.Image.{IsProgram, image}
 use Rattle.bpf_cert.specs.View.{CertificateView}
 use Rattle.bpf_cert.specs.Spelling.{certificate_text}
 use Rattle.bpf_kept.specs.declared.bounds.Bounds.{Bounds}
-use Rattle.bpf_kept.specs.Matching.{Notes}
+use Rattle.bpf_kept.specs.Matching.{Notes, shown_turns}
 use Rattle.bpf_kept.specs.Shown.{Keeps}
 use Rattle.bpf_kept.specs.declared.mismatch.Mismatch.{Mismatch}
-use Rattle.bpf_kept.specs.declared.mismatch.Mismatch.TheVariants.{Order, Start, At, TooMany, Length}
+use Rattle.bpf_kept.specs.declared.mismatch.Mismatch.TheVariants.{Order, Start, At, TooMany, Length, NoExit}
 use Rattle.bpf_kept_notes.specs.NotesText.{notes_text}
 use Rattle.bpf_harden_kept.specs.Evidence.{Fails, IsEvidence}
 use Rattle.bpf_changes.specs.RefusalNumbers.{harden_slot}
@@ -75,6 +75,7 @@ goes_out h Order = h.unproved
 goes_out h Start = h.unproved
 goes_out h (At slot before fault) = h.unproved
 goes_out h TooMany = h.unproved
+goes_out h NoExit = h.unproved
 
 -- What was made isn't shown to keep the meaning: for want of memory, or since notes don't match beside the certificate that was found, or there is
 -- none, and this doesn't go out.
@@ -85,12 +86,13 @@ IsUnshown program made h (Differs m) =
 
 -- What is told of a hardened program is so: on the contexts and for the turns that were asked for, where runs leave so many bytes to r10, the
 -- certificate that was found certifies it and its notes match beside that, or this fails. Without `--unproved` they match. One was found where a name
--- for it is given.
+-- for it is given. Where no note has a counter, they speak of any number of turns.
 pub record IsKept (program made : Instructions) (h : Hardening) (found : Option CertificateView) (notes : Notes) (kept : KeptMeaning) : Type 0 where
   pub untouched : ℕ
   pub left : AreLeft h untouched
   pub said : IsLeftSaid h untouched kept.said
   pub bounds_are : kept.bounds ≡ bounds_of h untouched
+  pub turns_are : kept.turns ≡ shown_turns notes kept.bounds.turns
   pub shown : IsEvidence program made found notes kept.bounds kept.mismatch
   pub proved : h.unproved ≡ false → kept.mismatch ≡ None
   pub there : IfSome h.certificate (λ _. IsSome found)

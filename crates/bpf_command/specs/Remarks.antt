@@ -11,6 +11,7 @@ use Rattle.bpf_answers.specs.declared.answer.Answer.TheVariants.{NoCapture}
 use Rattle.bpf_answers.specs.declared.reply.Reply.TheVariants.{One}
 use Rattle.bpf_command_core.specs.declared.conversion.Conversion.TheVariants.{Refused}
 use Rattle.bpf_kept.specs.declared.bounds.Bounds.{Bounds}
+use Rattle.bpf_kept.specs.declared.bounds.Turns.{Turns}
 use Rattle.bpf_kept.specs.declared.mismatch.Mismatch.{Mismatch}
 use Rattle.bpf_command.specs.declared.commands.certify.Assessment.{Assessment}
 use Rattle.bpf_command.specs.declared.commands.certify.Assessment.TheVariants.{NoImage as NoImageThere, Refused as IsRefused, Passed}
@@ -44,16 +45,16 @@ remark_of_search i (NotProposed e may_deepen) = Search i e may_deepen
 remark_of_search i Proposed = Nothing
 
 -- of a hardened program, by what fails of its notes
-abbrev pub remark_of_runs : Bounds → Option Mismatch → Remark
-remark_of_runs bounds None = Shown bounds
-remark_of_runs bounds (Some m) = Unproved m
+abbrev pub remark_of_runs : Bounds → Turns → Option Mismatch → Remark
+remark_of_runs bounds turns None = Shown bounds turns
+remark_of_runs bounds turns (Some m) = Unproved m
 
 -- of a hardening
 abbrev pub remark_of_attempt : Hardening → Attempt → Remark
 remark_of_attempt h (NoImageHere e) = Image h.input h.order
 remark_of_attempt h (NotHardened e) = Unhardened h e
 remark_of_attempt h (NotShown m) = Unshown h m
-remark_of_attempt h (IsHardened kept) = remark_of_runs kept.bounds kept.mismatch
+remark_of_attempt h (IsHardened kept) = remark_of_runs kept.bounds kept.turns kept.mismatch
 
 -- of a certification
 abbrev pub remark_of_assessment : Certifying → Assessment → Remark

@@ -66,9 +66,9 @@ abbrev pub Does : {S : Type 0} → AtNames S → Option (List ℕ) → Option (L
 Does n before after (Groups g) found = Gives (Replies (ImageSays n.opens g.order n.old g.input.now n.new GroupsSay) before after) found
 Does n before after (Asm a) found = Gives (Replies (AsmSays n.opens n.makes n.old a n.new) before after) found
 Does n before after (ListOf l) found = Gives (Replies (ImageSays n.opens l.order n.old l.input.now n.new (ListSays (notes_of l.slots l.bytes))) before after) found
-Does n before after (Run r) found = Gives (RunSays n.opens n.old r r.contexts n.new before after) found
+Does n before after (Run r) found = Gives (RunSays n.opens n.old r n.new before after) found
 Does n before after (Check c) found = Gives (Replies (CheckSays n.opens c.order n.old c.input.now c.certificate.now n.new c.work) before after) found
-Does n before after (RunChecked r) found = Gives (CheckedSays n.opens n.old r r.contexts n.new before after) found
+Does n before after (RunChecked r) found = Gives (CheckedSays n.opens n.old r n.new before after) found
 Does n before after (Replay r) found = Gives (ReplayedSays n.opens n.old r n.new before after) found
 Does n before after (Infer i) found = Infers (InferSays n.opens n.makes n.old i n.new) found × Keeps before after
 Does n before after (Harden h) found = HardensTo (HardenSays n.opens n.makes n.old h n.new) found × Keeps before after
@@ -84,9 +84,9 @@ abbrev pub Misses : {S : Type 0} → AtNames S → Option (List ℕ) → Option 
 Misses n before after (Groups g) = ImageFails n.opens n.old g.input.now n.new
 Misses n before after (Asm a) = AsmFails n.opens n.makes n.old a n.new
 Misses n before after (ListOf l) = ImageFails n.opens n.old l.input.now n.new
-Misses n before after (Run r) = RunFails n.opens n.old r r.contexts n.new before after
+Misses n before after (Run r) = RunFails n.opens n.old r n.new before after
 Misses n before after (Check c) = LoadedFails n.opens c.order n.old c.input.now c.certificate.now n.new
-Misses n before after (RunChecked r) = CheckedFails n.opens n.old r r.contexts n.new before after
+Misses n before after (RunChecked r) = CheckedFails n.opens n.old r n.new before after
 Misses n before after (Replay r) = ReplayedFails n.opens n.old r n.new before after
 Misses n before after (Infer i) = InferFails n.opens n.makes n.old i n.new
 Misses n before after (Harden h) = HardenFails n.opens n.makes n.old h n.new
@@ -103,9 +103,9 @@ abbrev pub Leaves : {S : Type 0} → AtNames S → Option (List ℕ) → Option 
 Leaves n before after (Groups g) = Keeps before after
 Leaves n before after (Asm a) = Keeps before after
 Leaves n before after (ListOf l) = Keeps before after
-Leaves n before after (Run r) = RunLeaves n.opens n.old r r.contexts n.new before after
+Leaves n before after (Run r) = RunLeaves n.opens n.old r n.new before after
 Leaves n before after (Check c) = Keeps before after
-Leaves n before after (RunChecked r) = CheckedLeaves n.opens n.old r r.contexts n.new before after
+Leaves n before after (RunChecked r) = CheckedLeaves n.opens n.old r n.new before after
 Leaves n before after (Replay r) = ReplayedLeaves n.opens n.old r n.new before after
 Leaves n before after (Infer i) = Keeps before after
 Leaves n before after (Harden h) = Keeps before after
@@ -121,9 +121,9 @@ abbrev pub NotMade : {S : Type 0} → AtNames S → Request → Type 0
 NotMade n (Groups g) = OpensFirst n.opens (g.input.now ∷ []) n.old n.new
 NotMade n (Asm a) = NotAssembled n.opens n.makes n.old a n.new
 NotMade n (ListOf l) = OpensFirst n.opens (l.input.now ∷ []) n.old n.new
-NotMade n (Run r) = OpensFirst n.opens (names_run r.input.now r.contexts) n.old n.new
+NotMade n (Run r) = OpensFirst n.opens (names_run r) n.old n.new
 NotMade n (Check c) = OpensFirst n.opens (c.input.now ∷ c.certificate.now ∷ []) n.old n.new
-NotMade n (RunChecked r) = OpensFirst n.opens (names_checked r.input.now r.certificate.now r.contexts) n.old n.new
+NotMade n (RunChecked r) = OpensFirst n.opens (names_checked r) n.old n.new
 NotMade n (Replay r) = OpensFirst n.opens (names_replayed r) n.old n.new
 NotMade n (Infer i) = NotInferred n.opens n.makes n.old i n.new
 NotMade n (Harden h) = NotAllMade n.opens n.makes n.old h n.new

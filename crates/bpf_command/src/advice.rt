@@ -2,7 +2,7 @@
 
 ghost use Rattle.std.specs.Prelude.{◌≡◌, IfOk};
 ghost use Rattle.std.specs.String.{string_bytes};
-ghost use Rattle.bpf_command.specs.Advice.{kept_text};
+ghost use Rattle.bpf_command.specs.Advice.{anyway_text, kept_text, within_text};
 ghost use Rattle.bpf_command.specs.declared.remark.Remark.TheVariants.{Shown};
 
 use crate::aside::Terminal;
@@ -13,7 +13,7 @@ use bpf_explain_harden::Unshown;
 use bpf_harden::HardenError;
 use bpf_infer::{ForeseenCondition, InferError};
 use bpf_insn::Order;
-use bpf_kept::{Bounds, Mismatch};
+use bpf_kept::{Bounds, Mismatch, Turns};
 use bpf_request::{Clash, Contexts, Hardening, Inferring, Request, Subject};
 use std::alloc::{AllocError, Global};
 use std::fmt::{self, Display};
@@ -188,16 +188,10 @@ pub(crate) fn after_unshown<H: Terminal>(aside: &H, asked: Hardening<'_>, mismat
 
 // ---- what a hardened program is shown to keep
 
-/// What is told of runs whose meaning is kept: those of the remark.
-fn kept_line(alloc: Global, _remark: Remark<'_>, bounds: Bounds) -> Result<String, AllocError>
-    requires { _remark ≡ Shown bounds }
-    ensures { IfOk result (λ line. string_bytes line ≡ kept_text bounds) }
+/// What is told of runs of so many turns whose meaning is kept.
+fn kept_within(alloc: Global, turns: u64, untouched: u32) -> Result<String, AllocError>
+    ensures { IfOk result (λ line. string_bytes line ≡ within_text turns untouched) }
 {
-    let Bounds {
-        turns,
-        untouched,
-        ..
-    } = bounds;
     if untouched == 0 {
         format!(in alloc;
             "shown to keep the meaning of runs that come to no instruction more than {turns} times"
@@ -209,11 +203,46 @@ fn kept_line(alloc: Global, _remark: Remark<'_>, bounds: Bounds) -> Result<Strin
     }
 }
 
-/// Tells of which runs a hardened program is shown to keep the meaning.
-pub(crate) fn after_proof<H: Terminal>(alloc: Global, aside: &H, remark: Remark<'_>, bounds: Bounds)
-    requires { remark ≡ Shown bounds }
+/// The same of runs of any number of turns.
+fn kept_anyway(alloc: Global, untouched: u32) -> Result<String, AllocError>
+    ensures { IfOk result (λ line. string_bytes line ≡ anyway_text untouched) }
 {
-    if let Ok(line) = kept_line(alloc, remark, bounds) {
+    if untouched == 0 {
+        format!(in alloc; "shown to keep the meaning of each run")
+    } else {
+        format!(in alloc;
+            "shown to keep the meaning of runs that come to the lowest {untouched} bytes of a frame by r10 alone"
+        )
+    }
+}
+
+/// What is told of runs whose meaning is kept: those of the remark.
+fn kept_line(
+    alloc: Global,
+    _remark: Remark<'_>,
+    bounds: Bounds,
+    turns: Turns,
+) -> Result<String, AllocError>
+    requires { _remark ≡ Shown bounds turns }
+    ensures { IfOk result (λ line. string_bytes line ≡ kept_text bounds.untouched turns) }
+{
+    match turns {
+        Turns::Most(most) => kept_within(alloc, most, bounds.untouched),
+        Turns::Any => kept_anyway(alloc, bounds.untouched),
+    }
+}
+
+/// Tells of which runs a hardened program is shown to keep the meaning.
+pub(crate) fn after_proof<H: Terminal>(
+    alloc: Global,
+    aside: &H,
+    remark: Remark<'_>,
+    bounds: Bounds,
+    turns: Turns,
+)
+    requires { remark ≡ Shown bounds turns }
+{
+    if let Ok(line) = kept_line(alloc, remark, bounds, turns) {
         tell_line(aside, line);
     }
 }
@@ -252,7 +281,7 @@ fn misfit_text(request: Request<'_>) -> Option<&'static str> {
             (_, Some(_)) => Some("--lines goes with CERT, --infer or --harden, and not with --dot"),
             (_, None) => None,
         },
-        Request::Replay(_) => Some("--counts goes with --packets FILE"),
+        Request::Replay(_) => { Some("--counts goes with --packets FILE, and --notes without it") }
         Request::Certify(_) => Some(
             "OUT, CERT, --notes and --changes lead to files of their own; CERT, --notes and --changes not to IN, and none of them to --lines",
         ),

@@ -37,7 +37,7 @@ fn twice_in_four(first: &str, second: &str, third: &str, fourth: &str) -> Option
         .or(twice(third, fourth))
 }
 
-/// Source lines are given where none are shown.
+/// What isn't wanted there is given: source lines where none are shown, notes where no trap is told.
 fn misplaced(lines: Option<&str>) -> Option<Failure<'static>>
     ensures { result ≡ misplaced lines.entry }
 {
@@ -176,8 +176,8 @@ fn is_misfit(asked: Converting<'_>) -> bool
     }
 }
 
-/// What a conversion can't be asked for: contexts of two forms, or of a length that their form doesn't have; standard output for a file, where it
-/// takes the line; one name for two files.
+/// What a conversion can't be asked for: contexts of two forms, or of a length that their form doesn't have; standard output for a file; one name for two
+/// files. Standard output takes the line.
 fn conversion_conflict(asked: Converting<'_>) -> Option<Failure<'static>>
     ensures { result ≡ conversion_conflict asked.entry }
 {
@@ -236,11 +236,24 @@ pub fn conflict_in(request: Request<'_>) -> Option<Failure<'static>>
     match request {
         Request::Groups(_) | Request::Asm(_) | Request::List(_) | Request::Migrate(_) => None,
         Request::Explain(asked) => conflict_with(asked.input, asked.lines, asked.subject),
-        Request::Run(asked) => twice(asked.input, asked.contexts.name()),
+        Request::Run(asked) => {
+            thrice(asked.input, asked.contexts.name(), name_given(asked.notes))
+        }
         Request::Check(asked) => twice(asked.input, asked.certificate),
-        Request::RunChecked(asked) => thrice(asked.input, asked.certificate, asked.contexts.name()),
+        Request::RunChecked(asked) => {
+            twice_in_four(
+                asked.input,
+                asked.certificate,
+                asked.contexts.name(),
+                name_given(asked.notes),
+            )
+        }
         Request::Replay(asked) => {
-            thrice(asked.input, asked.certificate, name_given(asked.packets))
+            misplaced(asked.notes).or(thrice(
+                asked.input,
+                asked.certificate,
+                name_given(asked.packets),
+            ))
         }
         Request::Infer(asked) => out_of_order(asked.least, asked.most),
         Request::Harden(asked) => harden_conflict(asked),

@@ -8,8 +8,7 @@ use std::io::Write;
 use std::rt::Clock;
 use std::time::{Duration, Instant};
 
-/// Shows on a terminal how far a search is: after a second, and then at most four times a second, in one line that is rewritten.
-/// Elsewhere nothing is shown.
+/// Shows on a terminal how far a search is, in one line that is rewritten: after a second, and then at most four times a second. Elsewhere nothing is shown.
 #[derive(Drop)]
 pub struct Progress<'a, C: Clock, E: Write + Drop> {
     clock: &'a C,

@@ -12,7 +12,7 @@ use bpf_command_core::{Conversion, Unconvertible};
 use bpf_harden::HardenError;
 use bpf_infer::InferError;
 use bpf_insn::{DecodeError, Order};
-use bpf_kept::{Bounds, Mismatch};
+use bpf_kept::{Bounds, Mismatch, Turns};
 use bpf_request::{Certifying, Hardening, Inferring, Request};
 
 /// What is told beside an answer.
@@ -43,7 +43,10 @@ pub enum Remark<'a> {
         mismatch: Mismatch,
     },
     /// Of which runs a hardened program is shown to keep the meaning.
-    Shown(Bounds),
+    Shown {
+        bounds: Bounds,
+        turns: Turns,
+    },
     /// What fails of the notes of a hardened program that was written unproved.
     Unproved(Mismatch),
     /// Why the bytes at a name are no image, in a sentence.
@@ -107,10 +110,13 @@ fn remark_of_search<'a>(asked: Inferring<'a>, found: Inference) -> Remark<'a>
 
 /// What is told of a hardened program, by what fails of its notes.
 fn remark_of_runs<'a>(kept: KeptMeaning) -> Remark<'a>
-    ensures { result ≡ remark_of_runs kept.bounds kept.mismatch }
+    ensures { result ≡ remark_of_runs kept.bounds kept.turns kept.mismatch }
 {
     match kept.mismatch {
-        None => Remark::Shown(kept.bounds),
+        None => Remark::Shown {
+            bounds: kept.bounds,
+            turns: kept.turns,
+        },
         Some(mismatch) => Remark::Unproved(mismatch),
     }
 }

@@ -139,9 +139,8 @@ fn serve<P: Places, W: Write, E: Write, H: Aside>(
     }
 }
 
-/// Does what the words ask for, the command's own name first, and answers the status: 0 done, 1 refused, 2 words that are
-/// not understood, 3 where a file, the output or memory failed, 141 where whoever was to read the answer has gone. On the side people are
-/// told how far a search is, and the steps of a run.
+/// Does what the words ask for, the command's own name first, and answers the status. 0: done. 1: refused. 2: the words are not understood. 3: a file, the
+/// output or memory failed. 141: whoever was to read the answer has gone. On the side people are told how far a search is, and the steps of a run.
 pub fn respond<P: Places, W: Write, E: Write, H: Aside>(
     alloc: Global,
     words: &[String],

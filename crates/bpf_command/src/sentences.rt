@@ -122,7 +122,7 @@ pub fn tell_remark<H: Aside>(
         } => after_search(aside, asked, error, may_deepen),
         Remark::Unhardened { asked, error } => after_hardening(aside, asked, error),
         Remark::Unshown { asked, mismatch } => after_unshown(aside, asked, mismatch),
-        Remark::Shown(bounds) => after_proof(alloc, aside, remark, bounds),
+        Remark::Shown { bounds, turns } => { after_proof(alloc, aside, remark, bounds, turns) }
         Remark::Unproved(mismatch) => after_mismatch(aside, mismatch),
         Remark::NoImage(error) => tell_sentence(aside, error, ""),
         Remark::Uncertified { asked, error } => tell_refusal(

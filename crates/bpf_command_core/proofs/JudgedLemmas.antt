@@ -60,7 +60,7 @@ says_so (Err e) P Q f h = tt
 pub granted : {S : Type 0} (opening : Opening S) (old : S) (certificate : List ℕ) (new : S) (p : Instructions) (c : CertificateView) (k : CheckedProgram)
     → k ≡ checked p c → CertificateAt opening old certificate new c → IsCertifiedBy p c → (wish : WantedOfChecked) (x : Answer) → WishSays wish k x → JudgedSays opening old certificate new p (WishSays wish) x
 granted opening old certificate new p c k same read by (Promise counted) (NoCertificate e) h = absurd h
-granted opening old certificate new p c k same read by (Run context) (NoCertificate e) h = absurd h
+granted opening old certificate new p c k same read by (Run context notes) (NoCertificate e) h = absurd h
 granted opening old certificate new p c k same read by (Promise counted) (NotCertified r) h = absurd h
-granted opening old certificate new p c k same read by (Run context) (NotCertified r) h = absurd h
+granted opening old certificate new p c k same read by (Run context notes) (NotCertified r) h = absurd h
 granted opening old certificate new p c k same read by wish x h = (c, read, by, subst (λ q. WishSays wish q x) same h)

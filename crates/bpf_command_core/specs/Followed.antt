@@ -1,7 +1,7 @@
 -- What is said of two images, of notes, and of the certificate beside which they are to show that the one program keeps the meaning of the other.
 use Rattle.std.specs.Prelude.{◌≡◌, ◌⊎◌}
 use Rattle.bpf_insn.specs.Instruction.{Instructions}
-use Rattle.bpf_kept.specs.Matching.{Notes}
+use Rattle.bpf_kept.specs.Matching.{Notes, shown_turns}
 use Rattle.bpf_kept.specs.Mismatches.{MatchesBeside, IsMismatch}
 use Rattle.bpf_kept.specs.Shown.{Keeps}
 use Rattle.bpf_kept.specs.declared.bounds.Bounds.{Bounds}
@@ -18,11 +18,11 @@ use Rattle.bpf_answers.specs.declared.failure.Failure.TheVariants.{CannotRead}
 use Rattle.bpf_command_core.specs.Printed.{JudgedSays}
 
 -- Of an old program, notes for these runs, and a new one that its certificate certifies: what of the notes beside it fails, or that they match, by which
--- the new program keeps the meaning of the old one; and the certificate's bound.
+-- the new program keeps the meaning of the old one; of how many turns, which is any number where no note has a counter; and the certificate's bound.
 abbrev pub ShownSays : Instructions → Bounds → Notes → CheckedProgram → Answer → Type 0
 ShownSays p runs notes k (NotFollowed m) = IsMismatch p k.program notes k.certificate runs m
-ShownSays p runs notes k (Follows bounds bound) =
-    (bounds ≡ runs) × (bound ≡ k.certificate.steps) × Keeps p k.program notes runs × MatchesBeside p k.program notes k.certificate runs
+ShownSays p runs notes k (Follows bounds turns bound) =
+    (bounds ≡ runs) × (turns ≡ shown_turns notes runs.turns) × (bound ≡ k.certificate.steps) × Keeps p k.program notes runs × MatchesBeside p k.program notes k.certificate runs
 ShownSays p runs notes k answer = ⊥
 
 -- Of two programs: why the text of notes is refused, or what is said of the notes and the certificate. The notes are judged before the certificate's name

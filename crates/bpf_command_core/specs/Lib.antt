@@ -1,3 +1,5 @@
+-- what is said of runs beside notes
+pub mod Noted
 pub mod Printed
 pub mod Followed
 pub mod Names

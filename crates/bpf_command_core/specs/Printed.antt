@@ -7,7 +7,9 @@ use Rattle.bpf_text.specs.Assembly.{Assembles, IsRefused}
 use Rattle.bpf_text.specs.declared.annotated.Notes.{Notes}
 use Rattle.bpf_text.specs.declared.annotated.Notes.TheVariants.{Slots, Bytes, Both}
 use Rattle.bpf_text.specs.declared.error.TextError.TheVariants.{Memory as NoRoom}
+use Rattle.bpf_kept.specs.Matching.{Notes as RunNotes}
 use Rattle.bpf_machine.specs.Answers.{IsRun}
+use Rattle.bpf_machine.specs.declared.outcome.Outcome.TheVariants.{Done}
 use Rattle.bpf_safety.specs.Describes.{LengthWithin}
 use Rattle.bpf_cert.specs.View.{CertificateView}
 use Rattle.bpf_cert.specs.Spelling.{certificate_text}
@@ -25,10 +27,11 @@ use Rattle.bpf_answers.specs.Opened.{Opening}
 use Rattle.bpf_answers.specs.Loaded.{ImageRefused, LoadsImage, ImageFails, ShortTextAt, TextFails, CertificateAt, CertificateRefused, CertificateUnread, CertificateFails, Tried}
 use Rattle.bpf_answers.specs.Made.{Making}
 use Rattle.bpf_answers.specs.declared.answer.Answer.{Answer}
-use Rattle.bpf_answers.specs.declared.answer.Answer.TheVariants.{Yes, NoImage, NoText, NoCertificate, NotCertified, NoContext, Ends, Ran, Occur, Lists, Annotates, Written}
+use Rattle.bpf_answers.specs.declared.answer.Answer.TheVariants.{Yes, NoImage, NoText, NoCertificate, NotCertified, NoContext, Ends, EndsAtTrap, Ran, RanToTrap, Occur, Lists, Annotates, Written}
 use Rattle.bpf_answers.specs.Told.{OutputFails}
 use Rattle.bpf_answers.specs.declared.failure.Failure.{Failure}
 use Rattle.bpf_answers.specs.declared.failure.Failure.TheVariants.{CannotRead, CannotWrite, NoMemory, BadContext}
+use Rattle.bpf_command_core.specs.Noted.{EndsAsNoted, IsUntrapped, noted_in}
 use Rattle.bpf_command_core.specs.declared.judged.WantedOfChecked.{WantedOfChecked}
 use Rattle.bpf_command_core.specs.declared.judged.WantedOfChecked.TheVariants.{Promise, Run}
 
@@ -72,9 +75,11 @@ ListSays asked p (Lists q) = (asked ≡ None) × (q ≡ p)
 ListSays asked p (Annotates a) = (asked ≡ Some a.notes) × (a.program ≡ p)
 ListSays asked p answer = ⊥
 
-abbrev pub OutcomeSays : List ℕ → ℕ → Instructions → Answer → Type 0
-OutcomeSays context fuel p (Ran outcome) = IsRun p context fuel outcome
-OutcomeSays context fuel p answer = ⊥
+-- how a run ends, and exactly where it ends at a trap of the notes, that it does
+abbrev pub OutcomeSays : Option RunNotes → List ℕ → ℕ → Instructions → Answer → Type 0
+OutcomeSays noted context fuel p (Ran outcome) = IsRun p context fuel outcome × IsUntrapped noted p context outcome
+OutcomeSays noted context fuel p (RanToTrap v k) = IsRun p context fuel (Done v k) × EndsAsNoted noted p context v true
+OutcomeSays noted context fuel p answer = ⊥
 
 -- ---- commands that take an image and a certificate
 
@@ -105,16 +110,17 @@ YesSays counted k (Yes least most bound work) =
     (least ≡ k.certificate.least) × (most ≡ k.certificate.most) × (bound ≡ k.certificate.steps) × (work ≡ (if counted then Some (work_of k.program k.certificate) else None))
 YesSays counted k answer = ⊥
 
--- what a checked program answers on a context
-abbrev pub ResultSays : List ℕ → CheckedProgram → Answer → Type 0
-ResultSays context k (Ends value) = RunsTo k.program k.certificate.steps context value
-ResultSays context k (NoContext count least most) =
+-- what a checked program answers on a context, and exactly where it ends at a trap of the notes, that it does
+abbrev pub ResultSays : Option RunNotes → List ℕ → CheckedProgram → Answer → Type 0
+ResultSays noted context k (Ends value) = RunsTo k.program k.certificate.steps context value × EndsAsNoted noted k.program context value false
+ResultSays noted context k (EndsAtTrap value) = RunsTo k.program k.certificate.steps context value × EndsAsNoted noted k.program context value true
+ResultSays noted context k (NoContext count least most) =
     (count ≡ length context) × (least ≡ k.certificate.least) × (most ≡ k.certificate.most) × (LengthWithin least most context → ⊥)
-ResultSays context k answer = ⊥
+ResultSays noted context k answer = ⊥
 
 abbrev pub WishSays : WantedOfChecked → CheckedProgram → Answer → Type 0
 WishSays (Promise counted) k answer = YesSays counted k answer
-WishSays (Run context) k answer = ResultSays context.now k answer
+WishSays (Run context notes) k answer = ResultSays (noted_in notes) context.now k answer
 
 -- what a yes promises of the image
 abbrev pub IsPromised : Order → List ℕ → Answer → Type 0
@@ -125,8 +131,8 @@ abbrev pub CheckSays : {S : Type 0} → Opening S → Order → S → List ℕ �
 CheckSays opening order old input certificate new counted answer =
     LoadedSays opening order old input certificate new (λ bytes k x. YesSays counted k x × IsPromised order bytes x) answer
 
-abbrev pub RunCheckedSays : {S : Type 0} → Opening S → Order → S → List ℕ → List ℕ → S → List ℕ → Answer → Type 0
-RunCheckedSays opening order old input certificate new context answer = LoadedSays opening order old input certificate new (λ bytes. ResultSays context) answer
+abbrev pub RunCheckedSays : {S : Type 0} → Opening S → Order → S → List ℕ → List ℕ → Option RunNotes → S → List ℕ → Answer → Type 0
+RunCheckedSays opening order old input certificate noted new context answer = LoadedSays opening order old input certificate new (λ bytes. ResultSays noted context) answer
 
 -- ---- commands that write
 

@@ -11,6 +11,7 @@ use bpf_answers::{Answer, Failure, Places, certificate_at, notes_at, program_at}
 use bpf_cert::Certificate;
 use bpf_check::check;
 use bpf_insn::Program;
+use bpf_kept::turns_shown;
 use bpf_kept_notes::NotesOfRuns;
 use bpf_kept_pass::follows;
 use bpf_request::Following;
@@ -34,14 +35,15 @@ fn shown(pair: NotedPair<'_>, certificate: &Certificate) -> Answer
     match follows(pair.old, pair.new, &noted.notes, certificate, noted.runs) {
         Ok(()) => Answer::Follows {
             bounds: noted.runs,
+            turns: turns_shown(&noted.notes, noted.runs.turns),
             bound: certificate.steps(),
         },
         Err(mismatch) => Answer::NotFollowed(mismatch),
     }
 }
 
-/// Reads the certificate at a name, judges whether it certifies the new program, and answers whether the notes beside it show that this keeps
-/// the meaning of the old one.
+/// Reads the certificate at a name, and judges whether it certifies the new program. Then it answers whether the notes beside it show that this keeps the
+/// meaning of the old one.
 fn beside<'a, P: Places>(
     alloc: Global,
     places: &mut P,
@@ -108,8 +110,8 @@ fn rewritten<'a, P: Places>(
     }
 }
 
-/// Judges whether notes beside a certificate show that the program of one image keeps the meaning of another one's, and answers for which contexts
-/// and runs and within which bound, or what fails first. Each name is judged before the next one is opened.
+/// Judges whether notes beside a certificate show that the program of one image keeps the meaning of another one's. It answers for which contexts and runs and
+/// within which bound, or what fails first. Each name is judged before the next one is opened.
 pub fn followed<'a, P: Places>(
     alloc: Global,
     places: &mut P,

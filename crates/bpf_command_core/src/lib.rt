@@ -12,6 +12,7 @@ mod groups;
 mod judged;
 mod list;
 mod migrate;
+mod noted;
 mod packets;
 mod placed;
 mod reading;

@@ -173,8 +173,8 @@ fn checked_packets<'a, P: Places, W: Write>(
     }
 }
 
-/// Answers the packets of a capture, as it is asked for: each packet in a line, or each different answer once with how often it came, in
-/// ascending order. A block is as long as the certificate lets contexts be. Where the capture is refused, that is the answer behind them.
+/// Answers the packets of a capture, each in a line; or each different answer once with how often it came, in ascending order. A block is as long as the
+/// certificate lets contexts be. Where the capture is refused, that is the answer behind them.
 pub fn replayed<'a, P: Places, W: Write>(
     alloc: Global,
     places: &mut P,

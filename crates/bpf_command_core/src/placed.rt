@@ -77,8 +77,8 @@ fn put_beside<'a, P: Places>(
     }
 }
 
-/// Puts whatever is asked for at its name. All is made and written before any of it is finished, so that a failure leaves what stood at the names; but
-/// where finishing one fails, those that were finished before stand: the image comes first, then its certificate, then the listing.
+/// Puts whatever is asked for at its name. All is made and written before any of it is finished, so that a failure leaves what stood at the names. But where
+/// finishing one fails, those that were finished before stand: the image comes first, then its certificate, then the listing.
 pub(crate) fn put_all<'a, P: Places>(
     alloc: Global,
     places: &mut P,

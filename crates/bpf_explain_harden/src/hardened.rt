@@ -263,10 +263,12 @@ fn explain_made<W: Write>(
     Ok(refusal)
 }
 
-/// Shows a hardened program with the certificate that hardening ended with, and the checker's answer, with the lines of the old program's source;
-/// where none comes out, the instruction for which it doesn't, with what the deep search knows there, and in words why (H1 to H13), of a graph by number
-/// alone; H12 is all that is told where memory runs out meanwhile. A slot that is asked for is one of what is shown. The program with the checker's answer, None if its certificate certifies it, or the
-/// refusal, is given back. A fault of the writer, or a write of no bytes, ends it. Who watches is told how far the deep search is.
+/// Shows a hardened program with the certificate that hardening ended with, the checker's answer, and the lines of the old program's source. Where none comes
+/// out, it shows the instruction for which it doesn't, what the deep search knows there, and in words why (H1 to H13); of a graph the number alone. H12 is all
+/// that is told where memory runs out meanwhile. A slot that is asked for is one of what is shown.
+///
+/// The program is given back with the checker's answer, None if its certificate certifies it; or the refusal is. A fault of the writer, or a write of no bytes,
+/// ends it. Who watches is told how far the deep search is.
 pub fn explain_hardening<W: Write, H: Watch>(
     alloc: Global,
     program: &Program,

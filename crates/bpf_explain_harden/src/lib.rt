@@ -1,5 +1,5 @@
-//! What hardening makes of a program, or why it is refused, in words. Of the words it makes no claim; what it hands back is the hardened
-//! program, which is shown to keep the meaning, with the checker's answer, or the refusal.
+//! What hardening makes of a program, or why it is refused, in words. It makes no claim of the words. It hands back the hardened program, which is shown to
+//! keep the meaning, with the checker's answer; or the refusal.
 #![tactic(auto)]
 
 mod hardened;

@@ -2,8 +2,8 @@
 
 use bpf_insn::{AluOp, Insn, Operand, Reg, Width, extended};
 use bpf_kept::{
-    Change, Displaced, Fact, Holder, Term, constant, frame_end, is_holder, minus, plus,
-    same_holder, slot_at,
+    Change, Displaced, Fact, Holder, Term, by_itself as same, constant, frame_end, is_holder,
+    minus, plus, same_holder, slot_at,
 };
 use std::alloc::{AllocError, Global};
 
@@ -188,6 +188,7 @@ pub fn brought(alloc: Global, facts: &[Fact], change: Change) -> Result<Vec<Fact
     match change {
         Change::Kept | Change::Stored { .. } => Ok(Vec::new(alloc)),
         Change::Put { fact, pin } => put(alloc, fact, pin),
+        Change::Fetched { into, .. } => put(alloc, same(Holder::Register(into)), None),
         Change::Made { into, insn } => made(alloc, facts, into, &insn),
     }
 }

@@ -86,8 +86,8 @@ pub fn evidence_for(
     }
 }
 
-/// Notes of a hardened program for these contexts and turns. They are for each run if such ones show that it keeps the meaning,
-/// else for those that leave the bytes alone that hardening takes, if these show it. Where neither do, they are of the first kind.
+/// Notes of a hardened program for these contexts and turns. They are for each run if such ones show that it keeps the meaning. Else they are for those that
+/// leave the bytes alone that hardening takes, if these show it. Where neither do, they are of the first kind.
 pub fn evidence_of(
     alloc: Global,
     old: &Program,

@@ -18,14 +18,14 @@ use bpf_kept::{
 use bpf_state::{Entries, State};
 use std::alloc::{AllocError, Global};
 
-/// The most slots of a program whose notes are sought: a note has more than 1,000 bytes.
-const MOST_SLOTS: u32 = 4096;
+/// The most slots of a program whose notes are sought: a note has some 2,000 bytes.
+const MOST_SLOTS: u32 = 16_384;
 
 /// How often each slot is looked at at most, in the mean.
 const LOOKS: u32 = 64;
 
 /// How often slots are looked at at most, all together. What isn't stable by then isn't shown.
-const MOST_LOOKS: u32 = 32_768;
+const MOST_LOOKS: u32 = 65_536;
 
 /// Both programs, and what is found so far.
 #[derive(Drop)]
@@ -361,8 +361,8 @@ impl<'a> DataFlow<'a> {
     }
 }
 
-/// By the slots of a hardened program, what is noted of its instructions for some runs, as `follows` of `bpf_kept_pass` takes it beside a
-/// certificate that certifies the program. None where no way is known to lead, and at second slots. Of programs that are too long nothing is noted.
+/// By the slots of a hardened program, what is noted of its instructions for some runs. `follows` of `bpf_kept_pass` takes it beside a certificate that
+/// certifies the program. None where no way is known to lead, and at second slots. Of programs that are too long nothing is noted.
 pub fn notes_of(
     alloc: Global,
     old: &Program,

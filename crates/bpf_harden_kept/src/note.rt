@@ -12,8 +12,8 @@ use bpf_kept::{
 };
 use std::alloc::{AllocError, Global};
 
-/// A way to an instruction: what is known in front of the instruction, the facts among it that were noted, what both programs change, and the old slot whose instruction
-/// the old program does.
+/// A way to an instruction: what is known in front of the instruction, the facts among it that were noted, and what both programs change. `step` is the old
+/// slot whose instruction the old program does.
 #[derive(Clone, Copy)]
 pub struct FlowEdge<'a> {
     pub known: &'a KnownHere<'a>,

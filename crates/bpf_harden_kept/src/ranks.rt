@@ -35,8 +35,8 @@ fn distance_rank(of: Holder, base: Holder, by: Option<Term>) -> u8 {
     }
 }
 
-/// How soon a fact is noted, from 0 on, so that there is room for those that are needed most: how registers differ; addresses and a packet's length; copies of registers;
-/// numbers in registers; numbers in slots of the frame.
+/// How soon a fact is noted, from 0 on, so that there is room for those that are needed most. First is how registers differ. Then come addresses and a packet's
+/// length, copies of registers, numbers in registers, and numbers in slots of the frame.
 pub fn rank_of(fact: &Fact) -> u8 {
     match (fact.of, fact.base) {
         (Some(of), Some(base)) => distance_rank(of, base, fact.by),

@@ -14,10 +14,14 @@ pub struct NewSite {
 
 /// Whether a new instruction of which this is noted stands for an old one itself.
 fn is_body(change: Option<Change>) -> bool {
-    matches!(
-        change,
-        None | Some(Change::Access | Change::Widened | Change::Offset | Change::Order)
-    )
+    match change {
+        None => true,
+        Some(Change::Access | Change::Widened | Change::Offset | Change::Order) => true,
+        Some(Change::Base | Change::Length | Change::Turns | Change::Zero | Change::Result) =>
+            false,
+        Some(Change::Handed | Change::Guard | Change::Turn | Change::Save) => false,
+        Some(Change::Address | Change::Always | Change::Returned | Change::Trap) => false,
+    }
 }
 
 /// By new slots, what was done there.

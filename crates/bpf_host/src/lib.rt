@@ -23,6 +23,7 @@ ghost use Rattle.bpf_host_calls.specs.declared.answers.TheConstants.{YES, NO, NO
 mod certifying;
 mod converting;
 mod explaining;
+mod trapping;
 
 use bpf_host_calls::{
     BpfFollowing, BpfOutcome, BpfRefusal, BpfVerdict, FollowAsked, HardenAsked, LoadAsked,
@@ -32,6 +33,7 @@ pub use certifying::bpf_host_certify;
 pub use converting::{bpf_host_convert, bpf_host_convert_size};
 pub use explaining::{bpf_host_explain, bpf_host_explain_image, bpf_host_explain_search};
 use std::alloc::Global;
+pub use trapping::bpf_host_ends_at_trap;
 
 /// `version` of `bpf_host_calls`, for C.
 #[unsafe(no_mangle)]

@@ -1,5 +1,6 @@
 -- What is certified of an image, from what its parts tell.
-use Rattle.std.proofs.Common.{◌≡◌, ◌==◌, ◌∙◌, ℕ, ◌<◌, Bool, true, false, List, Option, Some, None, Result, Ok, Err, IfOk, IfSome, IsErrAnd, IsTrue, MatchResult, if◌then◌else◌, ◌≤◌, length, refl, sym, ap, subst, inl, inr, eqb-true, arith}
+use Rattle.std.proofs.Common.{◌≡◌, ◌⊎◌, ◌==◌, ◌∙◌, ℕ, ◌<◌, Bool, true, false, List, Option, Some, None, Result, Ok, Err, IfOk, IfSome, IsErrAnd, IsTrue, MatchResult, if◌then◌else◌, ◌≤◌, length, refl, sym, ap, subst, inl, inr, eqb-true, arith}
+use Rattle.std.proofs.lemmas.Bool.{cond-true, false≢true}
 use Rattle.bpf_insn.specs.Instruction.{Instructions}
 use Rattle.bpf_insn.specs.Image.{IsImage, IsProgram}
 use Rattle.bpf_insn.specs.Laws.{IsImageOfProgram}
@@ -10,7 +11,10 @@ use Rattle.bpf_check.specs.Verdicts.{Promises}
 use Rattle.bpf_safety.specs.Certified.{Certified as IsCertified}
 use Rattle.bpf_cert.specs.Certificates.{Spells}
 use Rattle.bpf_kept_notes.specs.NotesText.{notes_text}
-use Rattle.bpf_certify.specs.Certified.{IsPaid, IsRewritten, StandsFor}
+use Rattle.bpf_kept.specs.declared.bounds.Turns.{Turns}
+use Rattle.bpf_kept.specs.declared.bounds.Turns.TheVariants.{Any, Most}
+use Rattle.bpf_kept.specs.Matching.{has_counter, shown_turns}
+use Rattle.bpf_certify.specs.Certified.{IsPaid, IsRewritten, StandsFor, told_turns}
 use Rattle.bpf_certify.specs.declared.certified.Certified.{Certified}
 use Rattle.bpf_certify.specs.declared.certified.Rewritten.{Rewritten}
 use Rattle.bpf_certify.specs.declared.error.CertifyError.{CertifyError}
@@ -26,6 +30,13 @@ use Rattle.bpf_host_calls.proofs.FollowedLemmas.{IsReadFrom, followed_by, in_ord
 
 -- ---- what is told
 
+most≢any : (n : ℕ) → Most n ≡ Any → ⊥
+most≢any n same = false≢true (ap is_any same)
+  where
+    is_any : Turns → Bool
+    is_any Any = true
+    is_any (Most n) = false
+
 picked : (b : Bool) (wished told : ℕ) → (b ≡ true → wished ≡ 0) → IfSome (if b then None else Some wished) (λ turns. told ≡ turns) → 0 < wished → told ≡ wished
 picked true wished told none same some = let is = none refl in absurd (omega arith)
 picked false wished told none same some = same
@@ -40,6 +51,23 @@ shown_told false shown = cc
 told_shown : (b : Bool) → number_of b ≡ 1 → IsTrue b
 told_shown true shown = refl
 told_shown false shown = absurd (omega arith)
+
+-- any number, or those for which it is hardened
+one_of_both : (wished : ℕ) (r : Rewritten) → r.turns ≡ wished → (told_turns r ≡ Any) ⊎ (told_turns r ≡ Most wished)
+one_of_both wished r same = by_shown r.is_shown (has_counter r.notes.items)
+  where
+    by_shown : (b c : Bool) → ((if b then (if c then Most r.turns else Any) else Most r.turns) ≡ Any) ⊎ ((if b then (if c then Most r.turns else Any) else Most r.turns) ≡ Most wished)
+    by_shown true true = inr (ap Most same)
+    by_shown true false = inl refl
+    by_shown false c = inr (ap Most same)
+
+-- any number where it is shown
+shown_any : (r : Rewritten) → told_turns r ≡ Any → number_of r.is_shown ≡ 1
+shown_any r any = by_shown r.is_shown any
+  where
+    by_shown : (b : Bool) → (if b then shown_turns r.notes.items r.turns else Most r.turns) ≡ Any → number_of b ≡ 1
+    by_shown true same = refl
+    by_shown false same = absurd (most≢any r.turns same)
 
 -- ---- what is promised
 
@@ -60,13 +88,14 @@ promised order size most bound q c bytes text same is_image paid text_is =
 
 -- ---- what is shown of a hardened one
 
-kept : (order : Order) (image : List ℕ) (size : ℕ) (w : BpfWish) (told : BpfCertified) (bytes text : List ℕ) (p : Instructions) (c : Certified) (r : Rewritten) → IsReadFrom order image p → IsReadFrom order bytes r.hardened.program → IsRewritten p size (wish_of w) c r → text ≡ certificate_text c.certificate → told.bound ≡ c.bound → TellsMade (Some r) told → IsTrue r.is_shown → (notes : List ℕ) × IsFollowed order image bytes notes text (following_of (bounds_of size w.padded told.turns told.untouched) told.bound)
+kept : (order : Order) (image : List ℕ) (size : ℕ) (w : BpfWish) (told : BpfCertified) (bytes text : List ℕ) (p : Instructions) (c : Certified) (r : Rewritten) → IsReadFrom order image p → IsReadFrom order bytes r.hardened.program → IsRewritten p size (wish_of w) c r → text ≡ certificate_text c.certificate → told.bound ≡ c.bound → TellsMade (Some r) told → IsTrue r.is_shown → (notes : List ℕ) × IsFollowed order image bytes notes text (following_of (bounds_of size w.padded told.turns told.untouched) (told_turns r) told.bound)
 kept order image size w told bytes text p c r old_read new_read stands text_is bound_is tells shown =
     let runs = bounds_of size w.padded r.turns r.untouched in
     let by = stands.paid.certified in
     let bound : told.bound ≡ c.certificate.steps = bound_is ∙ sym stands.paid.bound_is in
-    let told_is : following_of (bounds_of size w.padded told.turns told.untouched) told.bound ≡ following_of runs c.certificate.steps = cc (tells.2, tells.3, bound) in
-    (notes_text runs r.notes.items, followed_by order image bytes (notes_text runs r.notes.items) text p r.hardened.program runs r.notes.items c.certificate (following_of (bounds_of size w.padded told.turns told.untouched) told.bound) old_read new_read refl (record { valid = by.certificate; spelled = text_is }) by (stands.matches shown) (stands.keeps shown) told_is)
+    let turns : told_turns r ≡ shown_turns r.notes.items r.turns = cond-true r.is_shown (shown_turns r.notes.items r.turns) (Most r.turns) shown in
+    let told_is : following_of (bounds_of size w.padded told.turns told.untouched) (told_turns r) told.bound ≡ following_of runs (shown_turns r.notes.items r.turns) c.certificate.steps = cc (turns, tells.3, bound) in
+    (notes_text runs r.notes.items, followed_by order image bytes (notes_text runs r.notes.items) text p r.hardened.program runs r.notes.items c.certificate (following_of (bounds_of size w.padded told.turns told.untouched) (told_turns r) told.bound) old_read new_read refl (record { valid = by.certificate; spelled = text_is }) by (stands.matches shown) (stands.keeps shown) told_is)
 
 -- ---- the image that stands as it is, and a hardened one
 
@@ -96,7 +125,10 @@ certified_as order image size w told bytes text p c (Some r) is_image same progr
       paid = subst (λ b. b ≤ w.bound) (sym bound_is) stands.paid.within;
       is_made = inr (record {
         told_is = tells.0;
-        turns_are = λ some. tells.2 ∙ turns_told w.turns r.turns stands.turns_are some;
+        turns = told_turns r;
+        told_turns_are = tells.2;
+        turns_are = λ some. one_of_both w.turns r (turns_told w.turns r.turns stands.turns_are some);
+        any_shown = λ any. tells.1 ∙ shown_any r any;
         few = subst (λ n. n ≤ frame_bytes) (sym tells.3) stands.few;
         shown = λ asked. tells.1 ∙ shown_told r.is_shown (shown asked);
         keeps = λ one. kept order image size w told bytes text p c r old_read new_read stands text_is bound_is tells (told_shown r.is_shown (sym tells.1 ∙ one));

@@ -11,7 +11,7 @@ use Rattle.bpf_check.specs.CheckedProgram.{IsCertifiedBy}
 use Rattle.bpf_check.specs.RefusalNumbers.{refusal_slot, refusal_number}
 use Rattle.bpf_check.specs.Verdicts.{HasFlaw, program_in}
 use Rattle.bpf_check.specs.declared.refusal.Refusal.{Refusal}
-use Rattle.bpf_kept.specs.Matching.{Notes}
+use Rattle.bpf_kept.specs.Matching.{Notes, shown_turns}
 use Rattle.bpf_kept.specs.Mismatches.{MatchesBeside, IsMismatch}
 use Rattle.bpf_kept.specs.Shown.{Keeps}
 use Rattle.bpf_kept.specs.declared.bounds.Bounds.{Bounds}
@@ -45,7 +45,7 @@ both_in_order order old new p q Holds old_read new_read holds =
 
 -- ---- what is shown
 
-pub followed_by : (order : Order) (old new notes text : List ℕ) (p q : Instructions) (runs : Bounds) (noted : Notes) (c : CertificateView) (told : BpfFollowing) → IsReadFrom order old p → IsReadFrom order new q → notes ≡ notes_text runs noted → Spells text c → IsCertifiedBy q c → MatchesBeside p q noted c runs → Keeps p q noted runs → told ≡ following_of runs c.steps → IsFollowed order old new notes text told
+pub followed_by : (order : Order) (old new notes text : List ℕ) (p q : Instructions) (runs : Bounds) (noted : Notes) (c : CertificateView) (told : BpfFollowing) → IsReadFrom order old p → IsReadFrom order new q → notes ≡ notes_text runs noted → Spells text c → IsCertifiedBy q c → MatchesBeside p q noted c runs → Keeps p q noted runs → told ≡ following_of runs (shown_turns noted runs.turns) c.steps → IsFollowed order old new notes text told
 followed_by order old new notes text p q runs noted c told old_read new_read notes_are spelled certified matches keeps told_is =
     record {
       program = p.list;

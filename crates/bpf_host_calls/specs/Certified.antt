@@ -1,5 +1,5 @@
 -- Images that are certified: as they stand, or hardened.
-use Rattle.std.specs.Prelude.{◌≡◌, ◌≢◌, ◌<◌, ◌≤◌, ◌⊎◌, ◌++◌, ◌==◌, ℕ, List, Option, Some, None, if◌then◌else◌, false, length, drop}
+use Rattle.std.specs.Prelude.{◌≡◌, ◌≢◌, ◌<◌, ◌≤◌, ◌⊎◌, ◌++◌, ◌-◌, ◌^◌, ◌==◌, ℕ, min, List, Option, Some, None, if◌then◌else◌, false, length, drop}
 use Rattle.bpf_insn.specs.Instruction.{slots}
 use Rattle.bpf_insn.specs.Laws.{IsImageOfProgram}
 use Rattle.bpf_insn.specs.Limits.{frame_bytes}
@@ -8,7 +8,9 @@ use Rattle.bpf_insn.specs.declared.order.Order.{Order}
 use Rattle.bpf_insn.specs.declared.instruction.Insn.{Insn}
 use Rattle.bpf_insn.specs.declared.refusal.DecodeError.{DecodeError}
 use Rattle.bpf_check.specs.Verdicts.{Promises, program_in}
-use Rattle.bpf_certify.specs.Certified.{IsRefused as IsRefusedFor, certify_slot}
+use Rattle.bpf_kept.specs.declared.bounds.Turns.{Turns}
+use Rattle.bpf_kept.specs.declared.bounds.Turns.TheVariants.{Any, Most}
+use Rattle.bpf_certify.specs.Certified.{IsRefused as IsRefusedFor, certify_slot, told_turns}
 use Rattle.bpf_certify.specs.declared.wish.Wish.{Wish}
 use Rattle.bpf_certify.specs.declared.certified.Rewritten.{Rewritten}
 use Rattle.bpf_certify.specs.declared.error.CertifyError.{CertifyError}
@@ -34,9 +36,14 @@ wish_of w = record { bound = w.bound; turns = turns_wished w.turns; otherwise = 
 
 -- ---- what is told of what was made
 
+-- of how many turns, as C sees it: the greatest number for any, and one less for a number that is as great
+abbrev pub short_turns : Turns → ℕ
+short_turns Any = 2 ^ 32 - 1
+short_turns (Most turns) = min turns (2 ^ 32 - 2)
+
 abbrev pub TellsMade : Option Rewritten → BpfCertified → Type 0
 TellsMade None told = (told.is_rewritten ≡ 0) × (told.is_shown ≡ 1) × (told.turns ≡ 0) × (told.untouched ≡ 0)
-TellsMade (Some r) told = (told.is_rewritten ≡ 1) × (told.is_shown ≡ number_of r.is_shown) × (told.turns ≡ r.turns) × (told.untouched ≡ r.untouched)
+TellsMade (Some r) told = (told.is_rewritten ≡ 1) × (told.is_shown ≡ number_of r.is_shown) × (told.turns ≡ short_turns (told_turns r)) × (told.untouched ≡ r.untouched)
 
 -- bytes are the image of a hardened program, or the one that was given
 abbrev pub IsImageMade : List ℕ → Option Rewritten → List ℕ → Type 0
@@ -52,13 +59,16 @@ pub record IsAsGiven (image : List ℕ) (wish : BpfWish) (told : BpfCertified) (
   pub told_is : (told.is_rewritten ≡ 0) × (told.is_shown ≡ 1) × (told.turns ≡ 0) × (told.untouched ≡ 0)
 
 -- It is that of a hardened program, for the turns that are wished. Where it is told so, notes beside the certificate show that it keeps the meaning of
--- the one that was given, for the turns and the bytes that are told.
+-- the one that was given, for the turns and the bytes that are told; of any number of turns exactly where no note has a counter.
 pub record IsRemade (order : Order) (image : List ℕ) (size : ℕ) (wish : BpfWish) (told : BpfCertified) (bytes text : List ℕ) : Type 0 where
   pub told_is : told.is_rewritten ≡ 1
-  pub turns_are : 0 < wish.turns → told.turns ≡ wish.turns
+  pub turns : Turns
+  pub told_turns_are : told.turns ≡ short_turns turns
+  pub turns_are : 0 < wish.turns → (turns ≡ Any) ⊎ (turns ≡ Most wish.turns)
+  pub any_shown : turns ≡ Any → told.is_shown ≡ 1
   pub few : told.untouched ≤ frame_bytes
   pub shown : (wish.unproved == 1) ≡ false → told.is_shown ≡ 1
-  pub keeps : told.is_shown ≡ 1 → (notes : List ℕ) × IsFollowed order image bytes notes text (following_of (bounds_of size wish.padded told.turns told.untouched) told.bound)
+  pub keeps : told.is_shown ≡ 1 → (notes : List ℕ) × IsFollowed order image bytes notes text (following_of (bounds_of size wish.padded told.turns told.untouched) turns told.bound)
 
 -- The image that was given is a program's. The text spells a certificate which certifies the program of the one that is made of it, for contexts
 -- of exactly so many bytes, with the bound that is told, at most the one that was asked for.

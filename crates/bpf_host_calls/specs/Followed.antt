@@ -1,5 +1,5 @@
 -- Whether notes and a certificate show that a new image keeps the meaning of an old one.
-use Rattle.std.specs.Prelude.{◌≡◌, ◌⊎◌, ℕ, List}
+use Rattle.std.specs.Prelude.{◌≡◌, ◌⊎◌, ◌-◌, ◌^◌, ℕ, min, List}
 use Rattle.bpf_insn.specs.Laws.{IsImageOfProgram}
 use Rattle.bpf_insn.specs.Refusal.{IsRefused}
 use Rattle.bpf_insn.specs.declared.order.Order.{Order}
@@ -12,10 +12,12 @@ use Rattle.bpf_cert.specs.declared.error.CertError.{CertError}
 use Rattle.bpf_check.specs.CheckedProgram.{IsCertifiedBy}
 use Rattle.bpf_check.specs.Verdicts.{HasFlaw, program_in}
 use Rattle.bpf_check.specs.declared.refusal.Refusal.{Refusal}
-use Rattle.bpf_kept.specs.Matching.{Notes}
+use Rattle.bpf_kept.specs.Matching.{Notes, shown_turns}
 use Rattle.bpf_kept.specs.Mismatches.{MatchesBeside, IsMismatch}
 use Rattle.bpf_kept.specs.Shown.{Keeps}
 use Rattle.bpf_kept.specs.declared.bounds.Bounds.{Bounds}
+use Rattle.bpf_kept.specs.declared.bounds.Turns.{Turns}
+use Rattle.bpf_kept.specs.declared.bounds.Turns.TheVariants.{Any, Most}
 use Rattle.bpf_kept.specs.declared.mismatch.Mismatch.{Mismatch}
 use Rattle.bpf_kept_notes.specs.NotesText.{notes_text}
 use Rattle.bpf_kept_notes.specs.Refused.{IsRefused as AreRefused}
@@ -29,12 +31,18 @@ use Rattle.bpf_host_calls.specs.declared.host_advice_asked.BpfFollowing.{BpfFoll
 
 -- ---- what is shown
 
--- the contexts and runs, and the bound, as C sees them
-abbrev pub following_of : Bounds → ℕ → BpfFollowing
-following_of runs bound = record { size = runs.length; padded = number_of runs.padded; turns = runs.turns; untouched = runs.untouched; bound = bound }
+-- Of how many turns, as C sees it: the greatest number for any. A number that is as great is told as one less.
+abbrev pub long_turns : Turns → ℕ
+long_turns Any = 2 ^ 64 - 1
+long_turns (Most turns) = min turns (2 ^ 64 - 2)
+
+-- the contexts and runs, of how many turns, and the bound, as C sees them
+abbrev pub following_of : Bounds → Turns → ℕ → BpfFollowing
+following_of runs turns bound = record { size = runs.length; padded = number_of runs.padded; turns = long_turns turns; untouched = runs.untouched; bound = bound }
 
 -- Both are images. One text is that of notes, and another one spells a certificate, which certifies the new program. Beside it the notes match, so the new
--- program keeps the old one's meaning on the runs of which they speak. These are told, and the certificate's bound.
+-- program keeps the old one's meaning on the runs of which they speak. These are told, and the certificate's bound. Where no note has a counter, it is
+-- told that they are runs of any number of turns.
 pub record IsFollowed (order : Order) (old new notes text : List ℕ) (told : BpfFollowing) : Type 0 where
   pub program : List Insn
   pub is_old : IsImageOfProgram order old program
@@ -48,7 +56,7 @@ pub record IsFollowed (order : Order) (old new notes text : List ℕ) (told : Bp
   pub certified : IsCertifiedBy (program_in order made) certificate
   pub matches : MatchesBeside (program_in order program) (program_in order made) noted certificate runs
   pub keeps : Keeps (program_in order program) (program_in order made) noted runs
-  pub told_is : told ≡ following_of runs certificate.steps
+  pub told_is : told ≡ following_of runs (shown_turns noted runs.turns) certificate.steps
 
 -- ---- what is refused: the first of both images, the notes, the certificate, what it certifies, and what the notes show
 

@@ -18,4 +18,5 @@ pub mod Proposals
 pub mod Explained
 pub mod Hardened
 pub mod Followed
+pub mod Trapped
 pub mod Certified

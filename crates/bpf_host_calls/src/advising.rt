@@ -21,10 +21,14 @@ use bpf_infer::WantedCertificate;
 use bpf_insn::{FRAME_BYTES, MAX_CONTEXT};
 use std::alloc::Global;
 
-/// Proposes a certificate for the program of an image, on contexts of `least` to `most` bytes: 1, and its text stands in the
-/// first `wanted` bytes of `text`. 0: none is proposed, and `refusal` says why, by E or I. -1: memory ran out. -2: the order
-/// or `deep` is neither 0 nor 1, `least` is above `most`, or `most` above 4,096. -3: `text` is too small for `wanted` bytes. What isn't
-/// answered stays as it was. Nobody relies on a proposal: `verify` of `bpf_host_calls` judges it.
+/// Proposes a certificate for the program of an image, on contexts of `least` to `most` bytes. Nobody relies on it: `verify` of `bpf_host_calls` judges it.
+/// - 1: its text stands in the first `wanted` bytes of `text`.
+/// - 0: none is proposed, and `refusal` says why, by E or I.
+/// - -1: memory ran out.
+/// - -2: the order or `deep` is neither 0 nor 1, `least` is above `most`, or `most` above 4,096.
+/// - -3: `text` is too small for `wanted` bytes.
+///
+/// What isn't answered stays as it was.
 pub fn infer(
     alloc: Global,
     image: &[u8],
@@ -65,14 +69,16 @@ pub fn infer(
     }
 }
 
-/// Hardens an image for contexts of exactly `size` bytes: loops that nothing counts turn at most `turns` times, and where a
-/// trap ends the program, r0 is `otherwise`. With `padded` 1 the context is a block: eight bytes that say how long the packet is,
-/// the packet, and padding. 1: the new image stands in the first `wanted` bytes of `text`; with `unproved` 0, and not 1, it is shown to keep the
-/// meaning of the old one, for runs that come to no instruction more than `turns` times and leave the lowest `untouched` bytes of each frame
-/// to r10. 0: the image is refused, or its program isn't hardened, or isn't shown to be, and `refusal` says why, by E or H. -1:
-/// memory ran out. -2: the order, `padded` or `unproved` is neither 0 nor 1, `size` is above 4,096 or `untouched` above 512. -3: `text` has less
-/// than `wanted` bytes. What isn't answered stays as it was. For safety nobody relies on it: a certificate of the new image has to be found
-/// and judged.
+/// Hardens an image for contexts of exactly `size` bytes. Loops that nothing counts turn at most `turns` times. Where a trap ends the program, r0 is
+/// `otherwise`. With `padded` 1 the context is a block: eight bytes that say how long the packet is, the packet, and padding.
+/// - 1: the new image stands in the first `wanted` bytes of `text`. With `unproved` 0 it is shown to keep the meaning of the old one. That is for runs that
+///   come to no instruction more than `turns` times and leave the lowest `untouched` bytes of each frame to r10.
+/// - 0: the image is refused, or its program isn't hardened, or isn't shown to be, and `refusal` says why, by E or H.
+/// - -1: memory ran out.
+/// - -2: the order, `padded` or `unproved` is neither 0 nor 1, `size` is above 4,096 or `untouched` above 512.
+/// - -3: `text` has less than `wanted` bytes.
+///
+/// What isn't answered stays as it was. For safety nobody relies on it: a certificate of the new image has to be found and judged.
 pub fn harden(
     alloc: Global,
     image: &[u8],
@@ -110,8 +116,8 @@ pub fn harden(
     }
 }
 
-/// What a refusal or a fault says in English, without an end of line: the kind is the letter, A, B, C, E, F, H, I, K, M, N or P. The answer
-/// is how many bytes that is, 0 where there is no such refusal; as many as have room stand in `text`.
+/// What a refusal or a fault says in English, without an end of line. The kind is the letter: A, B, C, E, F, H, I, K, M, N or P. The answer is how many
+/// bytes that is, and 0 where there is no such refusal. As many as have room stand in `text`.
 pub fn refusal_text(kind: u32, number: u32, text: &mut [u8]) -> usize
     ensures numbered { (0 < result) ↔ IsNumbered kind number }
     ensures length { result ≡ length (refusal_text kind number) }

@@ -43,8 +43,8 @@ pub struct BpfVerdict {
 #[repr(C)]
 #[derive(Clone, Copy)]
 pub struct BpfRefusal {
-    /// The letter of the refusal: E (an image), K (a certificate), C (a program by its certificate), I (an inference), H (a hardening), M and N (notes) or B
-    /// (a filter of classic BPF).
+    /// The letter of the refusal: E (an image), K (a certificate), C (a program by its certificate), I (an inference), H (a hardening), M and N (notes),
+    /// B (a filter of classic BPF).
     pub kind: u32,
     /// Its number, from 1.
     pub number: u32,

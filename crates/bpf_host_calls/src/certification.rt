@@ -2,7 +2,7 @@
 
 ghost use Rattle.std.specs.Prelude.{◌≡◌, ◌≤◌, ◌<◌, ◌++◌, ◌⊎◌, IfOk, IfErr, IfSome, length, drop};
 ghost use Rattle.bpf_insn.specs.Limits.{max_context};
-ghost use Rattle.bpf_host_calls.specs.Certified.{IsCertifiedAs, IsImageMade, IsNotCertified, TellsMade, wish_of};
+ghost use Rattle.bpf_host_calls.specs.Certified.{IsCertifiedAs, IsImageMade, IsNotCertified, TellsMade, short_turns, wish_of};
 ghost use Rattle.bpf_host_calls.specs.ToldAdvice.{IsTold};
 ghost use Rattle.bpf_host_calls.specs.declared.answers.TheConstants.{YES, TOO_SMALL};
 
@@ -11,7 +11,7 @@ use crate::explanation::Given;
 use crate::hardening::image_of;
 use crate::proposal::text_of;
 use crate::refusals::{Unmade, of_certifying};
-use bpf_certify::{Certified, Wish, certify};
+use bpf_certify::{Certified, Turns, Wish, certify};
 use bpf_insn::{DecodeError, decode};
 use std::alloc::Global;
 
@@ -41,7 +41,8 @@ pub struct BpfCertified {
     pub certificate_len: usize,
     /// The greatest number of instructions that a run takes.
     pub bound: u32,
-    /// How often a loop that has a counter may turn in one call of its function; 0 where nothing was rewritten.
+    /// How often a loop that has a counter may turn in one call of its function; `u32::MAX` where it is shown of each run, however often it turns; 0
+    /// where nothing was rewritten.
     pub turns: u32,
     /// How many of the lowest bytes of each frame runs of the old program have to leave to r10.
     pub untouched: u32,
@@ -77,6 +78,16 @@ fn wish_of(wish: BpfWish) -> Wish
     }
 }
 
+/// Of how many turns, as C sees it: `u32::MAX` for any number.
+fn short_turns(turns: Turns) -> u32
+    ensures { result ≡ short_turns turns }
+{
+    match turns {
+        Turns::Any => u32::MAX,
+        Turns::Most(most) => most.min(u64::from(u32::MAX - 1)) as u32,
+    }
+}
+
 /// What is told of what was certified, where the image and the text have so many bytes.
 fn told_of(certified: &Certified, image_len: usize, certificate_len: usize) -> BpfCertified
     ensures image { result.image_len ≡ image_len }
@@ -86,7 +97,12 @@ fn told_of(certified: &Certified, image_len: usize, certificate_len: usize) -> B
 {
     let (turns, untouched, is_rewritten, is_shown) = match &certified.rewritten {
         None => (0, 0, 0, 1),
-        Some(made) => (made.turns, made.untouched, 1, u32::from(made.is_shown)),
+        Some(made) => (
+            short_turns(made.told()),
+            made.untouched,
+            1,
+            u32::from(made.is_shown),
+        ),
     };
     BpfCertified {
         image_len,

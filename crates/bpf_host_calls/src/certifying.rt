@@ -14,14 +14,17 @@ use crate::refusals::Unmade;
 use bpf_insn::MAX_CONTEXT;
 use std::alloc::Global;
 
-/// Certifies an image for contexts of exactly `size` bytes, with a bound of at most the one that is wished: as it stands, where the deep search
-/// finds such a certificate, or else hardened, for the turns that are wished, or for the greatest number that is found to stay within the bound.
-/// 1: `certified` says how many of the first bytes of `made` are the image and how many of `text` the certificate, which certifies it with the bound
-/// that is told. Where the image is a hardened one, it is shown, unless `unproved` is 1, to keep the meaning of the one that was given, for runs
-/// that come to no instruction more than `turns` times and leave the lowest `untouched` bytes of each frame to r10, as is told. 0: the image is
-/// refused, or isn't certified, and `refusal` says why, by E or H. -1: memory ran out. -2: the order, `padded` or `unproved` is neither 0 nor 1, or
-/// `size` is above 4,096. -3: `made` or `text` has less room than `certified` says. What isn't answered stays as it was. What comes out was checked:
-/// `verify` of `bpf_host_calls` says yes of it.
+/// Certifies an image for contexts of exactly `size` bytes, with a bound of at most the one that is wished. The image stays as it stands where the deep search
+/// finds such a certificate. Else it is hardened, for the turns that are wished, or for the greatest number that is found to stay within the bound.
+/// - 1: `certified` says how many of the first bytes of `made` are the image and how many of `text` the certificate. This certifies it with the bound that is
+///   told. A hardened image is shown, unless `unproved` is 1, to keep the meaning of the one that was given. That is for runs that come to no instruction more
+///   than `turns` times (`u32::MAX`: however often) and leave the lowest `untouched` bytes of each frame to r10, as is told.
+/// - 0: the image is refused, or isn't certified, and `refusal` says why, by E or H.
+/// - -1: memory ran out.
+/// - -2: the order, `padded` or `unproved` is neither 0 nor 1, or `size` is above 4,096.
+/// - -3: `made` or `text` has less room than `certified` says.
+///
+/// What isn't answered stays as it was. What comes out was checked: `verify` of `bpf_host_calls` says yes of it.
 pub fn certify(
     alloc: Global,
     image: &[u8],

@@ -14,15 +14,18 @@ use crate::forms::{form_of, form_part, may_have, wanted_by};
 use crate::unconverted::Unmade;
 use std::alloc::Global;
 
-/// Makes an image of a filter of classic BPF, whose instructions are eight bytes each with numbers in the order `filter_order`, for contexts of
-/// exactly `size` bytes in a form: 0 blocks of a packet's length, the packet and padding, 1 packets, 2 `struct seccomp_data`, 3 blocks with
-/// sixteen words of Linux's auxiliary data between the length and the packet; and a certificate. The form stands in the low 16 bits of `form`; the
-/// high 16 say how often a run may jump back, 0 as often as is usual.
-/// 1: `converted` says how many of the first bytes of `made` are the image and how many of `text` the certificate, which certifies it with the
-/// bound that is told. On each such context the image's program ends with what the filter answers, with 0 where the filter's run jumps back more often. 0: the bytes are no filter, and `refusal` says why, by
-/// B with the instruction. -1: memory ran out. -2: an order is neither 0 nor 1, the form is above 3, or no context of the form has `size` bytes. -3:
-/// `made` or `text` has less room than `converted` says. What isn't answered stays as it was. The checker isn't asked, since by a law
-/// `verify` of `bpf_host_calls` says yes of what comes out.
+/// Makes an image of a filter of classic BPF, and a certificate, for contexts of exactly `size` bytes in a form. The filter's instructions are eight bytes
+/// each, with numbers in the order `filter_order`. The form stands in the low 16 bits of `form`: 0 blocks of a packet's length, the packet and padding, 1
+/// packets, 2 `struct seccomp_data`, 3 blocks with sixteen words of Linux's auxiliary data between the length and the packet. The high 16 bits say how often
+/// a run may jump back, 0 as often as is usual.
+/// - 1: `converted` says how many of the first bytes of `made` are the image and how many of `text` the certificate. This certifies it with the bound that is
+///   told. On each such context the image's program ends with what the filter answers, with 0 where the filter's run jumps back more often.
+/// - 0: the bytes are no filter, and `refusal` says why, by B with the instruction.
+/// - -1: memory ran out.
+/// - -2: an order is neither 0 nor 1, the form is above 3, or no context of the form has `size` bytes.
+/// - -3: `made` or `text` has less room than `converted` says.
+///
+/// What isn't answered stays as it was. The checker isn't asked, since by a law `verify` of `bpf_host_calls` says yes of what comes out.
 pub fn convert(
     alloc: Global,
     filter: &[u8],

@@ -50,10 +50,14 @@ fn answer(
     }
 }
 
-/// Explains an image with a certificate, in the words of `bpf explain IN CERT`, which stand in the first `wanted` bytes of `text`:
-/// 1 where the certificate certifies the image, 0 where it doesn't, and `refusal` says why. What is shown is 0 the listing, 1 the
-/// instruction at `slot`, 2 the graph; `lines` is the table of the source's lines, and may be empty. -1: memory ran out. -2: the order
-/// is neither 0 nor 1, there is no aspect `shown`, or `lines` isn't such a table. -3: `text` has less than `wanted` bytes.
+/// Explains an image with a certificate. The words are those of `bpf explain IN CERT`, and stand in the first `wanted` bytes of `text`. What is shown is 0 the
+/// listing, 1 the instruction at `slot`, 2 the graph. `lines` is the table of the source's lines, and may be empty.
+/// - 1: the certificate certifies the image.
+/// - 0: it doesn't, and `refusal` says why.
+/// - -1: memory ran out.
+/// - -2: the order is neither 0 nor 1, there is no aspect `shown`, or `lines` isn't such a table.
+/// - -3: `text` has less than `wanted` bytes.
+///
 /// What isn't answered stays as it was.
 pub fn explain(
     alloc: Global,
@@ -92,10 +96,15 @@ pub fn explain(
     answer(judged, &words, text, wanted, refusal)
 }
 
-/// Explains what a search finds for an image on contexts of `least` to `most` bytes, the deep one where `deep` is 1, in the words of
-/// `bpf explain IN --infer`: 1 where it finds a certificate which certifies the image, 0 where it doesn't, and `refusal` says why, by
-/// E, I or C. What is shown is as of `explain`. -1: memory ran out. -2: as of that one, `least` is above `most`, `most` above
-/// 4,096, or `deep` neither 0 nor 1. -3: `text` has less than `wanted` bytes. What isn't answered stays as it was.
+/// Explains what a search finds for an image on contexts of `least` to `most` bytes, the deep one where `deep` is 1. The words are those of
+/// `bpf explain IN --infer`. What is shown is as of `explain`.
+/// - 1: it finds a certificate which certifies the image.
+/// - 0: it doesn't, and `refusal` says why, by E, I or C.
+/// - -1: memory ran out.
+/// - -2: as of `explain`; or `least` is above `most`, `most` above 4,096, or `deep` neither 0 nor 1.
+/// - -3: `text` has less than `wanted` bytes.
+///
+/// What isn't answered stays as it was.
 pub fn explain_search(
     alloc: Global,
     image: &[u8],
@@ -138,9 +147,14 @@ pub fn explain_search(
     answer(judged, &words, text, wanted, refusal)
 }
 
-/// Explains an image by itself, in the words of `bpf explain IN`, or draws the graph of its program where `graph` is 1: 1 of an image, 0
-/// of bytes that are none, and `refusal` says why. -1: memory ran out. -2: the order or `graph` is neither 0 nor 1. -3: `text` has
-/// less than `wanted` bytes. What isn't answered stays as it was.
+/// Explains an image by itself, in the words of `bpf explain IN`, or draws the graph of its program where `graph` is 1.
+/// - 1: it is an image.
+/// - 0: the bytes are none, and `refusal` says why.
+/// - -1: memory ran out.
+/// - -2: the order or `graph` is neither 0 nor 1.
+/// - -3: `text` has less than `wanted` bytes.
+///
+/// What isn't answered stays as it was.
 pub fn explain_image(
     alloc: Global,
     image: &[u8],

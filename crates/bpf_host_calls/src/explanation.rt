@@ -39,8 +39,8 @@ pub(crate) struct Given<'a> {
     pub(crate) order: Order,
 }
 
-/// What is shown of a program by the number of the aspect, with a table of the lines of its source: 0 the listing, 1 the instruction
-/// at a slot, 2 the graph. None where there is no such aspect, or the table isn't one; an empty one is.
+/// What is shown of a program by the number of the aspect: 0 the listing, 1 the instruction at a slot, 2 the graph. Beside it goes a table of the lines of the
+/// source. None where there is no such aspect, or the table isn't one; an empty one is.
 pub(crate) fn shown_of(aspect: u32, slot: u32, lines: &[u8]) -> Option<Shown<'_>>
     ensures some { IfSome result (λ shown. Asks aspect slot lines.now shown) }
     ensures none { IfNone result ((2 < aspect) ⊎ (0 < length lines.now)) }

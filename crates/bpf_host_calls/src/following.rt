@@ -2,7 +2,7 @@
 
 ghost use Rattle.std.specs.Prelude.{◌≡◌, ◌↔◌, ◌⊎◌, ◌<◌, IfOk, IfErr};
 ghost use Rattle.bpf_host_calls.specs.Told.{order_named};
-ghost use Rattle.bpf_host_calls.specs.Followed.{IsFollowed, IsNotFollowed, following_of};
+ghost use Rattle.bpf_host_calls.specs.Followed.{IsFollowed, IsNotFollowed, following_of, long_turns};
 ghost use Rattle.bpf_host_calls.specs.ToldAdvice.{IsTold, TellsNewImage, TellsNotes, TellsText};
 ghost use Rattle.bpf_host_calls.specs.declared.answers.TheConstants.{YES, NO, NO_MEMORY, BAD_CALL};
 
@@ -12,7 +12,7 @@ use crate::refusals::Unmade;
 use bpf_cert::{CertError, read as read_certificate};
 use bpf_check::{VerifyError, check};
 use bpf_insn::{DecodeError, Order, ProgramView};
-use bpf_kept::Bounds;
+use bpf_kept::{Bounds, Turns, turns_shown};
 use bpf_kept_notes::{NotesError, read as read_notes};
 use bpf_kept_pass::follows as shows;
 use std::alloc::Global;
@@ -28,7 +28,7 @@ fn of_new_image(error: DecodeError) -> BpfRefusal
 }
 
 /// Why a text is none of notes.
-fn of_notes(error: NotesError) -> Unmade
+pub(crate) fn of_notes(error: NotesError) -> Unmade
     ensures { TellsNotes error result }
 {
     match error {
@@ -47,14 +47,24 @@ fn of_text(error: CertError) -> Unmade
     }
 }
 
+/// Of how many turns, as C sees it: `u64::MAX` for any number.
+fn long_turns(turns: Turns) -> u64
+    ensures { result ≡ long_turns turns }
+{
+    match turns {
+        Turns::Any => u64::MAX,
+        Turns::Most(most) => most.min(u64::MAX - 1),
+    }
+}
+
 /// What is shown, as C sees it.
-fn told_of(runs: Bounds, bound: u32) -> BpfFollowing
-    ensures { result ≡ following_of runs bound }
+fn told_of(runs: Bounds, turns: Turns, bound: u32) -> BpfFollowing
+    ensures { result ≡ following_of runs turns bound }
 {
     BpfFollowing {
         size: runs.length,
         padded: u32::from(runs.padded),
-        turns: runs.turns,
+        turns: long_turns(turns),
         untouched: runs.untouched,
         bound,
     }
@@ -86,17 +96,25 @@ fn followed(alloc: Global, asked: FollowAsked<'_>, order: Order) -> Result<BpfFo
         Err(refusal) => return Err(Unmade::Refused(refusal_of(&refusal))),
     }
     match shows(&old, &new, &noted.notes, &certificate, noted.runs) {
-        Ok(()) => Ok(told_of(noted.runs, certificate.steps())),
+        Ok(()) => {
+            let turns = turns_shown(&noted.notes, noted.runs.turns);
+            Ok(told_of(noted.runs, turns, certificate.steps()))
+        }
         Err(mismatch) => Err(Unmade::Refused(refusal_of(&mismatch))),
     }
 }
 
-/// Whether notes and a certificate show that a new image keeps the meaning of an old one, as `bpf follows` says it. 1: the certificate certifies
-/// the new image with the bound that `following` tells. On each context of `size` bytes, a block of a packet where `padded` is 1, on which the old one
-/// ends with a number, comes to no instruction more than `turns` times, and leaves the lowest `untouched` bytes of each frame to r10, the new one ends
-/// with that number. The first line of the notes says which these are. 0: the old image, the new one, the notes or the certificate is refused, or the
-/// certificate doesn't certify the new image, or the notes don't show it: the first of these is told, and `refusal` says why, by E, N, K, C or M.
-/// -1: memory ran out while the notes or the certificate were read. -2: the order is neither 0 nor 1. What isn't answered stays as it was.
+/// Whether notes and a certificate show that a new image keeps the meaning of an old one, as `bpf follows` says it.
+/// - 1: the certificate certifies the new image with the bound that `following` tells, and the notes show it. Take a context of `size` bytes, a block of a
+///   packet where `padded` is 1. Let the old image end on it with a number, come to no instruction more than `turns` times, and leave the lowest `untouched`
+///   bytes of each frame to r10. Then the new one ends with that number. The first line of the notes says which these are. Where no note has a counter,
+///   `turns` is `u64::MAX`, and it is so however often the old one comes to an instruction.
+/// - 0: the old image, the new one, the notes or the certificate is refused, or the certificate doesn't certify the new image, or the notes don't show it. The
+///   first of these is told, and `refusal` says why, by E, N, K, C or M.
+/// - -1: memory ran out while the notes or the certificate were read.
+/// - -2: the order is neither 0 nor 1.
+///
+/// What isn't answered stays as it was.
 pub fn follows(
     alloc: Global,
     asked: FollowAsked<'_>,

@@ -41,6 +41,18 @@ pub struct BpfFollowing {
     pub bound: u32,
 }
 
+/// A run of an image on a context, and the notes by which it is told whether it ends at a trap.
+#[derive(Clone, Copy)]
+pub struct TrapAsked<'a> {
+    pub image: &'a [u8],
+    /// The byte order of the image, 0 little-endian or 1 big-endian.
+    pub order: u32,
+    pub notes: &'a [u8],
+    pub context: &'a [u8],
+    /// How many instructions are done at most.
+    pub most: u64,
+}
+
 /// What is asked of a hardening.
 #[derive(Clone, Copy)]
 pub struct HardenAsked {

@@ -1,5 +1,5 @@
-//! What is answered of an image that was judged by a certificate. The judgement is an argument, so that the clauses can say that
-//! nothing else is told: which of the answers that it may give the checker gave, they can't.
+//! What is answered of an image that was judged by a certificate. The judgement is an argument, so that the clauses can say that nothing else is told. They
+//! can't say which of the answers that it may give the checker gave.
 
 ghost use Rattle.std.specs.Prelude.{◌≡◌, ◌≢◌, ◌⊎◌, ◌↔◌, ◌<◌, ◌≤◌, ◌+◌, IsOkAnd, IsErrAnd, IfOk, IsOk, length};
 ghost use Rattle.bpf_check.specs.Verdicts.{IsUnread};

@@ -27,6 +27,7 @@ mod running;
 mod runs;
 mod sizes;
 mod texts;
+mod trapping;
 mod unconverted;
 
 pub use advising::{answer_text, harden, infer, refusal_text};
@@ -43,10 +44,11 @@ pub use converting::convert;
 pub use explaining::{explain, explain_image, explain_search};
 pub use following::follows;
 pub use host_advice_asked::{
-    BpfFollowing, CertifyAsked, ExplainAsked, FollowAsked, HardenAsked, RangeAsked,
+    BpfFollowing, CertifyAsked, ExplainAsked, FollowAsked, HardenAsked, RangeAsked, TrapAsked,
 };
 pub use running::{
     LoadAsked, load, loaded_size, prepare, prepared_size, run, run_checked, run_loaded,
     run_prepared, verify, version,
 };
 pub use sizes::{explain_size, infer_size};
+pub use trapping::ends_at_trap;

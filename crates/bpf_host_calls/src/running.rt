@@ -25,8 +25,8 @@ use crate::runs::{outcome_of, outcome_of_prepared};
 use bpf_insn::{MAX_CONTEXT, MAX_IMAGE, ProgramView};
 use std::alloc::Global;
 
-/// Version 0.3.2.
-pub(crate) const VERSION: u32 = 302;
+/// Version 0.3.3.
+pub(crate) const VERSION: u32 = 303;
 
 /// The library's version as one number: 10,000 times its first part, 100 times its second, and its third, together.
 pub fn version() -> u32
@@ -35,9 +35,13 @@ pub fn version() -> u32
     VERSION
 }
 
-/// Whether a certificate certifies an image in a byte order, 0 little-endian or 1 big-endian. 1: yes, and `verdict` is what
-/// is promised. 0: no, and `refusal` says why. -1: memory ran out while the certificate was read. -2: the order is neither 0
-/// nor 1. What isn't answered stays as it was.
+/// Whether a certificate certifies an image in a byte order, 0 little-endian or 1 big-endian.
+/// - 1: yes, and `verdict` is what is promised.
+/// - 0: no, and `refusal` says why.
+/// - -1: memory ran out while the certificate was read.
+/// - -2: the order is neither 0 nor 1.
+///
+/// What isn't answered stays as it was.
 pub fn verify(
     alloc: Global,
     image: &[u8],
@@ -66,9 +70,13 @@ pub fn verify(
     )
 }
 
-/// Runs a program that nobody verified on a context of at most 4,096 bytes, for at most `fuel` instructions, on the exact
-/// machine. 1: it ran, and `outcome` says how it ended. 0: the image is refused, and `outcome` says why. -2: the order is
-/// neither 0 nor 1. -5: the context is too long. What isn't answered stays as it was. It takes no memory.
+/// Runs a program that nobody verified on a context of at most 4,096 bytes, for at most `fuel` instructions, on the exact machine.
+/// - 1: it ran, and `outcome` says how it ended.
+/// - 0: the image is refused, and `outcome` says why.
+/// - -2: the order is neither 0 nor 1.
+/// - -5: the context is too long.
+///
+/// What isn't answered stays as it was. It takes no memory.
 pub fn run(image: &[u8], order: u32, context: &[u8], fuel: u64, outcome: &mut BpfOutcome) -> i32
     ensures ran { result ≡ YES → RanImage (order_named order) image.now context.now fuel outcome.new }
     ensures refused { result ≡ NO → IsUnrun (order_named order) image.now outcome.new }
@@ -107,8 +115,12 @@ pub fn prepared_size(image_len: usize) -> usize
 }
 
 /// Prepares the program of an image for `run_checked`, in `memory` of 8 times `prepared_size` bytes.
-/// 1: it is prepared. 0: the image is refused. -2: the order is neither 0 nor 1. -3: the memory has another size. But for
-/// 1 the memory stays as it was. It takes no other memory.
+/// - 1: it is prepared.
+/// - 0: the image is refused.
+/// - -2: the order is neither 0 nor 1.
+/// - -3: the memory has another size.
+///
+/// But for 1 the memory stays as it was. It takes no other memory.
 pub fn prepare(image: &[u8], order: u32, memory: &mut [u8]) -> i32
     ensures prepared { result ≡ YES → IsPrepared (order_named order) image.now memory.new }
     ensures program { result ≡ YES → (is : List Instruction) × IsImageOfProgram (order_named order) image.now is }
@@ -132,9 +144,12 @@ pub fn prepare(image: &[u8], order: u32, memory: &mut [u8]) -> i32
     YES
 }
 
-/// Runs a prepared program that nobody verified, as `run` does, and doesn't judge its image again. 1: it ran, and `outcome` says how
-/// it ended. -5: the context is too long. -6: another version prepared it, or bytes of it aren't there. What isn't answered
-/// stays as it was. It takes no memory.
+/// Runs a prepared program that nobody verified, as `run` does, and doesn't judge its image again.
+/// - 1: it ran, and `outcome` says how it ended.
+/// - -5: the context is too long.
+/// - -6: another version prepared it, or bytes of it aren't there.
+///
+/// What isn't answered stays as it was. It takes no memory.
 pub fn run_prepared(memory: &[u8], context: &[u8], fuel: u64, outcome: &mut BpfOutcome) -> i32
     requires head { prepared_head ≤ length memory.now }
     requires program { IsMarked memory.now → IsWhole memory.now → HoldsProgram memory.now }
@@ -154,9 +169,11 @@ pub fn run_prepared(memory: &[u8], context: &[u8], fuel: u64, outcome: &mut BpfO
     YES
 }
 
-/// Runs a prepared program whose image `verify` says yes to, on a context of a length within that verdict. 1: it ended
-/// with `value`, within the bound. -6: another version prepared it, or bytes of it aren't there, and `value` stays as it was. It takes
-/// no memory.
+/// Runs a prepared program whose image `verify` says yes to, on a context of a length within that verdict.
+/// - 1: it ended with `value`, within the bound.
+/// - -6: another version prepared it, or bytes of it aren't there, and `value` stays as it was.
+///
+/// It takes no memory.
 pub fn run_checked(memory: &[u8], context: &[u8], value: &mut u64) -> i32
     requires head { prepared_head ≤ length memory.now }
     requires may { IsMarked memory.now → IsWhole memory.now → MayRun memory.now context.now }
@@ -192,11 +209,15 @@ pub struct LoadAsked {
     pub limit: u32,
 }
 
-/// Judges an image by a certificate, as `verify` does, and writes a handle for `run_loaded`, in `memory` of
-/// 8 times `loaded_size` bytes. 1: `memory` is the handle, and `verdict` is what is promised. 0: the image is
-/// refused, and `refusal` says why. -1: memory ran out while the certificate was read. -2: the order is neither 0 nor 1.
-/// -3: the memory has another size. -4: the bound is above the limit, and `verdict` is what is promised. What isn't answered
-/// stays as it was, and but for 1 so does the memory.
+/// Judges an image by a certificate, as `verify` does, and writes a handle for `run_loaded`, in `memory` of 8 times `loaded_size` bytes.
+/// - 1: `memory` is the handle, and `verdict` is what is promised.
+/// - 0: the image is refused, and `refusal` says why.
+/// - -1: memory ran out while the certificate was read.
+/// - -2: the order is neither 0 nor 1.
+/// - -3: the memory has another size.
+/// - -4: the bound is above the limit, and `verdict` is what is promised.
+///
+/// What isn't answered stays as it was, and but for 1 so does the memory.
 pub fn load(
     alloc: Global,
     image: &[u8],
@@ -241,9 +262,12 @@ pub fn load(
     )
 }
 
-/// Runs the program of a handle that `load` wrote. 1: it ended with `value`, within the handle's bound. -6: another
-/// version wrote it, or bytes of it aren't there. -5: the context's length is out of the handle's range. `value` stays as it was but for 1.
-/// It takes no memory.
+/// Runs the program of a handle that `load` wrote.
+/// - 1: it ended with `value`, within the handle's bound.
+/// - -6: another version wrote it, or bytes of it aren't there.
+/// - -5: the context's length is out of the handle's range.
+///
+/// `value` stays as it was but for 1. It takes no memory.
 pub fn run_loaded(memory: &[u8], context: &[u8], value: &mut u64) -> i32
     requires head { handle_head ≤ length memory.now }
     requires holds { IsMarkedHandle memory.now → IsWholeHandle memory.now → HoldsLoaded memory.now }

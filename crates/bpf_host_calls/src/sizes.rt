@@ -41,8 +41,8 @@ pub fn infer_size(image_len: usize) -> usize
     ENDS + HEADS * slots + ENTRY * (LABEL_ENTRIES * slots).min(MOST_ENTRIES)
 }
 
-/// How many bytes do for the words of an explanation, of an image, a certificate and lines of a source of so many bytes each;
-/// the greatest number where that isn't one.
+/// How many bytes do for the words of an explanation, of an image, a certificate and lines of a source of so many bytes each. The greatest number where that
+/// isn't one.
 pub fn explain_size(image_len: usize, certificate_len: usize, lines_len: usize) -> usize
     ensures { result ≡ explain_size image_len certificate_len lines_len }
 {

@@ -30,6 +30,7 @@ use Rattle.bpf_kept.proofs.Simulation.{program}
 use Rattle.bpf_kept.proofs.Setting.{Setting, starts_below, packet_of}
 use Rattle.bpf_kept.proofs.Beside.{OldAt, NewAt, Arriving, made_before}
 use Rattle.bpf_kept.proofs.Waiting.{Promise, Promises, promise_of, then_promises, note_promises, this_is, WaitsAt, extra_waits}
+use Rattle.bpf_kept.proofs.CounterLemmas.{counted_turns}
 use Rattle.bpf_kept.proofs.Extras.{front_at, one_extra}
 
 module _ (given : Setting) (deep : ℕ) where
@@ -143,6 +144,7 @@ module _ (given : Setting) (deep : ℕ) where
       by_change None ec h = absurd (false≢true h)
       by_change (Some change) ec h =
           let y = one_extra given deep (known_there r) change j r.n r.state r.fn r.fw r.gn r.gw x.moved refl r.old_at r.new_at x.moved_is
+          (λ turn. counted_turns notes bounds.turns given.turns r.state.top.slot r.fn.slot r.note x.moved r.noted turn given.few_turns)
           (subst (λ slot. extra (front_at given deep slot) (known_there r) x.moved ≡ Some change) (sym r.old_is) ec) in
           let few = r.few in
           arrived (known_there r) change None j (suc r.n) r.note.old left (r.state.top.slot + slot_count x.moved) y.state r.fn r.fw y.hn y.hw h y.at r.old_is (omega arith) r.promise r.promises (extra_waits given deep j r.promise r.fn r.fw r.gn r.gw y.hn y.hw r.old_at.shallow y.near_stays y.wide_stays r.waits) r.old_at y.arriving

@@ -44,7 +44,7 @@ use Rattle.bpf_kept.proofs.Isolated.{AreAlone, is_inner, does_alone, goes_to_con
 use Rattle.bpf_kept.proofs.AheadLaw.{access_near, reads_or_writes, goes_on}
 use Rattle.bpf_kept.proofs.Simulation.{program, not_exit, does_there, steps_on, fits_on, new_state, new_placed}
 use Rattle.bpf_kept.proofs.AccessesLemmas.{goes}
-use Rattle.bpf_kept.proofs.Setting.{Setting, starts_below, packet_of}
+use Rattle.bpf_kept.proofs.Setting.{Setting, runs, starts_below, packet_of}
 
 size_below : (size : Size) (j : ℕ) → j < byte_count size → j < 8
 size_below B j lt = omega arith
@@ -346,6 +346,6 @@ module _ (given : Setting) (deep : ℕ) where
       → hn.returns ≡ fn.returns → hw.returns ≡ fw.returns → hw.slot ≡ hn.slot → OldAt given deep (suc j) hn hw
   old_next j fn fw hn hw i o there en ew other near_same wide_same slots =
       let there' : insn_at is fw.slot ≡ Some i = ap (insn_at is) o.slots_same ∙ there in
-      let g = goes_on (near bounds.padded) (old given) old_valid own bounds v k near_ends j fn i o.near_run o.near_before there other in
-      let h = goes_on (wide bounds.padded) (old given) old_valid own bounds v l wide_ends j fw i o.wide_run o.wide_before there' other in
+      let g = goes_on (near bounds.padded) (old given) old_valid own (runs given) v k near_ends j fn i o.near_run o.near_before there other in
+      let h = goes_on (wide bounds.padded) (old given) old_valid own (runs given) v l wide_ends j fw i o.wide_run o.wide_before there' other in
       old_to deep j fn fw hn hw i o there en ew g.3 h.3 o.shallow (ap length near_same ∙ o.near_deep) (ap length wide_same ∙ o.wide_deep) slots

@@ -47,7 +47,7 @@ use Rattle.bpf_kept.proofs.Isolated.{call_alone, exit_alone}
 use Rattle.bpf_kept.proofs.LevelLaw.{IsLaid, near_laid, wide_laid, roomy_at, high_at, lies_above, waiting_below}
 use Rattle.bpf_kept.proofs.CallLaw.{IsAround, entered_state, returned_state, entered_behind, returned_behind, result_holds, waited_same}
 use Rattle.bpf_kept.proofs.Simulation.{more, in_time, no_returns, no_waiting, does_there, steps_on, ends_on, returns_on, fits_zero, new_state}
-use Rattle.bpf_kept.proofs.Setting.{Setting}
+use Rattle.bpf_kept.proofs.Setting.{Setting, runs}
 use Rattle.bpf_kept.proofs.Beside.{old, new, near_placed, wide_placed, near_own, wide_own, near_packet, wide_packet, near_does, OldAt, Arriving, old_to, made_before, left}
 use Rattle.bpf_kept.proofs.Waiting.{promise_of, itself_promises, Caller, Waits, WaitsAt, StayBelow, return_of, waits_on, waiting_made}
 use Rattle.bpf_kept.proofs.Extras.{turn_advances}
@@ -201,13 +201,13 @@ module _ (given : Setting) (deep : ℕ) where
       here' = ap (insn_at is) o.slots_same ∙ at.here
 
       near_goes : (g : FlatState) × (zero_step (near bounds.padded) (old given) q.fn ≡ Some g) × (zero_after (near bounds.padded) (old given) (suc j) (zero_start (near bounds.padded) own) ≡ Some g) × (suc j ≤ k)
-      near_goes = goes_on (near bounds.padded) (old given) old_valid own bounds v k near_ends j q.fn i o.near_run o.near_before at.here (no_exit off)
+      near_goes = goes_on (near bounds.padded) (old given) old_valid own (runs given) v k near_ends j q.fn i o.near_run o.near_before at.here (no_exit off)
 
       shallow : suc deep < max_frames
       shallow = let room = call_room (near bounds.padded) order off q.fn near_goes.0 (near_does given q.fn near_goes.0 i at.here near_goes.1) in let count = o.near_deep in omega arith
 
       wide_before : suc j ≤ l
-      wide_before = (goes_on (wide bounds.padded) (old given) old_valid own bounds v l wide_ends j q.fw i o.wide_run o.wide_before here' (no_exit off)).3
+      wide_before = (goes_on (wide bounds.padded) (old given) old_valid own (runs given) v l wide_ends j q.fw i o.wide_run o.wide_before here' (no_exit off)).3
 
       hn : FlatState
       hn = entered_state (near_own given (suc deep)) q.fn c.to (return_of q.fn ∷ q.fn.returns)
@@ -327,7 +327,7 @@ module _ (given : Setting) where
   by_end j at good =
       let q = at.ready in
       let o = q.old_at in
-      let done = ends_here (near bounds.padded) (old given) old_valid own bounds v k near_ends j q.fn o.near_run o.near_before at.here (nil_from_length q.fn.returns o.near_deep) in
+      let done = ends_here (near bounds.padded) (old given) old_valid own (runs given) v k near_ends j q.fn o.near_run o.near_before at.here (nil_from_length q.fn.returns o.near_deep) in
       let end = ends_on order js new_valid context bytes short' never q.n q.state q.new_at.run at.there (no_waiting (near false) q.state.waiting q.gn.returns q.new_at.near_fits.returns_fit (nil_from_length q.gn.returns q.new_at.near_level)) in
       let result = q.waits.holds (near_own given 0) (value_in order (near_own given 0) (near_packet given 0) q.fn) (value_in order (near_own given 0) (near_packet given 0) q.gn) q.new_at.near_at.high refl refl (near_result 0 j q good) in
       let equal : flat_register q.gn R0 ≡ flat_register q.fn R0 = equal_numbers (near_own given 0) (flat_register q.fn R0) (flat_register q.gn R0) (q.new_at.near_at.flat.numbers 0) result.0 in
@@ -404,7 +404,7 @@ module _ (given : Setting) where
 
           o' : OldAt given deep (suc j) hn hw
           o' = old_to given (suc deep) deep j q.fn q.fw hn hw Exit o at.here (exit_does (near bounds.padded) order q.fn c.fn rn rns en c.near_return) (exit_does (wide bounds.padded) order q.fw c.fw rv rws ew c.wide_return)
-              (goes_back (near bounds.padded) (old given) old_valid own bounds v k near_ends j q.fn o.near_run o.near_before (no_empty q.fn.returns o.near_deep)) (goes_back (wide bounds.padded) (old given) old_valid own bounds v l wide_ends j q.fw o.wide_run o.wide_before (no_empty q.fw.returns o.wide_deep))
+              (goes_back (near bounds.padded) (old given) old_valid own (runs given) v k near_ends j q.fn o.near_run o.near_before (no_empty q.fn.returns o.near_deep)) (goes_back (wide bounds.padded) (old given) old_valid own (runs given) v l wide_ends j q.fw o.wide_run o.wide_before (no_empty q.fw.returns o.wide_deep))
               (omega arith) (rest_is rn rns q.fn.returns en o.near_deep) (rest_is rv rws q.fw.returns ew o.wide_deep) (ap (λ s. s + 1) c.slots_same)
 
           waiting : WaitsAt given deep (suc j) w.0 hn hw kn kw

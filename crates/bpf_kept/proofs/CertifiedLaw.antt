@@ -7,8 +7,8 @@ use Rattle.bpf_semantics.specs.State.{State, start}
 use Rattle.bpf_semantics.specs.Step.{Step, Finish}
 use Rattle.bpf_semantics.specs.Run.{Steps}
 use Rattle.bpf_safety.specs.Theorems.{CertifiedIsSafe, CertifiedDescribes}
-use Rattle.bpf_kept.proofs.StatesLaw.{states_from}
-use Rattle.bpf_kept.specs.Laws.{CertifiedKeepsFlatMeaning, OtherExitsAreTraps}
+use Rattle.bpf_kept.proofs.StatesLaw.{states_from, described_state}
+use Rattle.bpf_kept.specs.Laws.{CertifiedKeepsFlatMeaning, OtherExitsAreTraps, NoExitNoAnswer}
 use Rattle.bpf_kept.specs.Matching.{StandsForExit}
 use Rattle.bpf_kept.proofs.Law.{matching_keeps_flat_meaning}
 
@@ -50,3 +50,10 @@ other_exits_are_traps last one old new notes bounds keeps own context v w k l n 
     let e = keeps own context v k l bytes long given near_ends wide_ends in
     let same : e.state ≡ s = one_end last one new e.steps n (start context) e.state s v w e.run e.finish run finish in
     other (subst (λ s. StandsForExit old notes s.top.slot) same e.at_exit)
+
+-- where it ends, the check has a state
+pub no_exit_no_answer : CertifiedDescribes → NoExitNoAnswer
+no_exit_no_answer describes old new notes bounds c new_valid limits certified least most keeps none own context v k l bytes long given near_ends wide_ends =
+    let e = keeps own context v k l bytes long given near_ends wide_ends in
+    let d = describes new c context e.steps e.state new_valid limits certified (record { bytes = bytes; length_within = (subst (λ n. c.least ≤ n) (sym long) least, subst (λ n. n ≤ c.most) (sym long) most) }) e.run in
+    none (record { slot = e.state.top.slot; reached = described_state new c e.state d; stands = e.at_exit })

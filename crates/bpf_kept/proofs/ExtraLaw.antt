@@ -28,11 +28,11 @@ use Rattle.bpf_kept.specs.declared.notes.Holder.{Holder}
 use Rattle.bpf_kept.specs.declared.notes.Holder.TheVariants.{Register, Slot}
 use Rattle.bpf_kept.specs.declared.notes.Term.{Term}
 use Rattle.bpf_kept.specs.declared.notes.Fact.{Fact}
-use Rattle.bpf_kept.specs.declared.notes.Change.TheVariants.{Kept, Put, Stored, Made}
+use Rattle.bpf_kept.specs.declared.notes.Change.TheVariants.{Kept, Put, Stored, Fetched, Made}
 use Rattle.bpf_kept.specs.Terms.{Packet, Facts, Values, Differs, DiffersBy, Holds, AllHold, value_in, shift, constant, zero_term, frame_end, plus, minus, number_pin}
 use Rattle.bpf_kept.specs.Slots.{slot_at, is_clear}
 use Rattle.bpf_kept.specs.Rules.{is_holder, is_register, is_base, is_enough, gives, both, pinned}
-use Rattle.bpf_kept.specs.Behind.{sum_base, difference_base, is_known, is_sum, is_difference, is_moved, made_by, made_from, of_slot, known_number, known_operand, pins, of_number, of_operand, by_operand, made, stays, outlives, put_gives, made_gives, stored_gives, holds_behind}
+use Rattle.bpf_kept.specs.Behind.{sum_base, difference_base, is_known, is_sum, is_difference, is_moved, made_by, made_from, of_slot, known_number, known_operand, pins, of_number, of_operand, by_operand, made, stays, outlives, by_itself, put_gives, made_gives, stored_gives, fetched_gives, holds_behind}
 use Rattle.bpf_kept.proofs.TermLaw.{shift_plus, shift_minus, shift_constant, differs_same, same_differs, same_number, opposite_differs}
 use Rattle.bpf_kept.proofs.HoldsLaw.{IsHigh, Elsewhere, any_holds, pinned_differs, held, none_is, base_same, enough_differs, gives_holds, stays_holds, other_holds}
 use Rattle.bpf_kept.proofs.FrameLaw.{IsRoomy, IsEnd, slot_access, slot_loaded}
@@ -300,4 +300,20 @@ module _ (start : ℕ) (facts : Facts) (high : IsHigh start) where
     | inr some ↦ (let c = some_holds old new (outlives from to) want all some in
         let b = and_parts (is_clear from to c.0.of) (is_clear from to c.0.base) c.1 in
         gives_holds start high old' new' c.0 want c.2 (subst (λ z. DiffersBy start c.0.by z (new' c.0.of)) (sym (p c.0.base b.1)) (subst (λ z. DiffersBy start c.0.by (old c.0.base) z) (sym (q c.0.of b.0)) c.3)))
+  ]
+
+  -- and both put what was there into a register
+  pub fetched_hold : (from to : ℕ) (r : Reg) (old old' new new' : Values) (want : Fact) → old' None ≡ 0 → new' None ≡ 0 → ((of : Option Holder) → is_clear from to of ≡ true → not (is_holder (Register r) of) ≡ true → old' of ≡ old of) → ((of : Option Holder) → is_clear from to of ≡ true → not (is_holder (Register r) of) ≡ true → new' of ≡ new of)
+      → Differs start zero_term (old' (Some (Register r))) (new' (Some (Register r))) → AllHold start old new facts → holds_behind facts (Fetched from to r) want ≡ true → Holds start old' new' want
+  unfolding holds_behind
+  fetched_hold from to r old old' new new' want zero zero' p q d all e = elim (or_cases (gives (known_number None zero_term) want) (fetched_gives facts from to r want) e) [
+    | inl nothing ↦ nothing_holds old' new' want zero zero' nothing
+    | inr some ↦ elim (or_cases (gives (by_itself (Register r)) want) (list_any (λ have. (outlives from to have && stays (Register r) have) && gives have want) facts) some) [
+      | inl here ↦ gives_holds start high old' new' (by_itself (Register r)) want here d
+      | inr rest ↦ (let c = some_holds old new (λ have. outlives from to have && stays (Register r) have) want all rest in
+          let b = and_parts (outlives from to c.0) (stays (Register r) c.0) c.1 in
+          let o = and_parts (is_clear from to c.0.of) (is_clear from to c.0.base) b.0 in
+          let s = and_parts (not (is_holder (Register r) c.0.of)) (not (is_holder (Register r) c.0.base)) b.1 in
+          gives_holds start high old' new' c.0 want c.2 (subst (λ z. DiffersBy start c.0.by z (new' c.0.of)) (sym (p c.0.base o.1 s.1)) (subst (λ z. DiffersBy start c.0.by (old c.0.base) z) (sym (q c.0.of o.0 s.0)) c.3)))
+    ]
   ]

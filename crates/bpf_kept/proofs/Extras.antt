@@ -58,7 +58,7 @@ use Rattle.bpf_kept.proofs.GuardLaw.{IsWithin, guard_passes}
 use Rattle.bpf_kept.proofs.EndLaw.{end_is, end_passes}
 use Rattle.bpf_kept.proofs.Simulation.{TestsNumber, greater_number, less_number, IsMostGuard, IsEndGuard, IsLeastGuard, program, zero_plain, put_turns, guard_number, guard_is, end_does, most_does, least_does, answers, test_falls, test_turns, does_there, steps_on, answers_same}
 use Rattle.bpf_kept.proofs.PacketLaw.{own_fits}
-use Rattle.bpf_kept.proofs.Setting.{Setting, starts_below, packet_of}
+use Rattle.bpf_kept.proofs.Setting.{Setting, runs, starts_below, packet_of}
 use Rattle.bpf_kept.proofs.Beside.{OldAt, NewAt, Arriving, new_next, made_before, old_next}
 use Rattle.bpf_kept.proofs.Waiting.{this_is, Stays, turn_made}
 
@@ -168,13 +168,13 @@ module _ (given : Setting) (deep : ℕ) where
 
   near_inside : (j : ℕ) (fn fw : FlatState) → OldAt given deep j fn fw → (r : Reg)
       → AllByRecursion (Inside (near bounds.padded) (length own) bounds.untouched deep r (flat_register fn r)) (accesses_ahead old r farthest_ahead fn.slot)
-  near_inside j fn fw o r = all_inside (near bounds.padded) old old_valid own bounds v k near_ends deep r farthest_ahead j fn o.near_run o.near_before o.near_deep o.near_state
+  near_inside j fn fw o r = all_inside (near bounds.padded) old old_valid own (runs given) v k near_ends deep r farthest_ahead j fn o.near_run o.near_before o.near_deep o.near_state
 
   wide_inside : (j : ℕ) (fn fw : FlatState) → OldAt given deep j fn fw → (r : Reg)
       → AllByRecursion (Inside (wide bounds.padded) (length own) bounds.untouched deep r (flat_register fw r)) (accesses_ahead old r farthest_ahead fn.slot)
   wide_inside j fn fw o r =
       subst (λ slot. AllByRecursion (Inside (wide bounds.padded) (length own) bounds.untouched deep r (flat_register fw r)) (accesses_ahead old r farthest_ahead slot)) o.slots_same
-      (all_inside (wide bounds.padded) old old_valid own bounds v l wide_ends deep r farthest_ahead j fw o.wide_run o.wide_before o.wide_deep o.wide_state)
+      (all_inside (wide bounds.padded) old old_valid own (runs given) v l wide_ends deep r farthest_ahead j fw o.wide_run o.wide_before o.wide_deep o.wide_state)
 
   -- in front of which old instruction
   abbrev pub front_at : ℕ → Front
@@ -385,22 +385,22 @@ module _ (given : Setting) (deep : ℕ) where
       here false ea eb = absurd (false≢true ea)
 
   -- of the turns that are to be made, the one in front of which the old program stands is left
-  turn_left : (j v : ℕ) (fn fw : FlatState) → OldAt given deep j fn fw → bounds.turns ≤ v + made_before given deep j fn.slot → 1 ≤ v
-  turn_left j v fn fw o counts =
-      let few : made_before given deep (suc j) fn.slot ≤ bounds.turns = subst (λ n. turns_in_call (near bounds.padded) old (zero_start (near bounds.padded) own) fn.slot n j ≤ bounds.turns) o.near_deep (near_ends.few j fn o.near_before o.near_run) in
+  turn_left : (j v : ℕ) (fn fw : FlatState) → OldAt given deep j fn fw → given.turns ≤ bounds.turns → bounds.turns ≤ v + made_before given deep j fn.slot → 1 ≤ v
+  turn_left j v fn fw o within counts =
+      let few : made_before given deep (suc j) fn.slot ≤ given.turns = subst (λ n. turns_in_call (near bounds.padded) old (zero_start (near bounds.padded) own) fn.slot n j ≤ given.turns) o.near_deep (near_ends.few j fn o.near_before o.near_run) in
       let now = turn_made given deep deep j fn fw (omega arith) o fn.slot in
       let one = counted_here j fn fw o in
       omega arith
 
   turn_goes : (known : Known) (j n : ℕ) (s : State) (fn fw gn gw : FlatState) (dst : Reg) (off : ℤ) → known.turns ≡ bounds.turns → OldAt given deep j fn fw → NewAt given deep known j n s fn fw gn gw → insn_at js s.top.slot ≡ Some (JumpIf Eq W64 dst (Imm (pos zero)) off)
-      → bounds.turns ≤ flat_register gn dst + made_before given deep j fn.slot → Extended known Kept j n (JumpIf Eq W64 dst (Imm (pos zero)) off) s fn fw gn gw
-  turn_goes known j n s fn fw gn gw dst off turns o at there counts =
+      → given.turns ≤ bounds.turns → bounds.turns ≤ flat_register gn dst + made_before given deep j fn.slot → Extended known Kept j n (JumpIf Eq W64 dst (Imm (pos zero)) off) s fn fw gn gw
+  turn_goes known j n s fn fw gn gw dst off turns o at there within counts =
       let m : Insn = JumpIf Eq W64 dst (Imm (pos zero)) off in
       let y = steps_on order js new_valid context bytes short never n s m at.run there (test_turns m Eq W64 dst (Imm (pos zero)) off refl) in
       let a = answers order s y.0 Eq W64 dst (Imm (pos zero)) off (does_there order js new_valid context bytes short never s y.0 m there y.1) in
       let dn = answers_same order js new_valid context bytes short never (near false) n s gn Eq W64 dst (Imm (pos zero)) a at.run at.near_fits in
       let dw = answers_same order js new_valid context bytes short never (wide false) n s gw Eq W64 dst (Imm (pos zero)) a at.run at.wide_fits in
-      let left = turn_left j (flat_register gn dst) fn fw o counts in
+      let left = turn_left j (flat_register gn dst) fn fw o within counts in
       let fails : jumps W64 Eq (flat_register gn dst) (extended (pos zero)) ≡ false = differ (flat_register gn dst) left in
       passed_extra known j n s fn fw gn gw m turns at there (test_falls order Eq W64 dst (Imm (pos zero)) off gn fails) (test_falls order Eq W64 dst (Imm (pos zero)) off gw (dw ∙ sym dn ∙ fails))
     where
@@ -431,9 +431,10 @@ module _ (given : Setting) (deep : ℕ) where
 
   -- ---- extra instructions
 
-  pub one_extra : (known : Known) (change : Change) (j n : ℕ) (s : State) (fn fw gn gw : FlatState) (m : Insn) → known.turns ≡ bounds.turns → OldAt given deep j fn fw → NewAt given deep known j n s fn fw gn gw → insn_at js s.top.slot ≡ Some m → extra (front_at fn.slot) known m ≡ Some change → Extended known change j n m s fn fw gn gw
+  pub one_extra : (known : Known) (change : Change) (j n : ℕ) (s : State) (fn fw gn gw : FlatState) (m : Insn) → known.turns ≡ bounds.turns → OldAt given deep j fn fw → NewAt given deep known j n s fn fw gn gw → insn_at js s.top.slot ≡ Some m
+      → (has_turn known.counters fn.slot m ≡ true → given.turns ≤ bounds.turns) → extra (front_at fn.slot) known m ≡ Some change → Extended known change j n m s fn fw gn gw
   unfolding extra
-  one_extra known change j n s fn fw gn gw m turns o at there e = by_pass (passes (front_at fn.slot) known m || (has_turn known.counters fn.slot m || tests_barred known.barred m)) refl e
+  one_extra known change j n s fn fw gn gw m turns o at there within e = by_pass (passes (front_at fn.slot) known m || (has_turn known.counters fn.slot m || tests_barred known.barred m)) refl e
     where
       by_barred : (m : Insn) → insn_at js s.top.slot ≡ Some m → tests_barred known.barred m ≡ true → Extended known Kept j n m s fn fw gn gw
       by_barred (JumpIf Eq W64 dst (Imm imm) off) there h = barred_goes known j n s fn fw gn gw dst imm off turns at there h
@@ -445,7 +446,7 @@ module _ (given : Setting) (deep : ℕ) where
         | inr other ↦ elim (or_cases (has_turn known.counters fn.slot m) (tests_barred known.barred m) other) [
           | inr bars ↦ by_barred m there bars
           | inl turn ↦ (let t = test_is known.turns (made_before given deep j) (value_in order near_own near_packet gn) fn.slot known.counters m at.counted turn in
-              subst (λ m. Extended known Kept j n m s fn fw gn gw) (sym t.is) (turn_goes known j n s fn fw gn gw t.dst t.off turns o at (there ∙ ap Some t.is) (subst (λ k. k ≤ flat_register gn t.dst + made_before given deep j fn.slot) turns t.counts)))
+              subst (λ m. Extended known Kept j n m s fn fw gn gw) (sym t.is) (turn_goes known j n s fn fw gn gw t.dst t.off turns o at (there ∙ ap Some t.is) (within turn) (subst (λ k. k ≤ flat_register gn t.dst + made_before given deep j fn.slot) turns t.counts)))
         ]
       ])
       by_pass false eb h =

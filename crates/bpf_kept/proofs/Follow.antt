@@ -17,7 +17,7 @@ use Rattle.bpf_insn.specs.declared.instruction.Width.TheVariants.{W64}
 use Rattle.bpf_insn.specs.declared.instruction.Cond.{Cond}
 use Rattle.bpf_insn.specs.declared.instruction.AluOp.TheVariants.{Mov}
 use Rattle.bpf_insn.specs.declared.instruction.Insn.{Insn}
-use Rattle.bpf_insn.specs.declared.instruction.Insn.TheVariants.{Alu, Load, LoadSx, Store, StoreImm, Ja, JaLong, JumpIf, CallLocal, Exit}
+use Rattle.bpf_insn.specs.declared.instruction.Insn.TheVariants.{Alu, Load, LoadSx, Store, StoreImm, Atomic, Ja, JaLong, JumpIf, CallLocal, Exit}
 use Rattle.bpf_semantics.specs.Flat.{FlatState, flat_register, flat_operand, flat_at, flat_does}
 use Rattle.bpf_semantics.proofs.StateLemmas.{cond_option, encoding_at, option_map_some}
 use Rattle.bpf_kept.specs.Far.{near, wide}
@@ -37,9 +37,10 @@ use Rattle.bpf_kept.proofs.WayLaw.{widened_moved, jump_alive, test_alive}
 use Rattle.bpf_kept.proofs.TestLaw.{same_test, order_test}
 use Rattle.bpf_kept.proofs.CountLaw.{kept_counts}
 use Rattle.bpf_kept.proofs.AheadLaw.{goes_on}
-use Rattle.bpf_kept.proofs.StoreLaw.{Paired, at_same, kept_there, both_put, slots_put, stores_there}
+use Rattle.bpf_kept.proofs.StoreLaw.{Paired, at_same, kept_there, both_put, slots_put}
+use Rattle.bpf_kept.proofs.AddressLaw.{stores_there}
 use Rattle.bpf_kept.proofs.Simulation.{more, none_first, program, not_exit, zero_plain, answers, test_jumps, test_jumps_back, test_falls, jump_does, jump_back, test_back, jump_turns, test_turns, put_turns, does_there, steps_on, answers_same, same_tests}
-use Rattle.bpf_kept.proofs.Setting.{Setting}
+use Rattle.bpf_kept.proofs.Setting.{Setting, runs}
 use Rattle.bpf_kept.proofs.Beside.{new_next, near_does, old_next, near_own, wide_own, near_packet, wide_packet, near_leaves, wide_leaves, made_before}
 use Rattle.bpf_kept.proofs.Waiting.{Stays, step_waits}
 use Rattle.bpf_kept.proofs.Extras.{turn_advances}
@@ -49,6 +50,7 @@ use Rattle.bpf_kept.proofs.Arrivals.{Ready, known_there, arrived}
 abbrev is_store : Insn → Bool
 is_store (Store size dst off src) = true
 is_store (StoreImm size dst off imm) = true
+is_store (Atomic wide op dst off src) = true
 is_store i = false
 
 undirected_store : (i : Insn) → is_store (undirected i) ≡ is_store i
@@ -61,6 +63,7 @@ undirected_store i = refl
 store_plain : (i : Insn) → is_store i ≡ true → undirected i ≡ i
 store_plain (Store size dst off src) e = refl
 store_plain (StoreImm size dst off imm) e = refl
+store_plain (Atomic wide op dst off src) e = refl
 store_plain i e = absurd (false≢true e)
 
 store_again : (i moved : Insn) → is_store i ≡ true → undirected moved ≡ undirected i → moved ≡ i
@@ -172,7 +175,7 @@ module _ (given : Setting) (deep : ℕ) where
       let q = at.ready in
       let o = q.old_at in
       let other = jump_turns i jumps_is in
-      let g = goes_on (near bounds.padded) old old_valid own bounds v k near_ends j q.fn i o.near_run o.near_before at.here other in
+      let g = goes_on (near bounds.padded) old old_valid own (runs given) v k near_ends j q.fn i o.near_run o.near_before at.here other in
       let to = jump_back (near bounds.padded) order i q.fn g.0 jumps_is (near_does given q.fn g.0 i at.here g.1) in
       let lead = led_there (known q) i moved q.fn.slot q.state.top.slot to.0 to.1 (jump_alive (known q) i moved jumps_is) goes in
       by_moves j i moved at lead.to lead.new_to other (jump_does order i q.fn lead.to jumps_is lead.to_is) (jump_does order i q.fw lead.to jumps_is (ap (λ z. led z i) o.slots_same ∙ lead.to_is))
@@ -220,7 +223,7 @@ module _ (given : Setting) (deep : ℕ) where
           → jumps width other (flat_register q.gn dst) (flat_operand q.gn src) ≡ b → jumps width other (flat_register q.gw dst) (flat_operand q.gw src) ≡ b → Ready given deep (suc j)
       by_way true on ow dn dw =
           let o = q.old_at in
-          let g = goes_on (near bounds.padded) old old_valid own bounds v k near_ends j q.fn i o.near_run o.near_before at.here turns in
+          let g = goes_on (near bounds.padded) old old_valid own (runs given) v k near_ends j q.fn i o.near_run o.near_before at.here turns in
           let jumped = test_jumps_back order cond width dst src off q.fn g.0 on (test_back (near bounds.padded) order i cond width dst src off q.fn g.0 refl (near_does given q.fn g.0 i at.here g.1)) in
           let to = option_map_some (λ slot. flat_at slot q.fn) (target q.fn.slot off) g.0 jumped in
           let lead = led_there (known q) i moved q.fn.slot q.state.top.slot to.0 to.1 (alive true on dn) parts.1 in
@@ -350,31 +353,34 @@ module _ (given : Setting) (deep : ℕ) where
       is_stored : (same : Bool) (i moved : Insn) → stores (known q) same i moved ≡ Some change → is_store i ≡ true
       is_stored same (Store size dst off src) moved e = refl
       is_stored same (StoreImm size dst off imm) moved e = refl
+      is_stored same (Atomic wide op dst off src) moved e = refl
       is_stored true i moved e = absurd (none-some _ e)
       is_stored false i moved e = absurd (none-some _ e)
 
       store_falls : (i : Insn) → is_store i ≡ true → falls notes (known q) change q.fn.slot q.state.top.slot i moved ≡ true → arrives notes (known q) change (Some q.fn.slot) (q.fn.slot + slot_count i) most_extras (q.state.top.slot + slot_count moved) ≡ true
       store_falls (Store size dst off src) h e = e
       store_falls (StoreImm size dst off imm) h e = e
+      store_falls (Atomic wide op dst off src) h e = e
       store_falls i h e = absurd (false≢true h)
 
-      alike : (o : Option Change) → cond (stores_alike (facts_at q.note) i moved) o None ≡ Some change → (stores_alike (facts_at q.note) i moved ≡ true) × (o ≡ Some change)
-      alike o h = cond_option (stores_alike (facts_at q.note) i moved) o change h
+      alike : (o : Option Change) → cond (stores_alike (known q) i moved) o None ≡ Some change → (stores_alike (known q) i moved ≡ true) × (o ≡ Some change)
+      alike o h = cond_option (stores_alike (known q) i moved) o change h
 
-      moved_store : stores_alike (facts_at q.note) i moved ≡ true → moved ≡ Exit → ⊥
-      moved_store h e = no_store i (subst (λ m. stores_alike (facts_at q.note) i m ≡ true) e h)
+      moved_store : stores_alike (known q) i moved ≡ true → moved ≡ Exit → ⊥
+      moved_store h e = no_store i (subst (λ m. stores_alike (known q) i m ≡ true) e h)
         where
-          no_store : (i : Insn) → stores_alike (facts_at q.note) i Exit ≡ true → ⊥
+          no_store : (i : Insn) → stores_alike (known q) i Exit ≡ true → ⊥
           no_store (Store size dst off src) h = false≢true h
           no_store (StoreImm size dst off imm) h = false≢true h
+          no_store (Atomic wide op dst off src) h = false≢true h
           no_store i h = false≢true h
 
-      near_alike : cond (stores_alike (facts_at q.note) i moved) (reached (known q).left i moved) None ≡ Some change → Paired order (near_own given deep) (near_packet given deep) (known q) change i moved q.fn q.gn
+      near_alike : cond (stores_alike (known q) i moved) (reached (known q).left i moved) None ≡ Some change → Paired order (near_own given deep) (near_packet given deep) (known q) change i moved q.fn q.gn
       near_alike h =
           let c = alike (reached (known q).left i moved) h in
           stores_there order (near_own given deep) (near_packet given deep) (known q) change i moved q.fn q.gn q.new_at.near_at enc enc' (near_leaves given deep (known q) j q.n q.state q.fn q.fw q.gn q.gw i moved refl q.old_at q.new_at at.here at.there (moved_store c.0)) c.0 c.1
 
-      wide_alike : cond (stores_alike (facts_at q.note) i moved) (reached (known q).left i moved) None ≡ Some change → Paired order (wide_own given deep) (wide_packet given deep) (known q) change i moved q.fw q.gw
+      wide_alike : cond (stores_alike (known q) i moved) (reached (known q).left i moved) None ≡ Some change → Paired order (wide_own given deep) (wide_packet given deep) (known q) change i moved q.fw q.gw
       wide_alike h =
           let c = alike (reached (known q).left i moved) h in
           stores_there order (wide_own given deep) (wide_packet given deep) (known q) change i moved q.fw q.gw q.new_at.wide_at enc enc' (wide_leaves given deep (known q) j q.n q.state q.fn q.fw q.gn q.gw i moved refl q.old_at q.new_at (ap (insn_at is) q.old_at.slots_same ∙ at.here) at.there (moved_store c.0)) c.0 c.1
@@ -383,23 +389,23 @@ module _ (given : Setting) (deep : ℕ) where
       near_pair false same_is h = near_alike h
       near_pair true same_is h = by_slot (puts_slot (facts_at q.note) i) refl h
         where
-          by_slot : (o : Option Change) → puts_slot (facts_at q.note) i ≡ o → option_or o (cond (stores_alike (facts_at q.note) i moved) (reached (known q).left i moved) None) ≡ Some change → Paired order (near_own given deep) (near_packet given deep) (known q) change i moved q.fn q.gn
+          by_slot : (o : Option Change) → puts_slot (facts_at q.note) i ≡ o → option_or o (cond (stores_alike (known q) i moved) (reached (known q).left i moved) None) ≡ Some change → Paired order (near_own given deep) (near_packet given deep) (known q) change i moved q.fn q.gn
           by_slot None eo h = near_alike h
           by_slot (Some c) eo h = subst (λ m. Paired order (near_own given deep) (near_packet given deep) (known q) change i m q.fn q.gn) (sym (store_again i moved (is_stored true i moved e') (same_is.0 refl))) (slots_put order (near_own given deep) (near_packet given deep) (known q) change i q.fn q.gn q.new_at.near_at enc (eo ∙ h))
             where
               e' : stores (known q) true i moved ≡ Some change
-              e' = ap (λ o. option_or o (cond (stores_alike (facts_at q.note) i moved) (reached (known q).left i moved) None)) eo ∙ h
+              e' = ap (λ o. option_or o (cond (stores_alike (known q) i moved) (reached (known q).left i moved) None)) eo ∙ h
 
       wide_pair : (same : Bool) → IsTrue same ↔ (undirected moved ≡ undirected i) → stores (known q) same i moved ≡ Some change → Paired order (wide_own given deep) (wide_packet given deep) (known q) change i moved q.fw q.gw
       wide_pair false same_is h = wide_alike h
       wide_pair true same_is h = by_slot (puts_slot (facts_at q.note) i) refl h
         where
-          by_slot : (o : Option Change) → puts_slot (facts_at q.note) i ≡ o → option_or o (cond (stores_alike (facts_at q.note) i moved) (reached (known q).left i moved) None) ≡ Some change → Paired order (wide_own given deep) (wide_packet given deep) (known q) change i moved q.fw q.gw
+          by_slot : (o : Option Change) → puts_slot (facts_at q.note) i ≡ o → option_or o (cond (stores_alike (known q) i moved) (reached (known q).left i moved) None) ≡ Some change → Paired order (wide_own given deep) (wide_packet given deep) (known q) change i moved q.fw q.gw
           by_slot None eo h = wide_alike h
           by_slot (Some c) eo h = subst (λ m. Paired order (wide_own given deep) (wide_packet given deep) (known q) change i m q.fw q.gw) (sym (store_again i moved (is_stored true i moved e') (same_is.0 refl))) (slots_put order (wide_own given deep) (wide_packet given deep) (known q) change i q.fw q.gw q.new_at.wide_at enc (eo ∙ h))
             where
               e' : stores (known q) true i moved ≡ Some change
-              e' = ap (λ o. option_or o (cond (stores_alike (facts_at q.note) i moved) (reached (known q).left i moved) None)) eo ∙ h
+              e' = ap (λ o. option_or o (cond (stores_alike (known q) i moved) (reached (known q).left i moved) None)) eo ∙ h
 
   -- an instruction that neither calls nor ends a function
   pub by_pair : (j : ℕ) (i moved : Insn) (at : At j i moved) (same : Bool) → IsTrue same ↔ (undirected moved ≡ undirected i) → option_map_or (goes notes (known at.ready) at.ready.fn.slot at.ready.state.top.slot i moved) (paired (known at.ready) same i moved) false ≡ true → Ready given deep (suc j)

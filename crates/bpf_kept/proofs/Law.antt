@@ -9,13 +9,13 @@ use Rattle.bpf_insn.specs.declared.instruction.Insn.{Insn}
 use Rattle.bpf_semantics.specs.Flat.{FlatState, IsFlat, frame_start}
 use Rattle.bpf_kept.specs.Far.{near, wide}
 use Rattle.bpf_kept.specs.Zero.{zero_after}
-use Rattle.bpf_kept.specs.Meaning.{Bounds, FlatEnds, EndsAt, AreGiven, most_for_one, NeverStuck}
+use Rattle.bpf_kept.specs.Meaning.{Bounds, with_turns, FlatEnds, EndsAt, AreGiven, most_for_one, NeverStuck}
 use Rattle.bpf_kept.specs.declared.notes.TurnsLeft.{TurnsLeft}
 use Rattle.bpf_kept.specs.declared.notes.Change.TheVariants.{Kept}
 use Rattle.bpf_kept.specs.States.{States, AreStates}
 use Rattle.bpf_kept.specs.Terms.{Values, IsCommon, value_in}
 use Rattle.bpf_kept.specs.Counters.{Counts, counts_behind}
-use Rattle.bpf_kept.specs.Matching.{Notes, Cuts, most_at_start, start_slot, starts, start_facts, known_at_start, Matches, StandsForExit}
+use Rattle.bpf_kept.specs.Matching.{Notes, Cuts, most_at_start, start_slot, starts, start_facts, known_at_start, Matches, StandsForExit, shown_turns, AreWithin}
 use Rattle.bpf_kept.specs.Laws.{MatchingKeepsFlatMeaning}
 use Rattle.bpf_kept.proofs.HoldsLaw.{IsHigh}
 use Rattle.bpf_kept.proofs.FrameLaw.{IsEnd}
@@ -100,9 +100,10 @@ module _ (given : Setting) where
 -- ---- the law
 
 with_order : (order : Order) (is js : List Insn) (notes : Notes) (bounds : Bounds) (states : States) → IsProgram is → IsProgram js → Matches (program order is) (program order js) notes bounds states → NeverStuck (program order js) bounds.length → AreStates (program order js) bounds.length states
+    → (turns : ℕ) → AreWithin (shown_turns notes bounds.turns) turns
     → (own context : List ℕ) (v k l : ℕ) → AreBytes context → length context ≡ bounds.length → AreGiven bounds.padded order own context
-    → FlatEnds (near bounds.padded) (program order is) own bounds v k → FlatEnds (wide bounds.padded) (program order is) own bounds v l → EndsAt (program order js) context v (StandsForExit (program order is) notes) (most_for_one * suc (suc k))
-with_order order is js notes bounds states old_valid new_valid matches never states_are own context v k l bytes long own_is near_ends wide_ends =
+    → FlatEnds (near bounds.padded) (program order is) own (with_turns turns bounds) v k → FlatEnds (wide bounds.padded) (program order is) own (with_turns turns bounds) v l → EndsAt (program order js) context v (StandsForExit (program order is) notes) (most_for_one * suc (suc k))
+with_order order is js notes bounds states old_valid new_valid matches never states_are turns few_turns own context v k l bytes long own_is near_ends wide_ends =
     ended (record {
       order = order;
       is = is;
@@ -123,11 +124,13 @@ with_order order is js notes bounds states old_valid new_valid matches never sta
       v = v;
       k = k;
       l = l;
+      turns = turns;
+      few_turns = few_turns;
       near_ends = near_ends;
       wide_ends = wide_ends;
     })
 
 pub matching_keeps_flat_meaning : MatchingKeepsFlatMeaning
-matching_keeps_flat_meaning old new notes bounds states old_valid new_valid matches never states_are own context v k l bytes long given near_ends wide_ends =
+matching_keeps_flat_meaning old new notes bounds states old_valid new_valid matches never states_are turns few_turns own context v k l bytes long given near_ends wide_ends =
     subst (λ order. Matches old (program order new.list) notes bounds states → NeverStuck (program order new.list) bounds.length → AreStates (program order new.list) bounds.length states → EndsAt (program order new.list) context v (StandsForExit old notes) (most_for_one * suc (suc k))) (sym matches.order_is)
-    (λ m n a. with_order old.order old.list new.list notes bounds states old_valid new_valid m n a own context v k l bytes long given near_ends wide_ends) matches never states_are
+    (λ m n a. with_order old.order old.list new.list notes bounds states old_valid new_valid m n a turns few_turns own context v k l bytes long given near_ends wide_ends) matches never states_are

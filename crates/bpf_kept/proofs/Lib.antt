@@ -20,6 +20,7 @@ mod AccessesLemmas
 mod Isolated
 mod Simulation
 mod StoreLaw
+mod AddressLaw
 mod PacketLaw
 mod Setting
 mod LevelLaw
@@ -27,6 +28,7 @@ mod Beside
 mod StartLaw
 mod CallLaw
 mod Waiting
+mod CounterLemmas
 mod Extras
 mod Arrivals
 mod WayLaw
@@ -41,6 +43,7 @@ mod Example
 mod FrameExample
 mod PointersExample
 mod SpillExample
+mod AtomicExample
 mod TurnsExample
 mod BlockExample
 mod InsideLemmas

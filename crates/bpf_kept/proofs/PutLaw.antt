@@ -271,7 +271,7 @@ pub record LoadsSame (order : Order) (i moved : Insn) (f g : FlatState) : Type 0
   pub value : put_value order moved g ≡ put_value order i f
 
 -- by an address that is the same
-loaded_alike : (order : Order) (start : ℕ) (packet : Packet) (known : Known) (i moved : Insn) (a b : Access) (f g : FlatState) → HasEncoding i → HasEncoding moved → AtOnce order start packet known f g → Goes start packet known.left i moved f g → access_of i ≡ Some a → access_of moved ≡ Some b → byte_count b.size ≡ byte_count a.size
+pub loaded_alike : (order : Order) (start : ℕ) (packet : Packet) (known : Known) (i moved : Insn) (a b : Access) (f g : FlatState) → HasEncoding i → HasEncoding moved → AtOnce order start packet known f g → Goes start packet known.left i moved f g → access_of i ≡ Some a → access_of moved ≡ Some b → byte_count b.size ≡ byte_count a.size
     → goes_alike known (byte_count a.size) a.base a.offset b.base b.offset ≡ true → bytes_from g.memory (address g b.base b.offset) (byte_count a.size) ≡ bytes_from f.memory (address f a.base a.offset) (byte_count a.size)
 loaded_alike order start packet known i moved a b f g enc enc' at leaves ea eb size e =
     let h = and_parts (same_address known.facts b.base b.offset a.base a.offset) (is_common known (byte_count a.size) a.base a.offset b.base b.offset) e in

@@ -9,10 +9,10 @@ use Rattle.bpf_semantics.specs.Step.{IsStuck}
 use Rattle.bpf_semantics.specs.Run.{Steps}
 use Rattle.bpf_semantics.specs.Flat.{Placement, frame_start}
 use Rattle.bpf_kept.specs.Far.{middle, bytes_before, near, wide}
-use Rattle.bpf_kept.specs.Meaning.{Bounds, FlatEnds, AreGiven}
+use Rattle.bpf_kept.specs.Meaning.{Bounds, with_turns, FlatEnds, AreGiven}
 use Rattle.bpf_kept.specs.Terms.{Packet}
 use Rattle.bpf_kept.specs.States.{States, AreStates}
-use Rattle.bpf_kept.specs.Matching.{Notes, Matches, left_alone}
+use Rattle.bpf_kept.specs.Matching.{Notes, Matches, left_alone, shown_turns, AreWithin}
 use Rattle.bpf_kept.proofs.Simulation.{program}
 
 pub record Setting : Type 0 where
@@ -35,8 +35,14 @@ pub record Setting : Type 0 where
   pub v : ℕ
   pub k : ℕ
   pub l : ℕ
-  pub near_ends : FlatEnds (near bounds.padded) (program order is) own bounds v k
-  pub wide_ends : FlatEnds (wide bounds.padded) (program order is) own bounds v l
+  pub turns : ℕ
+  pub few_turns : AreWithin (shown_turns notes bounds.turns) turns
+  pub near_ends : FlatEnds (near bounds.padded) (program order is) own (with_turns turns bounds) v k
+  pub wide_ends : FlatEnds (wide bounds.padded) (program order is) own (with_turns turns bounds) v l
+
+-- of which runs of the old program
+abbrev pub runs : Setting → Bounds
+runs given = with_turns given.turns given.bounds
 
 -- where the frames begin that wait, if there are so many
 abbrev pub starts_below : Placement → ℕ → List ℕ

@@ -1,5 +1,6 @@
 -- What is known of the new program's numbers holds of each flat state that fits.
 use Rattle.std.proofs.Common.{◌≡◌, inl, inr, ℕ, zero, suc, ◌+◌, ◌<◌, ◌≤◌, ◌==◌, refl, sym, ap, ◌∙◌, subst, arith, Bool, true, false, cond, List, [], ◌∷◌, length, get_or, Contains, Option, Some, None, is_none, option_map, option_and_then}
+use Rattle.std.specs.Option.{is_some}
 use Rattle.std.proofs.lemmas.Bool.{cond-true, cond-false, eq-eqb, eqb-true, false≢true}
 use Rattle.std.proofs.lemmas.Option.{none-some, same_Some}
 use Rattle.bpf_insn.specs.Arithmetic.{extended, jumps}
@@ -93,6 +94,9 @@ module _ (p : Instructions) (c : CertificateView) where
   module _ (m : machine.State) (d : IsDescribed p c m) where
     there : arrival_at p c m.top.slot ≡ Some d.arrival
     there = ap (arrival_at p c) (sym d.slot_is) ∙ arrives_there d.visit d.is_visit ∙ d.arrival_is
+
+    pub described_state : is_some (states_of p c m.top.slot) ≡ true
+    described_state = ap (λ a. is_some (option_map (λ a. a.state) a)) there
 
     by_register : (r : Reg) (n : Number) → register d.arrival.state r ≡ Num n → IsNumber n × (x : ℕ) × (machine.register m r ≡ Some (NumberValue x)) × Has n x
     by_register r n now =

@@ -1,14 +1,12 @@
 -- What both programs put or store, the one where the other stands for it, and what the new one puts or stores alone: what is known behind.
-use Rattle.std.proofs.Common.{◌≡◌, ℕ, ◌+◌, ◌*◌, ◌%◌, ◌<◌, ◌==◌, inl, inr, refl, sym, ap, ap₂, ◌∙◌, subst, arith, Bool, true, false, List, length, Option, Some, None, cond}
-use Rattle.std.specs.Prelude.{ℤ, pos, ◌-ℤ◌, ◌&&◌, ◌||◌, ltb, slice_index, option_and_then, option_map, FitsSigned}
+use Rattle.std.proofs.Common.{◌≡◌, ℕ, ◌+◌, ◌*◌, ◌<◌, ◌==◌, inl, inr, refl, sym, ap, ap₂, ◌∙◌, subst, arith, Bool, true, false, Option, Some, None, cond}
+use Rattle.std.specs.Prelude.{ℤ, ◌||◌, option_and_then, option_map, FitsSigned}
 use Rattle.std.specs.Int.{w16}
 use Rattle.std.specs.Option.{option_or}
-use Rattle.std.specs.Ordering.{int_eq}
-use Rattle.std.proofs.lemmas.Bool.{and_parts, eq-eqb, false≢true}
-use Rattle.std.proofs.lemmas.Bool.Decides.{Decides-int_eq}
+use Rattle.std.proofs.lemmas.Bool.{eq-eqb, false≢true}
 use Rattle.std.proofs.lemmas.Option.{none-some, same_Some, option_and_then_some}
-use Rattle.bpf_insn.specs.Arithmetic.{modulo, extended}
-use Rattle.bpf_insn.specs.Effects.{Access, access_of, is_frame_pointer}
+use Rattle.bpf_insn.specs.Arithmetic.{extended}
+use Rattle.bpf_insn.specs.Effects.{is_frame_pointer}
 use Rattle.bpf_insn.specs.Image.{HasEncoding}
 use Rattle.bpf_insn.specs.Instruction.{register_number, byte_count, slot_count}
 use Rattle.bpf_insn.specs.Order.{bytes_of}
@@ -27,17 +25,17 @@ use Rattle.bpf_kept.specs.declared.notes.TurnsLeft.{TurnsLeft}
 use Rattle.bpf_kept.specs.declared.notes.Change.{Change}
 use Rattle.bpf_kept.specs.declared.notes.Change.TheVariants.{Kept, Made}
 use Rattle.bpf_kept.specs.Terms.{Packet, IsSeen, Differs, DiffersBy, value_in, slot_number, is_noted, zero_term, frame_slots}
-use Rattle.bpf_kept.specs.Slots.{slot_at, reaches}
-use Rattle.bpf_kept.specs.Rules.{Known, own, is_low, is_same, same_register, same_size, same_address, stores_alike, reached, pin_of, put, put_into, stored_by, puts_slot}
+use Rattle.bpf_kept.specs.Slots.{slot_at}
+use Rattle.bpf_kept.specs.Rules.{Known, own, is_low, is_same, pin_of, put, put_into, stored_by, puts_slot}
 use Rattle.bpf_kept.specs.Counters.{is_spared, is_made}
 use Rattle.bpf_kept.specs.Matching.{made_in}
-use Rattle.bpf_kept.proofs.HoldsLaw.{Elsewhere, register_is, register_elsewhere, register_now, same_value, low_value}
+use Rattle.bpf_kept.proofs.HoldsLaw.{Elsewhere, register_elsewhere, register_now, same_value, low_value}
 use Rattle.bpf_kept.proofs.ZeroLaw.{flat_moved, does_keeps}
-use Rattle.bpf_kept.proofs.FrameLaw.{IsEnd, IsRoomy, Goes, reach_is, slot_access, slot_address, slot_now, slot_elsewhere, byte_elsewhere, byte_kept, clear_kept}
+use Rattle.bpf_kept.proofs.FrameLaw.{IsEnd, IsRoomy, slot_access, slot_address, slot_now, slot_elsewhere, byte_elsewhere}
 use Rattle.bpf_kept.proofs.PutValue.{put_value, put_does}
 use Rattle.bpf_kept.proofs.BothLaw.{PutBoth}
-use Rattle.bpf_kept.proofs.PutLaw.{AtOnce, end_left, access_is, address_same, size_is, register_differs}
-use Rattle.bpf_kept.proofs.ExtraLaw.{made_value, made_known, kept_hold, put_hold, made_hold, stored_hold}
+use Rattle.bpf_kept.proofs.PutLaw.{AtOnce, end_left, register_differs}
+use Rattle.bpf_kept.proofs.ExtraLaw.{made_value, made_known, kept_hold, put_hold, made_hold}
 use Rattle.bpf_kept.proofs.PinLaw.{pin_is}
 use Rattle.bpf_kept.proofs.EdgeLaw.{Behind, numbers_equal}
 
@@ -75,7 +73,7 @@ pub record Extra (order : Order) (start : ℕ) (packet : Packet) (known : Known)
 pub register_same : (order : Order) (start : ℕ) (packet : Packet) (known : Known) (f g : FlatState) (r : Reg) → AtOnce order start packet known f g → is_same known.facts r ≡ true → flat_register g r ≡ flat_register f r
 register_same order start packet known f g r at e = same_value start (value_in order start packet f) (value_in order start packet g) (λ r. at.flat.numbers (register_number r)) known.facts r at.all e
 
-flat_after : (order : Order) (i : Insn) (f g : FlatState) → HasEncoding i → IsFlat f → flat_does order i f ≡ Some g → IsFlat g
+pub flat_after : (order : Order) (i : Insn) (f g : FlatState) → HasEncoding i → IsFlat f → flat_does order i f ≡ Some g → IsFlat g
 flat_after order i f g enc flat e = (does_keeps order i f g enc flat e).flat
 
 -- ---- both go elsewhere, or one does
@@ -248,78 +246,6 @@ slots_put order start packet known change (StoreImm size dst off imm) f g at enc
       unmade = λ want h. false≢true h;
     })
 slots_put order start packet known change i f g at enc e = absurd (none-some _ e)
-
--- ---- both store the same at one address
-
-same_bytes : (bytes : List ℕ) (a b : ℕ) (m other : ℕ → ℕ) → other b ≡ m b → memory_with bytes a other b ≡ memory_with bytes a m b
-same_bytes bytes a b m other e = let k : ℕ = modulo (pos b -ℤ pos a) addresses in ap (λ y. cond (ltb k (length bytes)) (slice_index bytes k) y) e
-
--- what is known behind, and what the new program still has
-record BothStored (order : Order) (start : ℕ) (packet : Packet) (known : Known) (change : Change) (f g old new : FlatState) : Type 0 where
-  unseen : KeepsUnseen start packet f old
-  new_unseen : KeepsUnseen start packet g new
-  behind : Behind order start packet known change old new
-  spared : (h : Holder) → is_spared change h ≡ true → value_in order start packet new (Some h) ≡ value_in order start packet g (Some h)
-  unmade : (want : TurnsLeft) → is_made known change want ≡ true → ⊥
-
-both_store : (order : Order) (start : ℕ) (packet : Packet) (known : Known) (change : Change) (i moved : Insn) (w v : Access) (f g old new : FlatState) (k x y : ℕ) → AtOnce order start packet known f g → HasEncoding i → HasEncoding moved → Goes start packet known.left i moved f g → access_of i ≡ Some w → access_of moved ≡ Some v
-    → byte_count v.size ≡ byte_count w.size → address g v.base v.offset ≡ address f w.base w.offset → reaches known.left (byte_count w.size) w.base w.offset v.base v.offset ≡ Some change → y ≡ x
-    → flat_does order i f ≡ Some old → flat_does order moved g ≡ Some new → old.registers ≡ f.registers → new.registers ≡ g.registers
-    → old.memory ≡ memory_with (bytes_of order k x) (address f w.base w.offset) f.memory → new.memory ≡ memory_with (bytes_of order k y) (address g v.base v.offset) g.memory → BothStored order start packet known change f g old new
-both_store order start packet known change i moved w v f g old new k x y at enc enc' leaves ew ev size there reach same od nd orr nr om nm =
-    let access = access_is order start packet known i moved w v f g enc enc' at leaves ew ev size there in
-    let r = reach_is start known.left (byte_count w.size) w.base v.base w.offset v.offset f g change access reach in
-    let clear = clear_kept order start packet r.from r.to g new at.room nr (λ a small among out. byte_kept order moved v g new a nd ev small (λ j lt touched. r.bytes a j (subst (λ n. j < n) size lt) (touched ∙ ap (λ z. (z + j) % addresses) there) among out)) in
-    subst (λ change. BothStored order start packet known change f g old new) (sym r.is)
-    (record {
-      unseen = λ a small out. byte_kept order i w f old a od ew small (λ j lt touched. out (subst (IsSeen start packet) (sym touched) (leaves.seen w v j ew ev there lt (subst (λ n. j < n) (sym size) lt))));
-      new_unseen = λ a small out. byte_kept order moved v g new a nd ev small (λ j lt touched. out (subst (IsSeen start packet) (sym (touched ∙ ap (λ z. (z + j) % addresses) there)) (leaves.seen w v j ew ev there (subst (λ n. j < n) size lt) lt)));
-      spared = λ h e. clear (Some h) e;
-      unmade = λ want h. false≢true h;
-      behind = record {
-        high = at.high;
-        room = at.room;
-        flat = flat_after order i f old enc at.flat od;
-        new_flat = flat_after order moved g new enc' at.new_flat nd;
-        pointers = (subst (IsEnd start) (sym orr) at.pointers.0, subst (IsEnd start) (sym nr) at.pointers.1);
-        holds = λ want e. stored_hold start known.facts at.high r.from r.to (value_in order start packet f) (value_in order start packet old) (value_in order start packet g) (value_in order start packet new) want refl refl
-            (clear_kept order start packet r.from r.to f old at.room orr (λ a small among out. byte_kept order i w f old a od ew small (λ j lt touched. r.bytes a j lt touched among out)))
-            clear at.all e;
-        common = λ a small seen out. ap (λ m. m a) nm ∙ ap₂ (λ z c. memory_with (bytes_of order k z) c g.memory a) same there ∙ same_bytes (bytes_of order k x) (address f w.base w.offset) a f.memory g.memory (at.common a small seen (λ apart. out apart.0 apart.1 apart.2 apart.3)) ∙ sym (ap (λ m. m a) om);
-      };
-    })
-
-pub stores_there : (order : Order) (start : ℕ) (packet : Packet) (known : Known) (change : Change) (i moved : Insn) (f g : FlatState) → AtOnce order start packet known f g → HasEncoding i → HasEncoding moved → Goes start packet known.left i moved f g → stores_alike known.facts i moved ≡ true → reached known.left i moved ≡ Some change → Paired order start packet known change i moved f g
-unfolding flat_does
-stores_there order start packet known change (Store size dst off src) (Store other base at from) f g one enc enc' leaves e reach =
-    let a = and_parts (same_size size other) (same_register src from && (is_same known.facts src && same_address known.facts base at dst off)) e in
-    let b = and_parts (same_register src from) (is_same known.facts src && same_address known.facts base at dst off) a.1 in
-    let c = and_parts (is_same known.facts src) (same_address known.facts base at dst off) b.1 in
-    let there = address_same order start packet known.facts f g base dst off at one.all c.1 in
-    let size_same : other ≡ size = size_is size other a.0 in
-    let from_same : from ≡ src = register_is src from b.0 in
-    let value : flat_register g from ≡ flat_register f src = ap (flat_register g) from_same ∙ register_same order start packet known f g src one c.0 in
-    let i : Insn = Store size dst off src in
-    let moved : Insn = Store other base at from in
-    let old : FlatState = flat_store order (byte_count size) (flat_register f src) (address f dst off) (flat_next i f) in
-    let new : FlatState = flat_store order (byte_count other) (flat_register g from) (address g base at) (flat_next moved g) in
-    let stored = both_store order start packet known change i moved (record { base = dst; offset = off; size = size; reads = false; writes = true }) (record { base = base; offset = at; size = other; reads = false; writes = true }) f g old new (byte_count size) (flat_register f src) (flat_register g from) one enc enc' leaves refl refl
-    (ap byte_count size_same) there reach value refl refl refl refl refl (ap (λ s. memory_with (bytes_of order (byte_count s) (flat_register g from)) (address g base at) g.memory) size_same) in
-    record { old = old; new = new; old_does = refl; new_does = refl; old_slot = refl; new_slot = refl; old_returns = refl; new_returns = refl; unseen = stored.unseen; new_unseen = stored.new_unseen; behind = stored.behind; spared = stored.spared; unmade = stored.unmade }
-stores_there order start packet known change (StoreImm size dst off imm) (StoreImm other base at value) f g one enc enc' leaves e reach =
-    let a = and_parts (same_size size other) (int_eq imm value && same_address known.facts base at dst off) e in
-    let b = and_parts (int_eq imm value) (same_address known.facts base at dst off) a.1 in
-    let there = address_same order start packet known.facts f g base dst off at one.all b.1 in
-    let size_same : other ≡ size = size_is size other a.0 in
-    let value_same : value ≡ imm = sym ((Decides-int_eq imm value).0 b.0) in
-    let i : Insn = StoreImm size dst off imm in
-    let moved : Insn = StoreImm other base at value in
-    let old : FlatState = flat_store order (byte_count size) (extended imm) (address f dst off) (flat_next i f) in
-    let new : FlatState = flat_store order (byte_count other) (extended value) (address g base at) (flat_next moved g) in
-    let stored = both_store order start packet known change i moved (record { base = dst; offset = off; size = size; reads = false; writes = true }) (record { base = base; offset = at; size = other; reads = false; writes = true }) f g old new (byte_count size) (extended imm) (extended value) one enc enc' leaves refl refl
-    (ap byte_count size_same) there reach (ap extended value_same) refl refl refl refl refl (ap (λ s. memory_with (bytes_of order (byte_count s) (extended value)) (address g base at) g.memory) size_same) in
-    record { old = old; new = new; old_does = refl; new_does = refl; old_slot = refl; new_slot = refl; old_returns = refl; new_returns = refl; unseen = stored.unseen; new_unseen = stored.new_unseen; behind = stored.behind; spared = stored.spared; unmade = stored.unmade }
-stores_there order start packet known change i moved f g one enc enc' leaves e reach = absurd (false≢true e)
 
 -- ---- the new program alone
 

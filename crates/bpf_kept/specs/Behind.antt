@@ -18,7 +18,7 @@ use Rattle.bpf_kept.specs.declared.notes.Holder.TheVariants.{Register, Slot}
 use Rattle.bpf_kept.specs.declared.notes.Term.{Term}
 use Rattle.bpf_kept.specs.declared.notes.Fact.{Fact}
 use Rattle.bpf_kept.specs.declared.notes.Change.{Change}
-use Rattle.bpf_kept.specs.declared.notes.Change.TheVariants.{Kept, Put, Stored, Made}
+use Rattle.bpf_kept.specs.declared.notes.Change.TheVariants.{Kept, Put, Stored, Fetched, Made}
 use Rattle.bpf_kept.specs.Terms.{Facts, is_noted, frame_slots, constant, zero_term, frame_end, plus, minus}
 use Rattle.bpf_kept.specs.Slots.{each_slot, slot_at, is_clear}
 use Rattle.bpf_kept.specs.Rules.{Known, same_holder, is_holder, is_register, is_base, is_enough, gives, both}
@@ -86,6 +86,10 @@ made facts i want = false
 
 -- ---- what holds behind a change
 
+-- a register or slot has the same in both
+abbrev pub by_itself : Holder → Fact
+by_itself h = record { of = Some h; base = Some h; by = Some zero_term }
+
 -- it is of neither program's register or slot
 abbrev pub stays : Holder → Fact → Bool
 stays h fact = not (is_holder h fact.of) && not (is_holder h fact.base)
@@ -107,19 +111,20 @@ outlives from to fact = is_clear from to fact.of && is_clear from to fact.base
 abbrev pub stored_gives : Facts → ℕ → ℕ → Fact → Bool
 stored_gives facts from to want = list_any (λ have. outlives from to have && gives have want) facts
 
+-- what was there is the same in both, and so in the register; of what it held nothing is left
+abbrev pub fetched_gives : Facts → ℕ → ℕ → Reg → Fact → Bool
+fetched_gives facts from to r want = gives (by_itself (Register r)) want || list_any (λ have. (outlives from to have && stays (Register r) have) && gives have want) facts
+
 abbrev pub change_gives : Facts → Change → Fact → Bool
 change_gives facts Kept want = list_any (λ have. gives have want) facts
 change_gives facts (Put fact pin) want = put_gives facts fact pin want
 change_gives facts (Stored from to) want = stored_gives facts from to want
+change_gives facts (Fetched from to r) want = fetched_gives facts from to r want
 change_gives facts (Made h i) want = made_gives facts h i want
 
 -- that 0 is 0 holds always
 unfoldable pub holds_behind : Facts → Change → Fact → Bool
 holds_behind facts change want = gives (known_number None zero_term) want || change_gives facts change want
-
--- a register or slot has the same in both
-abbrev pub by_itself : Holder → Fact
-by_itself h = record { of = Some h; base = Some h; by = Some zero_term }
 
 abbrev pub same_slot : ℕ → Fact
 same_slot n = by_itself (Slot n)

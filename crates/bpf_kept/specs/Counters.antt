@@ -15,7 +15,7 @@ use Rattle.bpf_kept.specs.declared.notes.Holder.{Holder}
 use Rattle.bpf_kept.specs.declared.notes.Holder.TheVariants.{Register, Slot}
 use Rattle.bpf_kept.specs.declared.notes.TurnsLeft.{TurnsLeft}
 use Rattle.bpf_kept.specs.declared.notes.Change.{Change}
-use Rattle.bpf_kept.specs.declared.notes.Change.TheVariants.{Kept, Put, Stored, Made}
+use Rattle.bpf_kept.specs.declared.notes.Change.TheVariants.{Kept, Put, Stored, Fetched, Made}
 use Rattle.bpf_kept.specs.Terms.{Values}
 use Rattle.bpf_kept.specs.Slots.{is_clear, slot_at}
 use Rattle.bpf_kept.specs.Rules.{Known, same_holder}
@@ -62,6 +62,7 @@ abbrev pub is_spared : Change → Holder → Bool
 is_spared Kept h = true
 is_spared (Put fact pin) h = option_map_or (λ into. not (same_holder h into)) fact.of true
 is_spared (Stored from to) h = is_clear from to (Some h)
+is_spared (Fetched from to r) h = is_clear from to (Some h) && not (same_holder h (Register r))
 is_spared (Made into i) h = not (same_holder h into)
 
 abbrev pub is_made : Known → Change → TurnsLeft → Bool

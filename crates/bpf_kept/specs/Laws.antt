@@ -14,11 +14,11 @@ use Rattle.bpf_kept.specs.Zero.{zero_start, zero_step, IsZeroState}
 use Rattle.bpf_cert.specs.Limits.{IsCertificate}
 use Rattle.bpf_cert.specs.View.{CertificateView}
 use Rattle.bpf_safety.specs.Certified.{Certified}
-use Rattle.bpf_kept.specs.Meaning.{Bounds, FlatEnds, AreGiven, KeepsFlatMeaning, NeverStuck}
-use Rattle.bpf_kept.specs.States.{States, AreStates, AreFrom}
+use Rattle.bpf_kept.specs.Meaning.{Bounds, with_turns, FlatEnds, AreGiven, KeepsFlatMeaning, NeverStuck}
+use Rattle.bpf_kept.specs.States.{States, states_of, AreStates, AreFrom}
 use Rattle.bpf_kept.specs.Anywhere.{IsFar, EndsAnyhow, KeepsFarMeaning}
 use Rattle.bpf_kept.specs.Exact.{EndsExactly, KeepsExactMeaning}
-use Rattle.bpf_kept.specs.Matching.{Notes, Matches, StandsForExit}
+use Rattle.bpf_kept.specs.Matching.{Notes, Matches, shown_turns, AreWithin, StandsForExit, MayEnd}
 
 -- ---- the far placements
 
@@ -50,17 +50,19 @@ ZeroStepIsStep = (place : Placement) (p : Instructions) (f g : FlatState) → Is
 
 -- ---- notes that match show that the meaning is kept
 
--- for a new program that is never stuck and whose states are known
+-- for a new program that is never stuck and whose states are known, and for each number of turns of which the notes speak
 abbrev pub MatchingKeepsFlatMeaning : Type 0
 MatchingKeepsFlatMeaning =
     (old new : Instructions) (notes : Notes) (bounds : Bounds) (states : States) → IsProgram old.list → IsProgram new.list → Matches old new notes bounds states
-    → NeverStuck new bounds.length → AreStates new bounds.length states → KeepsFlatMeaning old new bounds (StandsForExit old notes)
+    → NeverStuck new bounds.length → AreStates new bounds.length states
+    → (turns : ℕ) → AreWithin (shown_turns notes bounds.turns) turns → KeepsFlatMeaning old new (with_turns turns bounds) (StandsForExit old notes)
 
 -- with a certificate of the new program, for a range of lengths in which the contexts' is, by notes alone or with the states that its check has
 abbrev pub CertifiedKeepsFlatMeaning : Type 0
 CertifiedKeepsFlatMeaning =
     (old new : Instructions) (notes : Notes) (bounds : Bounds) (states : States) (c : CertificateView) → IsProgram old.list → IsProgram new.list → IsCertificate c → Certified new c
-    → c.least ≤ bounds.length → bounds.length ≤ c.most → AreFrom new c states → Matches old new notes bounds states → KeepsFlatMeaning old new bounds (StandsForExit old notes)
+    → c.least ≤ bounds.length → bounds.length ≤ c.most → AreFrom new c states → Matches old new notes bounds states
+    → (turns : ℕ) → AreWithin (shown_turns notes bounds.turns) turns → KeepsFlatMeaning old new (with_turns turns bounds) (StandsForExit old notes)
 
 -- ---- traps
 
@@ -70,6 +72,14 @@ OtherExitsAreTraps =
     (old new : Instructions) (notes : Notes) (bounds : Bounds) → KeepsFlatMeaning old new bounds (StandsForExit old notes)
     → (own context : List ℕ) (v w k l n : ℕ) (s : State) → AreBytes context → length context ≡ bounds.length → AreGiven bounds.padded old.order own context
     → Steps new n (start context) s → Finish new s w → (StandsForExit old notes s.top.slot → ⊥)
+    → FlatEnds (near bounds.padded) old own bounds v k → FlatEnds (wide bounds.padded) old own bounds v l → ⊥
+
+-- Where the certificate's check reaches none of the exits that stand for the old one's, that has no answer on any context of so many bytes.
+abbrev pub NoExitNoAnswer : Type 0
+NoExitNoAnswer =
+    (old new : Instructions) (notes : Notes) (bounds : Bounds) (c : CertificateView) → IsProgram new.list → IsCertificate c → Certified new c → c.least ≤ bounds.length → bounds.length ≤ c.most
+    → KeepsFlatMeaning old new bounds (StandsForExit old notes) → (MayEnd old notes (states_of new c) → ⊥)
+    → (own context : List ℕ) (v k l : ℕ) → AreBytes context → length context ≡ bounds.length → AreGiven bounds.padded old.order own context
     → FlatEnds (near bounds.padded) old own bounds v k → FlatEnds (wide bounds.padded) old own bounds v l → ⊥
 
 -- ---- the exact machine

@@ -1,7 +1,7 @@
 -- What has to hold of the notes at each slot of the new program. Nothing here speaks of runs.
-use Rattle.std.specs.Prelude.{◌≡◌, ◌↔◌, ℕ, zero, suc, ◌+◌, ◌-◌, pos, ◌==◌, ◌&&◌, ◌^◌, ◌<◌, ◌≤◌, nat_le, Bool, IsTrue, true, false, not, List, [], ◌∷◌, ◌++◌, get_or, length as count, Option, Some, None, option_map, ◌||◌, if◌then◌else◌}
-use Rattle.std.specs.List.{list_all}
-use Rattle.std.specs.Option.{option_map_or}
+use Rattle.std.specs.Prelude.{◌≡◌, ◌↔◌, ℕ, zero, suc, ◌+◌, ◌-◌, pos, ◌==◌, ◌&&◌, ◌^◌, ◌<◌, ◌≤◌, nat_le, Bool, IsTrue, true, false, not, List, [], ◌∷◌, ◌++◌, get_or, length as count, Option, Some, None, option_map, ◌||◌, ⊤, if◌then◌else◌}
+use Rattle.std.specs.List.{list_all, list_any}
+use Rattle.std.specs.Option.{option_map_or, is_some}
 use Rattle.bpf_insn.specs.Options.{◌>>=◌}
 use Rattle.bpf_insn.specs.Effects.{is_frame_pointer}
 use Rattle.bpf_insn.specs.Limits.{frame_bytes}
@@ -24,6 +24,8 @@ use Rattle.bpf_kept.specs.declared.notes.Note.{Note}
 use Rattle.bpf_kept.specs.declared.notes.Change.{Change}
 use Rattle.bpf_kept.specs.declared.notes.Change.TheVariants.{Kept, Made}
 use Rattle.bpf_kept.specs.Meaning.{Bounds}
+use Rattle.bpf_kept.specs.declared.bounds.Turns.{Turns}
+use Rattle.bpf_kept.specs.declared.bounds.Turns.TheVariants.{Any, Most}
 use Rattle.bpf_kept.specs.Terms.{Facts, is_noted, frame_slots, constant, zero_term, context_offset, frame_end, negated, number_pin}
 use Rattle.bpf_kept.specs.Slots.{slot_facts, slot_at}
 use Rattle.bpf_kept.specs.States.{States}
@@ -290,3 +292,27 @@ pub record StandsForExit (old : Instructions) (notes : Notes) (new_slot : ℕ) :
   pub noted : note_at notes new_slot ≡ Some note
   pub body : note.extras ≡ 0
   pub exit : insn_at old.list note.old ≡ Some Exit
+
+-- one of them is reached
+pub record MayEnd (old : Instructions) (notes : Notes) (states : States) : Type 0 where
+  pub slot : ℕ
+  pub reached : is_some (states slot) ≡ true
+  pub stands : StandsForExit old notes slot
+
+-- ---- of how many turns they speak
+
+abbrev pub counts : Note → Bool
+counts note = list_any is_some note.counters
+
+-- something counts turns in front of an instruction
+abbrev pub has_counter : Notes → Bool
+has_counter notes = list_any (λ o. option_map_or counts o false) notes
+
+-- Where nothing counts, how often the old program may come to an instruction plays no role.
+abbrev pub shown_turns : Notes → ℕ → Turns
+shown_turns notes turns = if has_counter notes then Most turns else Any
+
+-- it is so many turns at most
+abbrev pub AreWithin : Turns → ℕ → Type 0
+AreWithin Any n = ⊤
+AreWithin (Most turns) n = n ≤ turns

@@ -17,6 +17,10 @@ use Rattle.bpf_kept.specs.Zero.{zero_start, zero_after}
 -- instruction at most; and how many of the lowest bytes of each frame are accessed by r10 alone.
 pub use Rattle.bpf_kept.specs.declared.bounds.Bounds.{Bounds}
 
+-- the same, of another number of turns
+abbrev pub with_turns : ℕ → Bounds → Bounds
+with_turns turns bounds = record { length = bounds.length; padded = bounds.padded; turns = turns; untouched = bounds.untouched }
+
 -- ---- the old program's run
 
 -- the instruction at which a state stands accesses none of so many lowest bytes of a live frame by another register than r10

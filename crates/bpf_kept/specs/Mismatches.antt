@@ -10,12 +10,12 @@ use Rattle.bpf_kept.specs.Meaning.{Bounds}
 use Rattle.bpf_kept.specs.Rules.{Known, undirected, paired}
 use Rattle.bpf_kept.specs.States.{States, states_of}
 use Rattle.bpf_kept.specs.Guards.{Front as AnyFront}
-use Rattle.bpf_kept.specs.Matching.{Notes, note_at, known_at, falls, extra, Cuts, starts, HoldsAt, Matches}
+use Rattle.bpf_kept.specs.Matching.{Notes, note_at, known_at, falls, extra, Cuts, starts, HoldsAt, Matches, MayEnd}
 use Rattle.bpf_kept.specs.declared.notes.Note.{Note}
 use Rattle.bpf_kept.specs.declared.mismatch.NoteFault.{NoteFault}
 use Rattle.bpf_kept.specs.declared.mismatch.NoteFault.TheVariants.{Front, Insn as AnyInsn, Read, Next, Target}
 use Rattle.bpf_kept.specs.declared.mismatch.Mismatch.{Mismatch}
-use Rattle.bpf_kept.specs.declared.mismatch.Mismatch.TheVariants.{Order, TooMany, Start, At, Length}
+use Rattle.bpf_kept.specs.declared.mismatch.Mismatch.TheVariants.{Order, TooMany, Start, At, Length, NoExit}
 
 -- ---- what fails of a note: the first of what is asked
 
@@ -82,6 +82,7 @@ IsAt Holds TooMany = ⊥
 IsAt Holds Start = ⊥
 IsAt Holds (At slot before fault) = Holds slot before fault
 IsAt Holds Length = ⊥
+IsAt Holds NoExit = ⊥
 
 abbrev pub Starts : Instructions → Notes → Bounds → Type 0
 Starts new notes bounds = (bounds.padded ≡ true → Cuts new bounds.length) × (starts notes new bounds ≡ true)
@@ -97,22 +98,24 @@ IsUnbegun old new notes bounds TooMany = (new.order ≡ old.order) × (slots new
 IsUnbegun old new notes bounds Start = (new.order ≡ old.order) × (count notes ≤ slots new.list) × (Starts new notes bounds → ⊥)
 IsUnbegun old new notes bounds (At slot before fault) = ⊥
 IsUnbegun old new notes bounds Length = ⊥
+IsUnbegun old new notes bounds NoExit = ⊥
 
 -- the certificate is for contexts of so many bytes
 abbrev pub IsFor : CertificateView → ℕ → Type 0
 IsFor c length = (c.least ≤ length) × (length ≤ c.most)
 
--- Beside a certificate for contexts of this length, notes match by its states.
+-- Beside a certificate for contexts of this length, notes match by its states, and its check reaches an exit that stands for one of the old program's.
 abbrev pub MatchesBeside : Instructions → Instructions → Notes → CertificateView → Bounds → Type 0
-MatchesBeside old new notes c bounds = IsFor c bounds.length × Matches old new notes bounds (states_of new c)
+MatchesBeside old new notes c bounds = IsFor c bounds.length × Matches old new notes bounds (states_of new c) × MayEnd old notes (states_of new c)
 
--- It is for others; or it isn't, and the start doesn't match; or it does, and a slot doesn't.
+-- It is for others; or it isn't, and the start doesn't match; or it does, and a slot doesn't; or all match, and no such exit is reached.
 unfoldable pub IsMismatch : Instructions → Instructions → Notes → CertificateView → Bounds → Mismatch → Type 0
 IsMismatch old new notes c bounds Order = IsFor c bounds.length × IsUnbegun old new notes bounds Order
 IsMismatch old new notes c bounds TooMany = IsFor c bounds.length × IsUnbegun old new notes bounds TooMany
 IsMismatch old new notes c bounds Start = IsFor c bounds.length × IsUnbegun old new notes bounds Start
 IsMismatch old new notes c bounds (At slot before fault) = IsFor c bounds.length × IsBegun old new notes bounds × IsLowest old new notes bounds (states_of new c) slot before fault
 IsMismatch old new notes c bounds Length = IsFor c bounds.length → ⊥
+IsMismatch old new notes c bounds NoExit = IsFor c bounds.length × Matches old new notes bounds (states_of new c) × (MayEnd old notes (states_of new c) → ⊥)
 
 -- ---- numbers and words
 
@@ -129,6 +132,7 @@ mismatch_number Start = 2
 mismatch_number (At slot before fault) = fault_number fault
 mismatch_number TooMany = 8
 mismatch_number Length = 9
+mismatch_number NoExit = 10
 
 -- the old slot
 abbrev pub mismatch_slot : Mismatch → ℕ
@@ -137,6 +141,7 @@ mismatch_slot Start = 0
 mismatch_slot (At slot before fault) = before
 mismatch_slot TooMany = 0
 mismatch_slot Length = 0
+mismatch_slot NoExit = 0
 
 -- by numbers
 abbrev pub mismatch_texts : List (List ℕ)
@@ -151,4 +156,5 @@ mismatch_texts =
     codes "the instruction leads elsewhere, or the notes ask for more there" ∷
     codes "there are more notes than the new program has slots" ∷
     codes "the new program has no certificate for contexts of this length" ∷
+    codes "the old program comes to no exit on contexts of this length" ∷
     []

@@ -1,13 +1,13 @@
 -- What instructions make of facts. Nothing here speaks of runs.
-use Rattle.std.specs.Prelude.{ℕ, ◌+◌, zero, ◌==◌, ◌%◌, ◌^◌, nat_lt, ℤ, pos, negsuc, Bool, true, false, not, ◌&&◌, ◌||◌, List, Option, Some, None, is_none, option_map, if◌then◌else◌}
+use Rattle.std.specs.Prelude.{ℕ, ◌+◌, zero, ◌==◌, ◌%◌, ◌^◌, nat_lt, ℤ, pos, negsuc, Bool, true, false, not, ◌&&◌, ◌||◌, List, ◌∷◌, Option, Some, None, is_none, option_map, if◌then◌else◌}
 use Rattle.std.specs.List.{find, list_all, list_any}
 use Rattle.std.specs.Option.{is_some, option_map_or, option_or}
 use Rattle.std.specs.Ordering.{int_eq}
 use Rattle.bpf_insn.specs.Options.{◌>>=◌}
 use Rattle.bpf_insn.specs.Arithmetic.{alu, extended, sign_extend}
-use Rattle.bpf_insn.specs.Effects.{registers_read, is_frame_pointer}
+use Rattle.bpf_insn.specs.Effects.{registers_read, is_frame_pointer, fetch_register, atomic_registers}
 use Rattle.bpf_insn.specs.Limits.{frame_bytes}
-use Rattle.bpf_insn.specs.Instruction.{register_number, byte_count}
+use Rattle.bpf_insn.specs.Instruction.{register_number, byte_count, word_size}
 use Rattle.bpf_insn.specs.declared.instruction.Reg.{Reg}
 use Rattle.bpf_insn.specs.declared.instruction.Size.{Size}
 use Rattle.bpf_insn.specs.declared.instruction.Operand.{Operand}
@@ -18,8 +18,12 @@ use Rattle.bpf_insn.specs.declared.instruction.AluOp.TheVariants.{Add, Sub, Mul,
 use Rattle.bpf_insn.specs.declared.instruction.Cond.{Cond}
 use Rattle.bpf_insn.specs.declared.instruction.Cond.TheVariants.{Eq, Gt, Ge, Ne, SGt, SGe, Lt, Le, SLt, SLe}
 use Rattle.bpf_insn.specs.declared.instruction.EndBits.TheVariants.{B16 as E16, B32 as E32}
+use Rattle.bpf_insn.specs.declared.instruction.Modify.{Modify}
+use Rattle.bpf_insn.specs.declared.instruction.Modify.TheVariants.{Add as AddTo, Or as OrTo, And as AndTo, Xor as XorTo}
+use Rattle.bpf_insn.specs.declared.instruction.AtomicOp.{AtomicOp}
+use Rattle.bpf_insn.specs.declared.instruction.AtomicOp.TheVariants.{Modify as Changes, Xchg, CmpXchg}
 use Rattle.bpf_insn.specs.declared.instruction.Insn.{Insn}
-use Rattle.bpf_insn.specs.declared.instruction.Insn.TheVariants.{Alu, Neg, MovSx, End, LoadImm64, Load, LoadSx, Store, StoreImm, Ja, JaLong, JumpIf, CallLocal}
+use Rattle.bpf_insn.specs.declared.instruction.Insn.TheVariants.{Alu, Neg, MovSx, End, LoadImm64, Load, LoadSx, Store, StoreImm, Atomic, Ja, JaLong, JumpIf, CallLocal}
 use Rattle.bpf_semantics.specs.Flat.{addresses}
 use Rattle.bpf_num.specs.Operation.{num_alu}
 use Rattle.bpf_state.specs.State.{AbstractState}
@@ -30,7 +34,7 @@ use Rattle.bpf_kept.specs.declared.notes.Term.{Term}
 use Rattle.bpf_kept.specs.declared.notes.Fact.{Fact}
 use Rattle.bpf_kept.specs.declared.notes.TurnsLeft.{TurnsLeft}
 use Rattle.bpf_kept.specs.declared.notes.Change.{Change}
-use Rattle.bpf_kept.specs.declared.notes.Change.TheVariants.{Kept, Put}
+use Rattle.bpf_kept.specs.declared.notes.Change.TheVariants.{Kept, Put, Stored, Fetched}
 use Rattle.bpf_kept.specs.Terms.{Facts, is_noted, frame_slots, zero_term, frame_offset, plus, minus, negated, number_pin, pinned_number, times}
 use Rattle.bpf_kept.specs.Slots.{each_slot, slot_at, misses, reaches}
 use Rattle.bpf_kept.specs.States.{held_number, operand_number}
@@ -302,16 +306,49 @@ loads_alike known (Load size dst src off) (Load other into base at) = same_size 
 loads_alike known (LoadSx size dst src off) (LoadSx other into base at) = same_size size other && (same_register dst into && goes_alike known (byte_count size) src off base at)
 loads_alike known i moved = false
 
+-- ---- atomic operations
+
+-- one way to change a number, in both
+abbrev pub same_modify : Modify → Modify → Bool
+same_modify AddTo AddTo = true
+same_modify OrTo OrTo = true
+same_modify AndTo AndTo = true
+same_modify XorTo XorTo = true
+same_modify by other = false
+
+-- one operation in both, which fetches in both or in neither
+abbrev pub same_atomic : AtomicOp → AtomicOp → Bool
+same_atomic (Changes by true) (Changes other true) = same_modify by other
+same_atomic (Changes by false) (Changes other false) = same_modify by other
+same_atomic Xchg Xchg = true
+same_atomic CmpXchg CmpXchg = true
+same_atomic op other = false
+
+-- Both find the same at one address, and do the same with it, by the same numbers.
+abbrev pub modifies_alike : Known → Insn → Insn → Bool
+modifies_alike known (Atomic wide op dst off src) (Atomic broad other base at from) =
+    same_size (word_size wide) (word_size broad) && (same_atomic op other && (same_register src from && (list_all (is_same known.facts) (src ∷ atomic_registers op) && goes_alike known (byte_count (word_size wide)) dst off base at)))
+modifies_alike known i moved = false
+
+-- what was there, both put into a register, if they fetch
+abbrev pub fetches : Option Reg → Change → Option Change
+fetches (Some r) (Stored from to) = if is_frame_pointer r then None else Some (Fetched from to r)
+fetches (Some r) change = None
+fetches None change = Some change
+
+-- ---- stores at one address
+
 -- what is stored is the same
-abbrev pub stores_alike : Facts → Insn → Insn → Bool
-stores_alike facts (Store size dst off src) (Store other base at from) = same_size size other && (same_register src from && (is_same facts src && same_address facts base at dst off))
-stores_alike facts (StoreImm size dst off imm) (StoreImm other base at value) = same_size size other && (int_eq imm value && same_address facts base at dst off)
-stores_alike facts i moved = false
+abbrev pub stores_alike : Known → Insn → Insn → Bool
+stores_alike known (Store size dst off src) (Store other base at from) = same_size size other && (same_register src from && (is_same known.facts src && same_address known.facts base at dst off))
+stores_alike known (StoreImm size dst off imm) (StoreImm other base at value) = same_size size other && (int_eq imm value && same_address known.facts base at dst off)
+stores_alike known i moved = modifies_alike known i moved
 
 -- to which bytes of the own frame it may go
 abbrev pub reached : ℕ → Insn → Insn → Option Change
 reached left (Store size dst off src) (Store other base at from) = reaches left (byte_count size) dst off base at
 reached left (StoreImm size dst off imm) (StoreImm other base at value) = reaches left (byte_count size) dst off base at
+reached left (Atomic wide op dst off src) (Atomic broad other base at from) = reaches left (byte_count (word_size wide)) dst off base at >>= fetches (fetch_register op src)
 reached left i moved = None
 
 -- the end of the own frame is moved to a register, and the new instruction puts its offset there
@@ -415,7 +452,7 @@ puts_slot facts (StoreImm size dst off imm) = option_map (λ n. put (Slot n) (pi
 puts_slot facts i = None
 
 abbrev pub stores : Known → Bool → Insn → Insn → Option Change
-stores known same i moved = option_or (if same then puts_slot known.facts i else None) (if stores_alike known.facts i moved then reached known.left i moved else None)
+stores known same i moved = option_or (if same then puts_slot known.facts i else None) (if stores_alike known i moved then reached known.left i moved else None)
 
 -- what both change, where the one stands for the other; `same` says whether they are the same but for where they lead
 unfoldable pub paired : Known → Bool → Insn → Insn → Option Change

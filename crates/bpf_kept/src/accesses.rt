@@ -9,6 +9,7 @@ ghost use Rattle.bpf_semantics.specs.Flat.{addresses};
 ghost use Rattle.bpf_kept.specs.Rules.{is_address, same_size, is_folded, same_address, goes_alike, loads_alike, stores_alike, reached, put, stored_by, puts_slot, stores};
 ghost use Rattle.bpf_kept.specs.Knowns.{known_of};
 
+use crate::atomics::{Operation, fetches, is_atomic_of};
 use crate::commons::is_common;
 use crate::facts::{is_low, is_register, is_same, numbered, own, pinned, same_register};
 use crate::known::KnownHere;
@@ -81,14 +82,14 @@ fn same_address(facts: &[Fact], new: Displaced, old: Displaced) -> bool
 }
 
 /// Whether they are, and the bytes there are.
-fn goes_alike(known: &KnownHere<'_>, count: u8, new: Displaced, old: Displaced) -> bool
+pub fn goes_alike(known: &KnownHere<'_>, count: u8, new: Displaced, old: Displaced) -> bool
     ensures { result ≡ goes_alike (known_of known.now) count old.base old.off new.base new.off }
 {
     same_address(known.facts, new, old) && is_common(known, count, old, new)
 }
 
 /// Whether two sizes are the same.
-fn same_size(a: Size, b: Size) -> bool
+pub fn same_size(a: Size, b: Size) -> bool
     ensures { result ≡ same_size a b }
 {
     a.bytes() == b.bytes()
@@ -159,8 +160,8 @@ pub fn loads_alike(known: &KnownHere<'_>, insn: &Insn, moved: &Insn) -> bool
 // ---- stores
 
 /// Whether an instruction of the new program stores a register in this size, at the same address.
-fn is_store_of(facts: &[Fact], size: Size, to: Displaced, src: Reg, moved: &Insn) -> bool
-    ensures { result ≡ stores_alike facts.now (Store size to.base to.off src) moved.now }
+fn is_store_of(known: &KnownHere<'_>, size: Size, to: Displaced, src: Reg, moved: &Insn) -> bool
+    ensures { result ≡ stores_alike (known_of known.now) (Store size to.base to.off src) moved.now }
 {
     let Insn::Store {
         size: other,
@@ -173,13 +174,13 @@ fn is_store_of(facts: &[Fact], size: Size, to: Displaced, src: Reg, moved: &Insn
     };
     same_size(size, other)
         && same_register(src, from)
-        && is_same(facts, src)
-        && same_address(facts, Displaced { base, off }, to)
+        && is_same(known.facts, src)
+        && same_address(known.facts, Displaced { base, off }, to)
 }
 
 /// Whether it stores a constant.
-fn is_store_imm_of(facts: &[Fact], size: Size, to: Displaced, imm: i32, moved: &Insn) -> bool
-    ensures { result ≡ stores_alike facts.now (StoreImm size to.base to.off imm) moved.now }
+fn is_store_imm_of(known: &KnownHere<'_>, size: Size, to: Displaced, imm: i32, moved: &Insn) -> bool
+    ensures { result ≡ stores_alike (known_of known.now) (StoreImm size to.base to.off imm) moved.now }
 {
     let Insn::StoreImm {
         size: other,
@@ -190,12 +191,12 @@ fn is_store_imm_of(facts: &[Fact], size: Size, to: Displaced, imm: i32, moved: &
     else {
         return false;
     };
-    same_size(size, other) && imm == value && same_address(facts, Displaced { base, off }, to)
+    same_size(size, other) && imm == value && same_address(known.facts, Displaced { base, off }, to)
 }
 
 /// Whether one instruction stores what the other does, at the same address.
-fn stores_alike(facts: &[Fact], insn: &Insn, moved: &Insn) -> bool
-    ensures { result ≡ stores_alike facts.now insn.now moved.now }
+fn stores_alike(known: &KnownHere<'_>, insn: &Insn, moved: &Insn) -> bool
+    ensures { result ≡ stores_alike (known_of known.now) insn.now moved.now }
 {
     match *insn {
         Insn::Store {
@@ -203,17 +204,29 @@ fn stores_alike(facts: &[Fact], insn: &Insn, moved: &Insn) -> bool
             dst,
             off,
             src,
-        } => is_store_of(facts, size, Displaced { base: dst, off }, src, moved),
+        } => is_store_of(known, size, Displaced { base: dst, off }, src, moved),
         Insn::StoreImm {
             size,
             dst,
             off,
             imm,
-        } => is_store_imm_of(facts, size, Displaced { base: dst, off }, imm, moved),
+        } => is_store_imm_of(known, size, Displaced { base: dst, off }, imm, moved),
+        Insn::Atomic {
+            wide,
+            op,
+            dst,
+            off,
+            src,
+        } => is_atomic_of(
+            known,
+            Operation { wide, op, src },
+            Displaced { base: dst, off },
+            moved,
+        ),
         Insn::Alu { .. } | Insn::Neg { .. } | Insn::MovSx { .. } | Insn::End { .. } => false,
         Insn::LoadImm64 { .. } | Insn::Load { .. } | Insn::LoadSx { .. } => false,
-        Insn::Atomic { .. } | Insn::Ja { .. } | Insn::JaLong { .. } => false,
-        Insn::JumpIf { .. } | Insn::CallLocal { .. } | Insn::Exit => false,
+        Insn::Ja { .. } | Insn::JaLong { .. } | Insn::JumpIf { .. } => false,
+        Insn::CallLocal { .. } | Insn::Exit => false,
     }
 }
 
@@ -248,6 +261,25 @@ fn reached(left: u32, insn: &Insn, moved: &Insn) -> Option<Change>
             Displaced { base: dst, off },
             Displaced { base, off: at },
         ),
+        (
+            Insn::Atomic {
+                wide,
+                op,
+                dst,
+                off,
+                src,
+            },
+            Insn::Atomic {
+                dst: base,
+                off: at,
+                ..
+            },
+        ) => {
+            let old = Displaced { base: dst, off };
+            let new = Displaced { base, off: at };
+            let change = reaches(left, Size::of_word(wide).bytes(), old, new)?;
+            fetches(op.fetch_register(src), change)
+        }
         _ => None,
     }
 }
@@ -323,9 +355,9 @@ fn puts_slot(facts: &[Fact], insn: &Insn) -> Option<Change>
 
 /// What both store at one address.
 fn stores_there(known: &KnownHere<'_>, insn: &Insn, moved: &Insn) -> Option<Change>
-    ensures { result ≡ (if stores_alike known.now.facts.now insn.now moved.now then reached known.now.left insn.now moved.now else None) }
+    ensures { result ≡ (if stores_alike (known_of known.now) insn.now moved.now then reached known.now.left insn.now moved.now else None) }
 {
-    if stores_alike(known.facts, insn, moved) {
+    if stores_alike(known, insn, moved) {
         reached(known.left, insn, moved)
     } else {
         None

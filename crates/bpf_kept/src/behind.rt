@@ -6,16 +6,16 @@ ghost use Rattle.std.specs.Option.{option_map_or};
 ghost use Rattle.bpf_kept.specs.Terms.{is_noted};
 ghost use Rattle.bpf_kept.specs.Slots.{each_slot};
 ghost use Rattle.bpf_kept.specs.Rules.{is_holder, same_holder, gives};
-ghost use Rattle.bpf_kept.specs.Behind.{stays, pins, put_gives, made, made_gives, outlives, stored_gives, change_gives, holds_behind, is_parted, is_told, are_told};
+ghost use Rattle.bpf_kept.specs.Behind.{stays, pins, put_gives, made, made_gives, outlives, stored_gives, fetched_gives, change_gives, holds_behind, is_parted, is_told, are_told};
 ghost use Rattle.bpf_kept.specs.Knowns.{known_of};
 
-use crate::facts::{gives, is_holder, known_number, same_holder, stays};
+use crate::facts::{by_itself, gives, is_holder, known_number, same_holder, stays};
 use crate::known::{KnownHere, same_slot};
 use crate::made::made;
 use crate::notes::{Change, Fact, Holder, SLOTS, Term};
 use crate::slots::{is_clear, is_noted};
 use crate::terms::zero;
-use bpf_insn::Insn;
+use bpf_insn::{Insn, Reg};
 
 // ---- facts
 
@@ -107,6 +107,21 @@ fn stored_gives(facts: &[Fact], from: u32, to: u32, want: Fact) -> bool
         .any(|have| outlives(from, to, *have) && gives(*have, want))
 }
 
+/// Whether a fact gives it that is of neither such a slot nor the register into which both put what was there.
+fn unfetched_give(facts: &[Fact], from: u32, to: u32, h: Holder, want: Fact) -> bool
+    ensures { result ≡ list_any (λ have. (outlives from to have && stays h have) && gives have want) facts.now }
+{
+    facts.iter().any(|have| outlives(from, to, *have) && stays(h, *have) && gives(*have, want))
+}
+
+/// Whether it does, or that what was there is the same in both.
+fn fetched_gives(facts: &[Fact], from: u32, to: u32, into: Reg, want: Fact) -> bool
+    ensures { result ≡ fetched_gives facts.now from to into want }
+{
+    let h = Holder::Register(into);
+    gives(by_itself(h), want) || unfetched_give(facts, from, to, h, want)
+}
+
 /// Whether a change and the facts in front of it give what is wanted.
 fn change_gives(facts: &[Fact], change: Change, want: Fact) -> bool
     ensures { result ≡ change_gives facts.now change want }
@@ -115,6 +130,7 @@ fn change_gives(facts: &[Fact], change: Change, want: Fact) -> bool
         Change::Kept => is_given(facts, want),
         Change::Put { fact, pin } => put_gives(facts, fact, pin, want),
         Change::Stored { from, to } => stored_gives(facts, from, to, want),
+        Change::Fetched { from, to, into } => fetched_gives(facts, from, to, into, want),
         Change::Made { into, insn } => made_gives(facts, into, &insn, want),
     }
 }
@@ -136,7 +152,7 @@ fn is_parted(apart: &[bool], change: Change, n: u8) -> bool
     match change {
         Change::Put { fact, .. } => is_holder(Holder::Slot(n), fact.of) || is_noted(apart, n),
         Change::Made { into, .. } => same_holder(Holder::Slot(n), into) || is_noted(apart, n),
-        Change::Kept | Change::Stored { .. } => is_noted(apart, n),
+        Change::Kept | Change::Stored { .. } | Change::Fetched { .. } => is_noted(apart, n),
     }
 }
 

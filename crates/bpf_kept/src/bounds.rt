@@ -9,3 +9,12 @@ pub struct Bounds {
     pub turns: u64,
     pub untouched: u32,
 }
+
+/// Of how many turns it is said.
+#[derive(Clone, Copy, Debug, PartialEq, Eq)]
+pub enum Turns {
+    /// Of any number.
+    Any,
+    /// Of so many at most.
+    Most(u64),
+}

@@ -170,6 +170,9 @@ pub fn is_spared(change: Change, h: Holder) -> bool
             None => true,
         },
         Change::Stored { from, to } => is_clear(from, to, Some(h)),
+        Change::Fetched { from, to, into } => {
+            is_clear(from, to, Some(h)) && !same_holder(h, Holder::Register(into))
+        }
         Change::Made { into, .. } => !same_holder(h, into),
     }
 }
@@ -182,7 +185,8 @@ fn is_made(known: &KnownHere<'_>, change: Change, want: TurnsLeft) -> bool
         Change::Made { into, insn } => {
             same_holder(into, want.of) && makes_counter(known.turns, known.counters, &insn, want)
         }
-        Change::Kept | Change::Put { .. } | Change::Stored { .. } => false,
+        Change::Kept | Change::Put { .. } => false,
+        Change::Stored { .. } | Change::Fetched { .. } => false,
     }
 }
 

@@ -1,6 +1,6 @@
 //! Laws of the definitions, each as the contract of a function.
 
-ghost use Rattle.bpf_kept.specs.Laws.{FarIsPlacement, OneAddressIsContext, OneDistanceIsFrame, ZeroStartFits, ZeroStepIsStep, MatchingKeepsFlatMeaning, CertifiedKeepsFlatMeaning, OtherExitsAreTraps, ExactRunsAreFlat, FlatMeaningIsExact, NearAndWideAreFar, ZeroRunEnds, FlatMeaningIsFar};
+ghost use Rattle.bpf_kept.specs.Laws.{FarIsPlacement, OneAddressIsContext, OneDistanceIsFrame, ZeroStartFits, ZeroStepIsStep, MatchingKeepsFlatMeaning, CertifiedKeepsFlatMeaning, OtherExitsAreTraps, NoExitNoAnswer, ExactRunsAreFlat, FlatMeaningIsExact, NearAndWideAreFar, ZeroRunEnds, FlatMeaningIsFar};
 
 use bpf_safety::{certified_describes, certified_is_safe};
 use bpf_semantics::{finish_is_last, runs_are_one};
@@ -50,6 +50,13 @@ pub fn other_exits_are_traps()
 {
     finish_is_last();
     runs_are_one();
+}
+
+/// Where the certificate's check reaches no exit that stands for one of the old program's, that has no answer on contexts of so many bytes.
+pub fn no_exit_no_answer()
+    ensures { NoExitNoAnswer }
+{
+    certified_describes();
 }
 
 /// A run that ends on the exact machine ends on plain addresses with the same number, within the same bounds, wherever context and frames lie.

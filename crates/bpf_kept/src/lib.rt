@@ -4,6 +4,7 @@
 
 mod accesses;
 mod alike;
+mod atomics;
 mod behind;
 mod bounds;
 mod calls;
@@ -13,6 +14,7 @@ mod counters;
 mod cut;
 mod edges;
 mod entries;
+mod exits;
 mod facts;
 mod faults;
 mod guards;
@@ -29,16 +31,18 @@ mod slots;
 mod stands;
 mod states;
 mod terms;
+mod turns;
 mod ways;
 mod widened;
 
 pub use alike::{are_same, paired};
 pub use behind::{holds_behind, is_told};
-pub use bounds::Bounds;
+pub use bounds::{Bounds, Turns};
 pub use calls::{
     apart_waits, are_results, entered_facts, returned_counters, returned_facts, spares,
 };
 pub use counters::{counts_behind, is_spared};
+pub use exits::stands_for_exit;
 pub use facts::{by_itself, gives, is_holder, known_number, same_holder};
 pub use faults::judged_at;
 pub use guards::GuardSite;
@@ -48,7 +52,7 @@ pub use known::{
 };
 pub use laws::{
     certified_keeps_flat_meaning, exact_runs_are_flat, far_is_placement, flat_meaning_is_exact,
-    flat_meaning_is_far, matching_keeps_flat_meaning, near_and_wide_are_far,
+    flat_meaning_is_far, matching_keeps_flat_meaning, near_and_wide_are_far, no_exit_no_answer,
     one_address_is_context, one_distance_is_frame, other_exits_are_traps, zero_run_ends,
     zero_start_fits, zero_step_is_step,
 };
@@ -58,4 +62,5 @@ pub use pass::{begun, start_slot};
 pub use slots::{Displaced, slot_at};
 pub use stands::extra;
 pub use terms::{constant, frame_end, minus, plus, zero};
+pub use turns::{has_counter, turns_shown};
 pub use ways::is_dead;

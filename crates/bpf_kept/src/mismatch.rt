@@ -35,6 +35,8 @@ pub enum Mismatch {
     TooMany,
     /// The new program has no certificate for contexts of this length.
     Length,
+    /// No exit that stands for one of the old program's is reached.
+    NoExit,
 }
 
 impl NoteFault {
@@ -53,7 +55,7 @@ impl NoteFault {
 }
 
 impl Mismatch {
-    /// Its number: 1 for the orders, 2 for the start, the fault's, 8 for too many notes, 9 for the certificate.
+    /// Its number: 1 for the orders, 2 for the start, the fault's, 8 for too many notes, 9 for the certificate, 10 for the exits.
     pub fn number(self) -> u8
         ensures { result ≡ mismatch_number self }
     {
@@ -63,6 +65,7 @@ impl Mismatch {
             Mismatch::At { fault, .. } => fault.number(),
             Mismatch::TooMany => 8,
             Mismatch::Length => 9,
+            Mismatch::NoExit => 10,
         }
     }
 
@@ -72,14 +75,15 @@ impl Mismatch {
     {
         match self {
             Mismatch::At { old, .. } => old,
-            Mismatch::Order | Mismatch::Start | Mismatch::TooMany | Mismatch::Length => 0,
+            Mismatch::Order | Mismatch::Start | Mismatch::TooMany => 0,
+            Mismatch::Length | Mismatch::NoExit => 0,
         }
     }
 }
 
-/// What fails by the number of a mismatch: M1 to M9, in words, without the slot.
+/// What fails by the number of a mismatch: M1 to M10, in words, without the slot.
 pub fn mismatch_text(number: u32) -> Option<&'static str>
-    ensures numbered { IsSome result ↔ ((1 ≤ number) × (number ≤ 9)) }
+    ensures numbered { IsSome result ↔ ((1 ≤ number) × (number ≤ 10)) }
     ensures said { IfSome result (λ text. 0 < length text.now) }
     ensures words { MatchOption result (get_or mismatch_texts number [] ≡ []) (λ text. text.now ≡ get_or mismatch_texts number []) }
 {
@@ -95,6 +99,7 @@ pub fn mismatch_text(number: u32) -> Option<&'static str>
         7 => Some("the instruction leads elsewhere, or the notes ask for more there"),
         8 => Some("there are more notes than the new program has slots"),
         9 => Some("the new program has no certificate for contexts of this length"),
+        10 => Some("the old program comes to no exit on contexts of this length"),
         _ => None,
     }
 }

@@ -44,7 +44,7 @@ pub struct TurnsLeft {
 }
 
 /// How many counters are noted in front of an instruction.
-pub const COUNTERS: usize = 16;
+pub const COUNTERS: usize = 64;
 
 /// How many facts are noted in front of an instruction. That 0 is 0 fills what is left.
 pub const FACTS: usize = 24;
@@ -87,6 +87,8 @@ pub enum Change {
     Put { fact: Fact, pin: Option<Term> },
     /// Both programs store the same bytes at one address. In the own frame that may be any from one byte on, below another.
     Stored { from: u32, to: u32 },
+    /// They do, and both put what was there, which is the same, into a register.
+    Fetched { from: u32, to: u32, into: Reg },
     /// The new program alone puts what the instruction makes into a place.
     Made { into: Holder, insn: Insn },
 }

@@ -26,7 +26,7 @@ abbrev pub slots_noted : ℕ
 slots_noted = 64
 
 abbrev pub counters_noted : ℕ
-counters_noted = 16
+counters_noted = 64
 
 abbrev pub back_noted : ℕ
 back_noted = 2

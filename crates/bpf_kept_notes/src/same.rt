@@ -1,4 +1,4 @@
-//! Facts that one word says, that a register, a slot, the packet's length, or 0 is the same in both programs; and what no word says.
+//! Facts that one word says: that a register, a slot, the packet's length, or 0 is the same in both programs. And what no word says.
 
 ghost use Rattle.std.specs.Prelude.{◌≡◌};
 ghost use Rattle.bpf_kept.specs.Rules.{is_base};

@@ -1,4 +1,5 @@
 mod Course
 mod Noted
+mod EndLemmas
 mod ShownLemmas
 mod FaultLemmas

@@ -13,7 +13,7 @@ use Rattle.bpf_kept.specs.Mismatches.{IsEitherFault, FailsBy, IsAt, IsLowest}
 use Rattle.bpf_kept.specs.States.{States}
 use Rattle.bpf_kept.specs.declared.mismatch.NoteFault.{NoteFault}
 use Rattle.bpf_kept.specs.declared.mismatch.Mismatch.{Mismatch}
-use Rattle.bpf_kept.specs.declared.mismatch.Mismatch.TheVariants.{Order, TooMany, Start, At, Length}
+use Rattle.bpf_kept.specs.declared.mismatch.Mismatch.TheVariants.{Order, TooMany, Start, At, Length, NoExit}
 use Rattle.bpf_kept_pass.specs.Stretch.{HoldFrom, FailsFrom}
 
 module _ (old new : Instructions) (notes : Notes) (bounds : Bounds) where
@@ -82,6 +82,7 @@ module _ (old new : Instructions) (notes : Notes) (bounds : Bounds) where
           by = fault_stateless s (states at) at before fault nothing h.1;
         }
     second_fails slot count s (Err Length) two none first decides h = h
+    second_fails slot count s (Err NoExit) two none first decides h = h
 
     -- the lowest of these is the lowest of all
     pub lowest : (slot count : ℕ) (fault : Mismatch) → ((n : ℕ) → n < slot → Holds n) → FailsFrom old new notes bounds states slot count fault → IsAt (IsLowest old new notes bounds states) fault
@@ -90,6 +91,7 @@ module _ (old new : Instructions) (notes : Notes) (bounds : Bounds) where
     lowest slot count Start before h = h
     lowest slot count (At at old_slot fault) before h = (h.fails, λ n lt. elim (cases_lt n slot) [ inl less ↦ before n less | inr more ↦ h.lower n more lt ], h.by)
     lowest slot count Length before h = h
+    lowest slot count NoExit before h = h
 
     -- a slot at which it fails
     pub fails_somewhere : (slot count : ℕ) (fault : Mismatch) → FailsFrom old new notes bounds states slot count fault → ((n : ℕ) → Holds n) → ⊥
@@ -98,3 +100,4 @@ module _ (old new : Instructions) (notes : Notes) (bounds : Bounds) where
     fails_somewhere slot count Start h all = h
     fails_somewhere slot count (At at old_slot fault) h all = h.fails (all at)
     fails_somewhere slot count Length h all = h
+    fails_somewhere slot count NoExit h all = h

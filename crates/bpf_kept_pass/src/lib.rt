@@ -1,5 +1,5 @@
-//! Semantic preservation on plain addresses, by notes beside a certificate of the new program: a pass over the new program has at hand what the
-//! certificate's check knows in front of each instruction.
+//! Semantic preservation on plain addresses, by notes beside a certificate of the new program. A pass over the new program has at hand what the certificate's
+//! check knows in front of each instruction.
 #![tactic(auto)]
 
 mod pass;

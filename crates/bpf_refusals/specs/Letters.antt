@@ -2,11 +2,13 @@
 use Rattle.std.specs.Prelude.{◌≡◌, ◌≤◌, ◌==◌, ◌-◌, if◌then◌else◌, ℕ, List, [], Option, Some, None, get_or, length}
 use Rattle.bpf_insn.specs.RefusalNumbers.{image_texts}
 use Rattle.bpf_semantics.specs.ReasonNumbers.{reason_texts}
+use Rattle.bpf_classic.specs.Refused.{filter_texts}
 use Rattle.bpf_state.specs.Condition.{condition_texts}
 use Rattle.bpf_cert.specs.RefusalNumbers.{certificate_texts}
 use Rattle.bpf_infer_base.specs.RefusalNumbers.{infer_texts}
 use Rattle.bpf_kept.specs.Mismatches.{mismatch_texts}
-use Rattle.bpf_refusals.specs.Sentences.{text_texts, filter_texts, hardening_texts, notes_texts, capture_texts}
+use Rattle.bpf_captures.specs.Refused.{capture_texts}
+use Rattle.bpf_refusals.specs.Sentences.{text_texts, hardening_texts, notes_texts}
 use Rattle.bpf_refusals.specs.declared.letter.Letter.{Letter}
 use Rattle.bpf_refusals.specs.declared.letter.Letter.TheVariants.{Text, Classic, Check, Image, Fault, Hardening, Inference, Certificate, Mismatch, Notes, Capture}
 
@@ -45,7 +47,7 @@ texts_of Mismatch = mismatch_texts
 texts_of Notes = notes_texts
 texts_of Capture = capture_texts
 
--- there is such a refusal: A1 to A7, B1 to B10, C1 to C13, E1 to E10, F1 to F9, H1 to H15, I1 to I5, K1 to K5, M1 to M9, N1 and N2, P1 to P5
+-- there is such a refusal: A1 to A7, B1 to B10, C1 to C13, E1 to E10, F1 to F9, H1 to H15, I1 to I5, K1 to K5, M1 to M10, N1 and N2, P1 to P5
 abbrev pub IsNumbered : Letter → ℕ → Type 0
 IsNumbered letter number = (1 ≤ number) × (number ≤ length (texts_of letter) - 1)
 

@@ -15,22 +15,6 @@ text_texts =
     codes "out of memory" ∷
     []
 
--- why no program is made of a filter, B1 to B10
-abbrev pub filter_texts : List (List ℕ)
-filter_texts =
-    [] ∷
-    codes "a filter has from 1 to 4,096 instructions" ∷
-    codes "no instruction of classic BPF has this code" ∷
-    codes "the scratch memory has the cells M[0] to M[15] alone" ∷
-    codes "it divides by the constant 0, or shifts by a constant of 32 or more" ∷
-    codes "it leads past the last instruction, or back past the first" ∷
-    codes "a seccomp filter loads aligned words of its 64 bytes alone, by constant offsets, and has no mod and no jump back" ∷
-    codes "it loads one of Linux's extensions, which a packet doesn't hold" ∷
-    codes "the bytes end inside of an instruction: each has 8" ∷
-    codes "out of memory" ∷
-    codes "the program that was made isn't shown to keep the filter's answers" ∷
-    []
-
 -- why a program isn't hardened or certified, H1 to H15
 abbrev pub hardening_texts : List (List ℕ)
 hardening_texts =
@@ -46,15 +30,4 @@ notes_texts =
     [] ∷
     codes "the line has no form of a line of notes" ∷
     codes "out of memory" ∷
-    []
-
--- why a file is no capture of packets, P1 to P5
-abbrev pub capture_texts : List (List ℕ)
-capture_texts =
-    [] ∷
-    codes "the file is shorter than the 24 bytes of a capture file's header: capture anew" ∷
-    codes "the file is of the form pcapng: `editcap -F pcap FILE NEW` writes one of the form pcap" ∷
-    codes "the file begins with none of the numbers a1b2c3d4 and a1b23c4d of a capture file: `tcpdump -w FILE` writes one" ∷
-    codes "the file ends within a record" ∷
-    codes "the file can't be read" ∷
     []

@@ -168,7 +168,7 @@ impl Tells for CertError {
     }
 }
 
-/// M1 to M9.
+/// M1 to M10.
 impl Tells for Mismatch {
     ghost use Rattle.bpf_refusals.specs.Told.{told_mismatch};
 

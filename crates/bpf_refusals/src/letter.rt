@@ -3,10 +3,10 @@
 ghost use Rattle.std.specs.Prelude.{◌≡◌, ◌<◌, ◌↔◌, [], ◌∷◌, IsSome, IfSome, MatchOption, length};
 ghost use Rattle.bpf_refusals.specs.Letters.{IsNumbered, LettersDiffer, code_of, letter_of, sentence_of};
 
-use crate::sentences::{
-    capture_sentence, filter_sentence, hardening_sentence, notes_sentence, text_sentence,
-};
+use crate::sentences::{hardening_sentence, notes_sentence, text_sentence};
+use bpf_captures::CaptureError;
 use bpf_cert::CertError;
+use bpf_classic::FilterRefusal;
 use bpf_infer_base::InferError;
 use bpf_insn::DecodeError;
 use bpf_kept::mismatch_text;
@@ -111,7 +111,7 @@ impl Letter {
     {
         match self {
             Letter::Text => text_sentence(number),
-            Letter::Classic => filter_sentence(number),
+            Letter::Classic => FilterRefusal::text_numbered(number),
             Letter::Check => Condition::text_numbered(number),
             Letter::Image => DecodeError::text_numbered(number),
             Letter::Fault => Reason::text_numbered(number),
@@ -120,7 +120,7 @@ impl Letter {
             Letter::Certificate => CertError::text_numbered(number),
             Letter::Mismatch => mismatch_text(number),
             Letter::Notes => notes_sentence(number),
-            Letter::Capture => capture_sentence(number),
+            Letter::Capture => CaptureError::text_numbered(number),
         }
     }
 }

@@ -1,7 +1,7 @@
-//! What the refusals say whose crates have no table: A, B, N and P, and H13 to H15.
+//! What the refusals say whose crates have no table: A and N, and H13 to H15.
 
 ghost use Rattle.std.specs.Prelude.{◌≡◌, ◌<◌, ◌≤◌, ◌↔◌, [], IsSome, IfSome, MatchOption, get_or, length};
-ghost use Rattle.bpf_refusals.specs.Sentences.{capture_texts, filter_texts, hardening_texts, notes_texts, text_texts};
+ghost use Rattle.bpf_refusals.specs.Sentences.{hardening_texts, notes_texts, text_texts};
 
 use crate::told::{NOT_SHOWN, TOO_DEAR, UNCERTIFIED};
 use bpf_changes::HardenError;
@@ -20,29 +20,6 @@ pub fn text_sentence(number: u32) -> Option<&'static str>
         5 => Some("the label on the line is too far away"),
         6 => Some("the instructions are no program"),
         7 => Some("out of memory"),
-        _ => None,
-    }
-}
-
-/// Why no program is made of a filter.
-pub fn filter_sentence(number: u32) -> Option<&'static str>
-    ensures numbered { IsSome result ↔ ((1 ≤ number) × (number ≤ 10)) }
-    ensures said { IfSome result (λ text. 0 < length text.now) }
-    ensures words { MatchOption result (get_or filter_texts number [] ≡ []) (λ text. text.now ≡ get_or filter_texts number []) }
-{
-    match number {
-        1 => Some("a filter has from 1 to 4,096 instructions"),
-        2 => Some("no instruction of classic BPF has this code"),
-        3 => Some("the scratch memory has the cells M[0] to M[15] alone"),
-        4 => Some("it divides by the constant 0, or shifts by a constant of 32 or more"),
-        5 => Some("it leads past the last instruction, or back past the first"),
-        6 => Some(
-            "a seccomp filter loads aligned words of its 64 bytes alone, by constant offsets, and has no mod and no jump back",
-        ),
-        7 => Some("it loads one of Linux's extensions, which a packet doesn't hold"),
-        8 => Some("the bytes end inside of an instruction: each has 8"),
-        9 => Some("out of memory"),
-        10 => Some("the program that was made isn't shown to keep the filter's answers"),
         _ => None,
     }
 }
@@ -73,26 +50,6 @@ pub fn notes_sentence(number: u32) -> Option<&'static str>
     match number {
         1 => Some("the line has no form of a line of notes"),
         2 => Some("out of memory"),
-        _ => None,
-    }
-}
-
-/// Why a file is no capture of packets.
-pub fn capture_sentence(number: u32) -> Option<&'static str>
-    ensures numbered { IsSome result ↔ ((1 ≤ number) × (number ≤ 5)) }
-    ensures said { IfSome result (λ text. 0 < length text.now) }
-    ensures words { MatchOption result (get_or capture_texts number [] ≡ []) (λ text. text.now ≡ get_or capture_texts number []) }
-{
-    match number {
-        1 => Some("the file is shorter than the 24 bytes of a capture file's header: capture anew"),
-        2 => Some(
-            "the file is of the form pcapng: `editcap -F pcap FILE NEW` writes one of the form pcap",
-        ),
-        3 => Some(
-            "the file begins with none of the numbers a1b2c3d4 and a1b23c4d of a capture file: `tcpdump -w FILE` writes one",
-        ),
-        4 => Some("the file ends within a record"),
-        5 => Some("the file can't be read"),
         _ => None,
     }
 }

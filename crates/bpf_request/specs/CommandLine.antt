@@ -79,7 +79,7 @@ name_of Several = []
 abbrev pub IsReplaying : List Row → Replaying → Type 0
 IsReplaying rows r =
     IsInput rows r.input.now r.order × (r.certificate.now ≡ word_of (codes "CERT") rows) × (option_map (λ s. s.now) r.packets ≡ first_of (codes "packets") rows)
-    × AreContexts rows r.contexts × IsFlag (one_of (codes "counts") rows) r.counts
+    × AreContexts rows r.contexts × IsFlag (one_of (codes "counts") rows) r.counts × (option_map (λ s. s.now) r.notes ≡ first_of (codes "notes") rows)
 
 -- what CERT, `--infer`, `--most`, `--deep`, `--harden`, `--padded`, `--slot`, `--text` and `--dot` want explained
 abbrev pub IsSubject : List Row → Subject → Type 0
@@ -174,11 +174,13 @@ Asks name rows (ListOf l) =
 Asks name rows (Run r) =
     (name ≡ codes "run") × IsInput rows r.input.now r.order × AreContexts rows r.contexts
     × IsCount 32 0 (one_of (codes "steps") rows) r.steps × IsNumber (one_of (codes "trace") rows) r.trace
+    × (option_map (λ s. s.now) r.notes ≡ first_of (codes "notes") rows)
 Asks name rows (Check c) =
     (name ≡ codes "check") × IsInput rows c.input.now c.order × (c.certificate.now ≡ word_of (codes "CERT") rows) × IsFlag (one_of (codes "work") rows) c.work
 Asks name rows (RunChecked r) =
     (name ≡ codes "run-checked") × IsInput rows r.input.now r.order × (r.certificate.now ≡ word_of (codes "CERT") rows) × AreContexts rows r.contexts
     × (first_of (codes "packets") rows ≡ None) × IsFlag (one_of (codes "counts") rows) false
+    × (option_map (λ s. s.now) r.notes ≡ first_of (codes "notes") rows)
 Asks name rows (Replay r) = (name ≡ codes "run-checked") × IsReplaying rows r × ((is_some r.packets || r.counts) ≡ true)
 Asks name rows (Infer i) = (name ≡ codes "infer") × IsInferring rows i
 Asks name rows (Harden hardening) = (name ≡ codes "harden") × IsHardening rows hardening

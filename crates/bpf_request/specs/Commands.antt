@@ -65,7 +65,7 @@ abbrev pub run_places : App
 run_places = with_rule (new_app (codes "run")) (place (codes "IN"))
 
 abbrev pub run : App
-run = with_rule (with_rule (with_rule (with_contexts run_places) steps) trace) big
+run = with_rule (with_rule (with_rule (with_rule (with_contexts run_places) steps) trace) (option (codes "notes"))) big
 
 abbrev pub top : App
 top = let named = new_app (codes "bpf") in record named { top = record named.top { has_version = true; subcommand_required = true } }
@@ -81,7 +81,8 @@ abbrev pub run_checked_places : App
 run_checked_places = with_rule (with_rule (new_app (codes "run-checked")) (place (codes "IN"))) (place (codes "CERT"))
 
 abbrev pub run_checked : App
-run_checked = with_rule (with_rule (with_rule (with_contexts run_checked_places) (option (codes "packets"))) (flag (codes "counts"))) big
+run_checked =
+    with_rule (with_rule (with_rule (with_rule (with_contexts run_checked_places) (option (codes "packets"))) (flag (codes "counts"))) (option (codes "notes"))) big
 
 -- the required word `LEN`, a number up to the most bytes of a context
 abbrev pub context_length : Rule

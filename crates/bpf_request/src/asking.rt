@@ -28,13 +28,15 @@ pub struct Listing<'a> {
     pub order: Order,
 }
 
-/// Which image is to be run, on which contexts, for at most so many instructions each, and how many lines are told of each run's last steps.
+/// Which image is to be run, on which contexts, for at most so many instructions each, how many lines are told of each run's last steps, and the
+/// name of the notes by which traps are told.
 #[derive(Clone, Copy)]
 pub struct Running<'a> {
     pub input: &'a str,
     pub contexts: Contexts<'a>,
     pub steps: u32,
     pub trace: Option<u32>,
+    pub notes: Option<&'a str>,
     pub order: Order,
 }
 
@@ -47,12 +49,13 @@ pub struct Checking<'a> {
     pub order: Order,
 }
 
-/// Which image is to be run, on which contexts, once its certificate certifies it.
+/// Which image is to be run, on which contexts, once its certificate certifies it, and the name of the notes by which traps are told.
 #[derive(Clone, Copy)]
 pub struct CheckedRunning<'a> {
     pub input: &'a str,
     pub certificate: &'a str,
     pub contexts: Contexts<'a>,
+    pub notes: Option<&'a str>,
     pub order: Order,
 }
 

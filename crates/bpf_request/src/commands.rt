@@ -10,7 +10,7 @@ use clap::Command;
 use std::alloc::{AllocError, Global};
 
 /// The command's version, and in a line of its own the kit that it is proved with, as `rt version` names it.
-const VERSION: &str = "0.3.2\nrattle-kit-13f logic dac8208d650f15bf";
+const VERSION: &str = "0.3.3\nrattle-kit-13f logic dac8208d650f15bf";
 
 /// A command with what was added to it, or the want of memory that ended that.
 type Grown<'a> = Result<Command<'a>, AllocError>;

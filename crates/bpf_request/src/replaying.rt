@@ -16,5 +16,7 @@ pub struct Replaying<'a> {
     pub contexts: Contexts<'a>,
     /// Each different answer is told once, with how often it came; else each packet's answer is.
     pub counts: bool,
+    /// The name of notes: none, where the words go together.
+    pub notes: Option<&'a str>,
     pub order: Order,
 }

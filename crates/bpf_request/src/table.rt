@@ -40,6 +40,11 @@ const COUNTS: Argument = Flag(
     "with --packets: prints each different result once, and how often it came",
 );
 
+const NOTED: Argument = Named(
+    "notes",
+    "the notes of IN: says where a run ends at a trap; not with --packets",
+);
+
 const LENGTH: Argument = Length("the length of the contexts in bytes, at most 4096");
 
 /// The greatest length of the contexts of a certificate.
@@ -111,6 +116,7 @@ pub const FIRST: [Entry; 4] = [
             CONTEXTS,
             Steps("the most instructions that are done"),
             Trace("the last steps of each run on standard error, at most N lines, else 1000"),
+            NOTED,
             BIG,
         ],
     },
@@ -139,6 +145,7 @@ pub const SECOND: [Entry; 4] = [
             CONTEXTS,
             PACKETS,
             COUNTS,
+            NOTED,
             BIG,
         ],
     },

@@ -277,6 +277,7 @@ fn replaying_in<'a>(matches: &ArgMatches<'a>) -> Replaying<'a>
         packets: word_if(matches, "packets"),
         contexts: contexts_of(matches),
         counts: has_flag(matches, "counts"),
+        notes: word_if(matches, "notes"),
         order: order_of(matches),
     }
 }
@@ -291,6 +292,7 @@ fn run_checked_in<'a>(matches: &ArgMatches<'a>) -> Request<'a>
             input: asked.input,
             certificate: asked.certificate,
             contexts: asked.contexts,
+            notes: asked.notes,
             order: asked.order,
         }),
         (Some(_), _) | (None, true) => Request::Replay(asked),
@@ -320,6 +322,7 @@ fn request_in<'a>(name: &str, matches: &ArgMatches<'a>) -> Request<'a>
             contexts: contexts_of(matches),
             steps: number(matches, "steps", 0),
             trace: number_if(matches, "trace"),
+            notes: word_if(matches, "notes"),
             order,
         }),
         "check" => Request::Check(Checking {

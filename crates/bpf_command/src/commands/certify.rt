@@ -91,6 +91,7 @@ fn retold(asked: Certifying<'_>, rewritten: &Rewritten) -> Rewriting
 {
     Rewriting {
         turns: rewritten.turns,
+        told: rewritten.told(),
         padded: asked.padded,
         untouched: rewritten.untouched,
         is_shown: rewritten.is_shown,
@@ -235,9 +236,9 @@ fn assess<'a, P: Places>(
     Ok(Assessment::Passed(told))
 }
 
-/// Writes the image of a program that has a certificate within the bound that is asked for: the program as it stands, or hardened; and its
-/// certificate, notes that `follows` reads, and what was done. The places for them are made only where there is something to write. The lines of
-/// the source are read first.
+/// Writes the image of a program that has a certificate within the bound that is asked for: the program as it stands, or hardened. It writes its certificate,
+/// notes that `follows` reads, and what was done, too. The places for them are made only where there is something to write. The lines of the source are read
+/// first.
 pub fn certified<'a, P: Places>(
     alloc: Global,
     places: &mut P,

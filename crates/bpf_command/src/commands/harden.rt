@@ -5,6 +5,7 @@ ghost use Rattle.std.specs.String.{string_bytes};
 ghost use Rattle.bpf_insn.specs.Instruction.{slots};
 ghost use Rattle.bpf_insn.specs.Image.{IsProgram};
 ghost use Rattle.bpf_changes.specs.RefusalNumbers.{harden_slot};
+ghost use Rattle.bpf_kept.specs.Matching.{shown_turns};
 ghost use Rattle.bpf_harden_kept.specs.Evidence.{IsEvidence};
 ghost use Rattle.bpf_command.specs.Hardened.{AreLeft, HardenFails, HardenSays, IsLeftSaid, IsNoted, IsUnshown, NotAllMade, asked_bytes, attempt_answer, bounds_of, found_text, goes_out, texts_of};
 ghost use Rattle.bpf_command.specs.Texts.{TextsFail, TextsStand, named};
@@ -15,7 +16,7 @@ use bpf_answers::{Answer, DONE, Failure, Places, program_at, put};
 use bpf_harden::{HardenError, Hardened, Options, harden};
 use bpf_harden_kept::{Evidence, evidence_for, evidence_of};
 use bpf_insn::{Code, DecodeError, MAX_CONTEXT, Program};
-use bpf_kept::{Bounds, Mismatch};
+use bpf_kept::{Bounds, Mismatch, Turns, turns_shown};
 use bpf_request::Hardening;
 use std::alloc::{AllocError, Global};
 
@@ -24,6 +25,8 @@ use std::alloc::{AllocError, Global};
 pub struct KeptMeaning {
     /// The contexts and runs of which it is judged.
     pub bounds: Bounds,
+    /// Of how many turns, where the notes show it.
+    pub turns: Turns,
     /// What fails of the notes; None where they show that the program keeps the meaning.
     pub mismatch: Option<Mismatch>,
     /// The bytes of each frame that runs leave to r10, where they are some and nobody asked for them.
@@ -144,8 +147,8 @@ fn is_free(asked: Hardening<'_>) -> bool {
     taken[0] != "-" && taken[1] != "-" && taken[2] != "-" && taken[3] != "-"
 }
 
-/// Notes of a hardened program beside its certificate, for the runs that are asked for. Where nothing is said of untouched bytes, and it can be told, they are for each
-/// run, or for those that leave the bytes to r10 that hardening takes.
+/// Notes of a hardened program beside its certificate, for the runs that are asked for. Where nothing is said of untouched bytes, and it can be told, they
+/// are for each run. Or they are for those that leave the bytes to r10 that hardening takes.
 fn evidence(
     alloc: Global,
     program: &Program,
@@ -191,7 +194,7 @@ fn goes_out(asked: Hardening<'_>, mismatch: Mismatch) -> bool
     match mismatch {
         Mismatch::Length => asked.unproved && asked.certificate.is_none(),
         Mismatch::Order | Mismatch::Start | Mismatch::TooMany => asked.unproved,
-        Mismatch::At { .. } => asked.unproved,
+        Mismatch::At { .. } | Mismatch::NoExit => asked.unproved,
     }
 }
 
@@ -213,6 +216,13 @@ fn shown(
         Some(mismatch) if !goes_out(asked, mismatch) => Err(UnshownMeaning::Differs(mismatch)),
         Some(_) | None => Ok(found),
     }
+}
+
+/// Of how many turns the notes speak.
+fn turns_of(found: &Evidence, bounds: Bounds) -> Turns
+    ensures { result ≡ shown_turns found.now.notes.items bounds.turns }
+{
+    turns_shown(&found.notes, bounds.turns)
 }
 
 /// What goes behind a hardened image, and what is shown of it.
@@ -240,6 +250,7 @@ fn notes_for(
         beside: SideTexts { notes, changes },
         kept: KeptMeaning {
             bounds,
+            turns: turns_of(&found, bounds),
             mismatch: found.mismatch,
             said: said_of(asked, found.untouched),
         },

@@ -130,7 +130,10 @@ unsafe extern "C" {
 }
 
 /// The version of the library that these functions are of, as BPF_HOST_VERSION of bpf.h.
-pub const VERSION: u32 = 302;
+pub const VERSION: u32 = 303;
+
+/// BPF_ANY_TURNS of bpf.h.
+const ANY_TURNS: u32 = u32::MAX;
 
 /// `struct bpf_wish` of bpf.h.
 #[repr(C)]
@@ -465,8 +468,8 @@ impl Default for Wish {
 /// How an image was hardened.
 #[derive(Clone, Copy, Debug, PartialEq, Eq)]
 pub struct Rewriting {
-    /// It is shown of runs of the old image that come to no instruction more often.
-    pub turns: u32,
+    /// It is shown of runs of the old image that come to no instruction more often; of all, where this is None.
+    pub turns: Option<u32>,
     /// And that leave so many of the lowest bytes of each frame to r10.
     pub untouched: u32,
     /// Whether it is shown that the new image keeps the meaning of the old one, on those runs.
@@ -529,7 +532,7 @@ pub fn certify(image: &[u8], order: Order, size: u32, wish: &Wish) -> Result<Cer
         certificate: text,
         bound: told.bound,
         rewriting: (told.is_rewritten == 1).then_some(Rewriting {
-            turns: told.turns,
+            turns: (told.turns != ANY_TURNS).then_some(told.turns),
             untouched: told.untouched,
             is_shown: told.is_shown == 1,
         }),

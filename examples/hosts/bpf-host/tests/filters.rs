@@ -160,7 +160,7 @@ fn certifies_images() {
     };
     let made = certify(&nth, Order::Little, 16, &asked).unwrap();
     let hardened = Rewriting {
-        turns: 3,
+        turns: None,
         untouched: 0,
         is_shown: true,
     };

@@ -1,5 +1,6 @@
-use Rattle.std.proofs.Common.{◌≡◌, ◌+◌, ◌<◌, ℕ, Option, refl, sym, ap, subst, ◌∙◌, arith, inl, inr}
-use Rattle.std.specs.Prelude.{option_map, option_copied, IfSome}
+use Rattle.std.proofs.Common.{◌≡◌, ◌+◌, ◌<◌, ◌⊎◌, ℕ, true, Option, refl, sym, ap, subst, ◌∙◌, arith, inl, inr}
+use Rattle.std.specs.Prelude.{◌↔◌, IsTrue, option_map, option_copied, IfSome}
+use Rattle.std.specs.Option.{is_some}
 use Rattle.std.proofs.lemmas.Bool.{cases_lt}
 use Rattle.bpf_insn.specs.Instruction.{Instructions, slot_count}
 use Rattle.bpf_insn.specs.declared.instruction.Insn.{Insn}
@@ -11,8 +12,10 @@ use Rattle.bpf_check.specs.code.Sites.{IsSpot}
 use Rattle.bpf_check.specs.code.Visits.{passed_with}
 use Rattle.bpf_kept.specs.Mismatches.{IsAt, IsLowest}
 use Rattle.bpf_kept.specs.States.{states_of}
-use Rattle.bpf_kept_pass.proofs.Course.{IsThere, IsAtInsn, at_insn, at_end}
+use Rattle.bpf_kept.specs.Matching.{StandsForExit}
+use Rattle.bpf_kept_pass.proofs.Course.{IsThere, IsAtInsn, at_insn, at_end, few_slots}
 use Rattle.bpf_kept_pass.proofs.Noted.{past, further, lowest, fails_somewhere}
+use Rattle.bpf_kept_pass.proofs.EndLemmas.{EndsBefore, ends_further, ends_in_all}
 use Rattle.bpf_kept_pass.proofs.FaultLemmas.{handed_on, not_ok}
 use Rattle.bpf_kept_pass.proofs.pass.all_hold.Goals as goal
 
@@ -37,6 +40,12 @@ module _ (p : Instructions) (k : CertificateView) where
   there_next : (slot next : ℕ) (passed after onward : Option Arrival) (i : Insn) → IsAtInsn p k slot passed i → after ≡ arrives k slot passed → onward ≡ passed_with p k slot i after → next ≡ slot + slot_count i → IsThere p k next onward
   there_next slot next passed after onward i w after_is onward_is next_is =
       subst (λ n. IsThere p k n onward) (sym next_is) (subst (IsThere p k (slot + slot_count i)) (sym (onward_is ∙ ap (passed_with p k slot i) after_is)) w.next)
+
+pub returns-clause-ends : goal.returns-clause-ends
+returns-clause-ends g c =
+    let p = g.N.Code.program c.args.new.now in
+    let end = at_end p c.args.certificate.now c.insns.here.slot (walk_of c.insns.walk) c.insns.invariant.there c.in_default.ensures in
+    ends_in_all (g.O.Code.program c.args.old.now) c.args.notes.now (states_of p c.args.certificate.now) c.insns.ends c.insns.here.slot (omega arith) c.insns.invariant.ends
 
 pub hold_here-requires-clause-second : goal.hold_here-requires-clause-second
 hold_here-requires-clause-second g c n some few =
@@ -97,4 +106,8 @@ insns-preserved g c =
       holds = λ n lt.
           further old p c.args.notes.now c.args.bounds (states_of p k) slot c.slots.result c.insns.invariant.holds (c.in_ok-hold_here.ensures.ok (states_of p k) state refl) n
           (subst (λ m. n < m) (next ∙ ap (λ m. slot + m) (sym c.slots.ensures)) lt);
+      ends = subst (λ m. IsTrue c.ends_by-ends.result ↔ EndsBefore old c.args.notes.now (states_of p k) m) (sym (next ∙ ap (λ m. slot + m) (sym c.slots.ensures)))
+          (ends_further old p c.args.notes.now c.args.bounds (states_of p k) slot c.slots.result c.insns.ends c.ends_by-ends.result (let few = few_slots insn in omega (arith, c.slots.ensures)) c.insns.invariant.ends
+          (subst (λ s. IsTrue c.ends_by-ends.result ↔ (IsTrue c.insns.ends ⊎ ((is_some s ≡ true) × StandsForExit old c.args.notes.now slot))) (sym state) c.ends_by-ends.ensures)
+          (λ n some few. w.second n some (omega (arith, c.slots.ensures))) (c.in_ok-hold_here.ensures.ok (states_of p k) state refl));
     }

@@ -1,5 +1,5 @@
 use Rattle.std.proofs.Common.{rules}
-use Rattle.bpf_command_core.proofs.run.ran_on.Goals as goal
+use Rattle.bpf_command_core.proofs.run.ran_given.Goals as goal
 
 pub returns-in-Lines-clause-ok : goal.returns-in-Lines-clause-ok
 returns-in-Lines-clause-ok g c = search rules

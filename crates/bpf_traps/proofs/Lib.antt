@@ -1,0 +1,3 @@
+pub mod ExitLemmas
+pub mod TrapLaws
+pub mod StandLemmas
