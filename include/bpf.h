@@ -19,8 +19,8 @@
 extern "C" {
 #endif
 
-/* The version of this header, 0.3.3, as one number: 10,000 times its first part, 100 times its second, and its third, together. */
-#define BPF_HOST_VERSION 303
+/* The version of this header, 0.3.4, as one number: 10,000 times its first part, 100 times its second, and its third, together. */
+#define BPF_HOST_VERSION 304
 
 /* The greatest image that there is, in bytes. */
 enum { BPF_IMAGE_MOST = 524288 };
@@ -139,6 +139,29 @@ struct bpf_converted {
     uint32_t bound;         /* the greatest number of instructions of a run: the longest way through the program */
 };
 
+/* What is asked of bpf_host_harden, bpf_host_certify and bpf_host_convert: the numbers that the calls below are handed. */
+struct bpf_harden_asked {
+    uint32_t size;
+    uint32_t turns;
+    uint64_t otherwise;
+    uint32_t padded;
+    uint32_t unproved;
+    uint32_t untouched;
+};
+
+struct bpf_certify_asked {
+    uint32_t order;
+    uint32_t size;
+    struct bpf_wish wish;
+};
+
+struct bpf_convert_asked {
+    uint32_t filter_order;
+    uint32_t form;
+    uint32_t size;
+    uint32_t order;
+};
+
 /* ---- the library's functions. In C and C++ call those below them, which look at what they are handed; from other languages these: no
  * pointer is null, also where its length is 0 (then any that is aligned does), `memory` is aligned to 8 bytes and its length counts bytes,
  * and no bytes that are read are those that are written. */
@@ -166,18 +189,16 @@ int32_t bpf_host_follows(const uint8_t *old_image, size_t old_len, const uint8_t
 int32_t bpf_host_ends_at_trap(const uint8_t *image, size_t image_len, uint32_t order, const uint8_t *notes, size_t notes_len,
                               const uint8_t *context, size_t context_len, uint64_t most, uint32_t *trap, struct bpf_refusal *refusal);
 size_t bpf_host_convert_size(size_t count);
-int32_t bpf_host_convert(const uint8_t *filter, size_t filter_len, uint32_t filter_order, uint32_t form, uint32_t size, uint32_t order,
-                         uint8_t *made, size_t made_len, uint8_t *text, size_t text_len, struct bpf_converted *converted,
-                         struct bpf_refusal *refusal);
+int32_t bpf_host_convert(const uint8_t *filter, size_t filter_len, const struct bpf_convert_asked *asked, uint8_t *made, size_t made_len,
+                         uint8_t *text, size_t text_len, struct bpf_converted *converted, struct bpf_refusal *refusal);
 size_t bpf_host_infer_size(size_t image_len);
 size_t bpf_host_explain_size(size_t image_len, size_t certificate_len, size_t lines_len);
 int32_t bpf_host_infer(const uint8_t *image, size_t image_len, uint32_t order, uint32_t least, uint32_t most, uint32_t deep,
                        uint8_t *text, size_t text_len, size_t *wanted, struct bpf_refusal *refusal);
-int32_t bpf_host_harden(const uint8_t *image, size_t image_len, uint32_t order, uint32_t size, uint32_t turns, uint64_t otherwise,
-                        uint32_t padded, uint32_t unproved, uint32_t untouched, uint8_t *text, size_t text_len, size_t *wanted,
-                        struct bpf_refusal *refusal);
-int32_t bpf_host_certify(const uint8_t *image, size_t image_len, uint32_t order, uint32_t size, const struct bpf_wish *wish, uint8_t *made,
-                         size_t made_len, uint8_t *text, size_t text_len, struct bpf_certified *certified, struct bpf_refusal *refusal);
+int32_t bpf_host_harden(const uint8_t *image, size_t image_len, uint32_t order, const struct bpf_harden_asked *asked, uint8_t *text,
+                        size_t text_len, size_t *wanted, struct bpf_refusal *refusal);
+int32_t bpf_host_certify(const uint8_t *image, size_t image_len, const struct bpf_certify_asked *asked, uint8_t *made, size_t made_len,
+                         uint8_t *text, size_t text_len, struct bpf_certified *certified, struct bpf_refusal *refusal);
 int32_t bpf_host_explain(const uint8_t *image, size_t image_len, uint32_t order, const uint8_t *certificate, size_t certificate_len,
                          uint32_t aspect, uint32_t slot, const uint8_t *lines, size_t lines_len, uint8_t *text, size_t text_len,
                          size_t *wanted, struct bpf_refusal *refusal);
@@ -437,16 +458,21 @@ struct bpf_hardening {
  * by bpf_infer, and judged by bpf_load or bpf_verify. */
 static inline int32_t bpf_harden(const void *image, size_t image_len, uint32_t order, uint32_t size, const struct bpf_hardening *asked,
                                  void *hardened, size_t hardened_len, size_t *wanted, struct bpf_refusal *refusal) {
-    struct bpf_hardening usual = {65536, 0, 0, 0, 0};
+    struct bpf_harden_asked wish = {size, 65536, 0, 0, 0, 0};
     struct bpf_refusal why = {0, 0, 0, 0};
     size_t count = 0;
     uint8_t none = 0;
     int32_t answer;
     if (!bpf_are_bytes(image, image_len) || !bpf_are_bytes(hardened, hardened_len)) return BPF_BAD_MEMORY;
     if (!bpf_may_tell(hardened, hardened_len, wanted, refusal, image, image_len)) return BPF_BAD_MEMORY;
-    if (!asked) asked = &usual;
-    answer = bpf_host_harden(bpf_bytes(image), image_len, order, size, asked->turns ? asked->turns : usual.turns, asked->otherwise, asked->padded,
-                             asked->unproved, asked->untouched, hardened ? (uint8_t *)hardened : &none, hardened_len, &count, &why);
+    if (asked) {
+        if (asked->turns) wish.turns = asked->turns;
+        wish.otherwise = asked->otherwise;
+        wish.padded = asked->padded;
+        wish.unproved = asked->unproved;
+        wish.untouched = asked->untouched;
+    }
+    answer = bpf_host_harden(bpf_bytes(image), image_len, order, &wish, hardened ? (uint8_t *)hardened : &none, hardened_len, &count, &why);
     if ((answer == BPF_YES || answer == BPF_TOO_SMALL) && wanted) *wanted = count;
     if (answer == BPF_NO && refusal) *refusal = why;
     return answer;
@@ -463,7 +489,7 @@ static inline int32_t bpf_harden(const void *image, size_t image_len, uint32_t o
  * `made` or `text` that lies in the image or in the other one, or an answer that lies in one of the three. */
 static inline int32_t bpf_certify(const void *image, size_t image_len, uint32_t order, uint32_t size, const struct bpf_wish *wish, void *made,
                                   size_t made_len, char *text, size_t text_len, struct bpf_certified *certified, struct bpf_refusal *refusal) {
-    struct bpf_wish asked = {1000000, 0, 0, 0, 0};
+    struct bpf_certify_asked asked = {order, size, {1000000, 0, 0, 0, 0}};
     struct bpf_certified told = {0, 0, 0, 0, 0, 0, 0};
     struct bpf_refusal why = {0, 0, 0, 0};
     uint8_t no_image = 0, no_text = 0;
@@ -471,11 +497,11 @@ static inline int32_t bpf_certify(const void *image, size_t image_len, uint32_t 
     if (!bpf_are_bytes(image, image_len) || !bpf_are_bytes(made, made_len) || !bpf_are_bytes(text, text_len)) return BPF_BAD_MEMORY;
     if (!bpf_may_make(made, made_len, text, text_len, certified, sizeof *certified, refusal, image, image_len)) return BPF_BAD_MEMORY;
     if (wish) {
-        uint32_t usual = asked.bound;
-        asked = *wish;
-        if (!asked.bound) asked.bound = usual;
+        uint32_t usual = asked.wish.bound;
+        asked.wish = *wish;
+        if (!asked.wish.bound) asked.wish.bound = usual;
     }
-    answer = bpf_host_certify(bpf_bytes(image), image_len, order, size, &asked, made ? (uint8_t *)made : &no_image, made_len,
+    answer = bpf_host_certify(bpf_bytes(image), image_len, &asked, made ? (uint8_t *)made : &no_image, made_len,
                               text ? (uint8_t *)text : &no_text, text_len, &told, &why);
     if ((answer == BPF_YES || answer == BPF_TOO_SMALL) && certified) *certified = told;
     if (answer == BPF_NO && refusal) *refusal = why;
@@ -499,6 +525,7 @@ static inline size_t bpf_convert_size(size_t count) {
  * lies in them or in the other one, or an answer that lies in one of the three. No search is made: the time is in proportion to the filter. */
 static inline int32_t bpf_convert(const void *filter, size_t count, uint32_t form, uint32_t size, uint32_t order, void *made, size_t made_len,
                                   char *text, size_t text_len, struct bpf_converted *converted, struct bpf_refusal *refusal) {
+    struct bpf_convert_asked asked = {bpf_order_here(), form, size, order};
     struct bpf_converted told = {0, 0, 0};
     struct bpf_refusal why = {0, 0, 0, 0};
     uint8_t no_image = 0, no_text = 0;
@@ -506,7 +533,7 @@ static inline int32_t bpf_convert(const void *filter, size_t count, uint32_t for
     if (count > (size_t)PTRDIFF_MAX / 8 || !bpf_are_bytes(filter, 8 * count)) return BPF_BAD_MEMORY;
     if (!bpf_are_bytes(made, made_len) || !bpf_are_bytes(text, text_len)) return BPF_BAD_MEMORY;
     if (!bpf_may_make(made, made_len, text, text_len, converted, sizeof *converted, refusal, filter, 8 * count)) return BPF_BAD_MEMORY;
-    answer = bpf_host_convert(bpf_bytes(filter), 8 * count, bpf_order_here(), form, size, order, made ? (uint8_t *)made : &no_image, made_len,
+    answer = bpf_host_convert(bpf_bytes(filter), 8 * count, &asked, made ? (uint8_t *)made : &no_image, made_len,
                               text ? (uint8_t *)text : &no_text, text_len, &told, &why);
     if ((answer == BPF_YES || answer == BPF_TOO_SMALL) && converted) *converted = told;
     if (answer == BPF_NO && refusal) *refusal = why;

@@ -24,20 +24,29 @@ import sys
 ROOT = pathlib.Path(__file__).resolve().parent.parent
 FOLDER = "wrong"
 # The wrong bodies of these crates are tried by hand, by the crate's name: the gate would take too long with them.
-BY_NAME = {"bpf_c", "bpf_command_core", "bpf_answers", "bpf_explain", "bpf_command", "bpf_host_calls", "bpf_host"}
+BY_NAME = {"bpf_c", "bpf_answers", "bpf_explain", "bpf_command", "bpf_host_calls", "bpf_host"}
 # Those of these crates that the gate tries all the same.
 STILL = {
     "bpf_answers/read_up_to-ends-at-a-short-read",
     "bpf_answers/read_up_to-takes-a-byte-more",
+    "bpf_command/asm-empties-OUT-and-says-no-memory",
+    "bpf_command/check-tells-the-length-as-the-bound",
     "bpf_command/harden-writes-what-is-not-shown",
-    "bpf_command_core/asm-empties-OUT-and-says-no-memory",
-    "bpf_command_core/check-tells-the-length-as-the-bound",
-    "bpf_command_core/migrate-writes-the-certificate-as-it-was",
-    "bpf_command_core/put_all-lists-no-instruction",
-    "bpf_command_core/put_beside-says-that-a-listing-stands-that-failed",
-    "bpf_command_core/run-gives-half-the-steps",
-    "bpf_command_core/spelled-takes-a-text-for-structs",
-    "bpf_command_core/told_of-tells-another-bound",
+    "bpf_command/hardening-names-the-certificate-beside-notes",
+    "bpf_command/migrate-writes-the-certificate-as-it-was",
+    "bpf_command/put_all-lists-no-instruction",
+    "bpf_command/put_beside-says-that-a-listing-stands-that-failed",
+    "bpf_command/request_of-takes-no-words-for-groups",
+    "bpf_command/run-gives-half-the-steps",
+    "bpf_command/spelled-takes-a-text-for-structs",
+    "bpf_command/told_of-tells-another-bound",
+    "bpf_explain/explain_hardening-hands-back-accepted-for-a-refused-program",
+    "bpf_explain/explain_hardening-is-shown-for-one-turn",
+    "bpf_explain/explain_hardening-names-a-slot-behind-the-program",
+    "bpf_explain/explain_hardening-takes-a-certificate-for-longer-contexts",
+    "bpf_explain/explain_hardening-tells-another-mismatch",
+    "bpf_explain/explain_hardening-tells-that-no-byte-is-left",
+    "bpf_explain/explain_hardening-writes-accepted-for-a-refused-program",
     "bpf_host_calls/verify-tells-the-least-as-the-most",
 }
 
@@ -93,7 +102,7 @@ CONVERTERS = {
     "two cells share a slot": ["bpf_classic/cell_offset-lays-two-cells-into-one-slot"],
     "a slot is listed under the next instruction": ["bpf_conversion/put_template-lists-a-slot-under-the-next-instruction"],
     "the ways of a test are exchanged in a listing": ["bpf_classic/put_ways-exchanges-jt-and-jf"],
-    "what is listed isn't what was converted": ["bpf_command_core/put_all-lists-no-instruction"],
+    "what is listed isn't what was converted": ["bpf_command/put_all-lists-no-instruction"],
     "an extension is read as bytes of the packet": ["bpf_classic/in_kind-takes-words-as-bytes-of-a-packet"],
     "a word is taken for its neighbour": ["bpf_classic/auxiliary_at-exchanges-tag-and-presence", "bpf_classic/word_insn-reads-a-word-too-early"],
 }
@@ -129,8 +138,8 @@ PLAIN = {
         "bpf_kept/takes_alike-compares-with-any-r0", "bpf_kept/goes_alike-finds-what-differs", "bpf_kept/is_atomic_of-finds-a-counter-behind-the-first-byte"],
     "what a register held is known where an atomic operation fetched": [
         "bpf_kept/unfetched_give-keeps-the-facts-of-the-register", "bpf_kept/is_spared-keeps-a-counter-that-is-fetched-over", "bpf_kept/fetches-puts-into-r10-alone"],
-    "the start asks for nothing": ["bpf_kept/begun-takes-any-start", "bpf_kept_pass/all_hold-leaves-the-first-slot-out"],
-    "a certificate is of another length": ["bpf_kept_pass/is_for-takes-a-certificate-of-another-length"],
+    "the start asks for nothing": ["bpf_kept/begun-takes-any-start", "bpf_follows/all_hold-leaves-the-first-slot-out"],
+    "a certificate is of another length": ["bpf_follows/is_for-takes-a-certificate-of-another-length"],
     "a number is taken for a small one": ["bpf_kept/is_small-takes-the-least-for-the-greatest", "bpf_kept/most_limit-takes-each-number-for-a-small-one"],
     "a result of 64 bits is taken for one of 32": ["bpf_kept/has_few_bits-looks-at-the-least-result", "bpf_kept/widened_op-takes-a-shift-to-the-right",
                                                   "bpf_kept/shifts_alike-takes-a-shift-by-32", "bpf_kept/is_widened-asks-for-no-low-halves"],
@@ -144,32 +153,32 @@ PLAIN = {
                                                   "bpf_kept/waits-keeps-r5"],
     "a function may give back the number that its trap answers": ["bpf_kept/is_unlike-takes-any-constant", "bpf_kept/never_holds-takes-a-number-that-may-be-the-one",
                                                                   "bpf_kept/still_barred-outlives-a-write-to-r0", "bpf_kept/tests_barred-tests-any-register"],
-    "a state is told that reaches nothing": ["bpf_kept_pass/stated-tells-a-state-that-reaches-nothing"],
+    "a state is told that reaches nothing": ["bpf_follows/stated-tells-a-state-that-reaches-nothing"],
     "any number of turns is told though a counter is noted": ["bpf_kept/turns_shown-always-says-any", "bpf_certify/told-says-any-of-what-is-not-shown"],
-    "a yes says nothing": ["bpf_kept_pass/follows-says-yes-where-nothing-ends", "bpf_kept_pass/ends_here-takes-an-exit-that-is-not-reached"],
-    "what is noted of a second slot isn't looked at": ["bpf_kept_pass/hold_here-leaves-second-slots-out"],
+    "a yes says nothing": ["bpf_follows/follows-says-yes-where-nothing-ends", "bpf_follows/ends_here-takes-an-exit-that-is-not-reached"],
+    "what is noted of a second slot isn't looked at": ["bpf_follows/hold_here-leaves-second-slots-out"],
 }
 
-# Each command, as bpf_request names it, and each call of the library for hosts, as bpf.h does.
+# Each command, as the table of bpf_command names it, and each call of the library for hosts, as bpf.h does.
 COMMANDS = {
-    "asm": ["bpf_command_core/asm-empties-OUT-and-says-no-memory"],
+    "asm": ["bpf_command/asm-empties-OUT-and-says-no-memory"],
     "certify": ["bpf_command/certify-writes-the-old-image", "bpf_command/certify-tells-turns-that-are-not-shown"],
-    "convert": ["bpf_command_core/told_of-tells-another-bound", "bpf_conversion/converted-takes-each-filter-for-packets",
-                "bpf_command_core/put_beside-says-that-a-listing-stands-that-failed"],
-    "check": ["bpf_command_core/check-tells-the-length-as-the-bound"],
+    "convert": ["bpf_command/told_of-tells-another-bound", "bpf_conversion/converted-takes-each-filter-for-packets",
+                "bpf_command/put_beside-says-that-a-listing-stands-that-failed"],
+    "check": ["bpf_command/check-tells-the-length-as-the-bound"],
     "explain": ["bpf_command/explain-seeks-for-length-0-whatever-was-asked", "bpf_command/explain-hardens-for-length-0-whatever-was-asked"],
-    "follows": ["bpf_command_core/follows-compares-the-old-image-with-itself", "bpf_command_core/follows-takes-a-certificate-that-is-refused",
-                "bpf_command_core/follows-tells-the-length-as-the-bound"],
-    "groups": ["bpf_answers/groups_line-names-divmul-for-atomic", "bpf_command_core/grouped-says-nothing-where-no-base-occurs"],
+    "follows": ["bpf_command/follows-compares-the-old-image-with-itself", "bpf_command/follows-takes-a-certificate-that-is-refused",
+                "bpf_command/follows-tells-the-length-as-the-bound"],
+    "groups": ["bpf_answers/groups_line-names-divmul-for-atomic", "bpf_command/grouped-says-nothing-where-no-base-occurs"],
     "harden": ["bpf_command/harden-writes-what-is-not-shown"],
     "infer": ["bpf_command/infer-seeks-for-the-least-length-alone"],
-    "list": ["bpf_command_core/list-reads-big-images-as-little"],
-    "migrate": ["bpf_command_core/migrate-writes-the-certificate-as-it-was"],
-    "run": ["bpf_command_core/run-gives-half-the-steps"],
-    "to-c": ["bpf_command_core/promise_of-tells-the-least-as-the-most"],
+    "list": ["bpf_command/list-reads-big-images-as-little"],
+    "migrate": ["bpf_command/migrate-writes-the-certificate-as-it-was"],
+    "run": ["bpf_command/run-gives-half-the-steps"],
+    "to-c": ["bpf_command/promise_of-tells-the-least-as-the-most"],
     "run-checked": [
-        "bpf_command_core/run-checked-tells-32-bits-of-the-number",
-        "bpf_command_core/run-checked-lays-packets-as-little",
+        "bpf_command/run-checked-tells-32-bits-of-the-number",
+        "bpf_command/run-checked-lays-packets-as-little",
         "bpf_captures/replay-tells-twice-as-many",
     ],
 }
@@ -177,7 +186,7 @@ CALLS = {
     "bpf_host_certify": ["bpf_host_calls/certify-writes-the-old-image", "bpf_host_calls/certify-tells-another-bound"],
     "bpf_host_convert": ["bpf_host_calls/convert-converts-for-half-the-size", "bpf_host_calls/convert-reads-the-filter-in-the-order-of-the-image",
                          "bpf_host_calls/conversion-tells-another-bound"],
-    "bpf_host_ends_at_trap": ["bpf_host_calls/runs_to_trap-tells-traps-as-answers", "bpf_host_calls/runs_to_trap-tells-a-trap-of-a-run-that-goes-on",
+    "bpf_host_ends_at_trap": ["bpf_follows/ends_at_trap-tells-traps-as-answers", "bpf_follows/ends_at_trap-tells-a-trap-of-a-run-that-goes-on",
                               "bpf_host_calls/trapped-tells-notes-as-the-image", "bpf_host_calls/trapped-answers-without-notes"],
     "bpf_host_explain": ["bpf_host_calls/explain-says-yes-of-a-refused-program"],
     "bpf_host_explain_search": ["bpf_host_calls/explain_search-says-yes-of-a-refused-certificate"],
@@ -339,8 +348,8 @@ def faults_of_lists(names):
 
 
 def commands():
-    """The names of the commands, as bpf_request has them."""
-    table = (ROOT / "crates" / "bpf_request" / "src" / "table.rt").read_text(encoding="utf-8")
+    """The names of the commands, as the table of bpf_command has them."""
+    table = (ROOT / "crates" / "bpf_command" / "src" / "request" / "table.rt").read_text(encoding="utf-8")
     return set(re.findall(r"Entry \{\s*name: \"([\w-]+)\"", table))
 
 

@@ -1,7 +1,8 @@
 """failures.py BPF EXAMPLES SHIM CALLS: the command under a library that refuses the Nth growth of memory, fails the Nth open, read or
 write, or shortens it. For want of memory right is the answer of the undisturbed command, the refusal of the step at which it ran out, or
 `no memory`. A failure has to be told by its name, though the next try would go well: nothing is tried again. What is shortened changes
-nothing. Nothing is half written. CALLS is the program of crates/bpf_calls, which makes calls that no command makes alone, or '' for none."""
+nothing. Nothing is half written. CALLS is the program of crates/bpf_tests, which makes calls that no command makes alone for a line `calls`, or ''
+for none."""
 import errno
 import os
 import pathlib
@@ -28,7 +29,10 @@ MADE = ['OUT', 'standard output', '/dev/null', '/dev/zero']
 LINE = 256
 # How a read or write fails: by an error of the device, by an interruption, and without an error, where a write takes nothing.
 FAULTS = [errno.EIO, errno.EINTR, 0]
-# What calls that no command makes alone say where there is no memory, by their first words.
+# The line for which the program of tests makes calls that no command makes alone, and one as long that it writes again and does no more.
+ASK, AGAIN = 'calls\n', '#    \n'
+# How it ends where there is no memory for a line, and what the calls say where there is none for them, by their first words.
+NO_LINE = 1, '', 'Error: Kind(OutOfMemory)\n'
 WANT, WANT_OF_CERTIFICATE = 'out of memory', 'the certificate is refused: out of memory'
 CALLS = {'assemble': WANT, 'decode_from': WANT, 'new': WANT, 'verify': WANT_OF_CERTIFICATE}
 
@@ -194,30 +198,41 @@ def show_no_memory():
     takes_no_memory('run-checked, countdown', *runs)
 
 
-def called(folder, **disturbed):
-    """What the calls answer, by their names, and how often memory grew."""
+def called(folder, line, **disturbed):
+    """The status of the program of tests and what it writes, given a line, and how often memory grew."""
     counts = folder / 'calls'
     env = {'LD_PRELOAD': SHIM, 'COUNT_FILE': str(counts), **{k: str(v) for k, v in disturbed.items()}}
-    done = subprocess.run([CALLER], env=env, capture_output=True, timeout=60, check=True)
-    answers = dict(line.split(': ', 1) for line in done.stdout.decode().splitlines())
-    return answers, int(counts.read_text().split()[0])
+    done = subprocess.run([CALLER], input=line, env=env, capture_output=True, text=True, timeout=60)
+    return (done.returncode, done.stdout, done.stderr), int(counts.read_text().split()[0])
+
+
+def answers_of(told):
+    """What the calls answer, by their names; nothing where the program fails."""
+    status, out, err = told
+    return dict(line.partition(': ')[::2] for line in out.splitlines()) if (status, err) == (0, '') else {}
 
 
 def show_calls(folder):
-    """Where one growth is refused, one call says so, and the others what they say anyway. Each call of CALLS has such growths."""
-    right, total = called(folder)
-    seen = set()
-    for n in range(1, total + 1):
-        got, _ = called(folder, REFUSE_ALLOC=n)
+    """Where one growth is refused, one call says so, and the others what they say anyway. Each call of CALLS has such growths. The first growths
+    are for reading the line: where one of them is refused, the program fails, and answers nothing."""
+    (again, reading), (told, total) = called(folder, AGAIN), called(folder, ASK)
+    if again != (0, AGAIN, ''):
+        wrong('growths for reading a line:', reading, again, AGAIN)
+    for n in range(1, reading + 1):
+        got, _ = called(folder, ASK, REFUSE_ALLOC=n)
+        if got != NO_LINE:
+            wrong('allocation for the line of the calls', n, got, NO_LINE)
+    right, seen = answers_of(told), set()
+    for n in range(reading + 1, total + 1):
+        got = answers_of(called(folder, ASK, REFUSE_ALLOC=n)[0])
         others = [name for name in right if got.get(name) != right[name]]
         if list(got) != list(right) or len(others) != 1 or got[others[0]] != CALLS.get(others[0].split(',')[0]):
-            print(f'failures: allocation {n} of the calls\n  got   {got}\n  right {right}')
-            sys.exit(1)
+            wrong('allocation of the calls', n, got, right)
         seen.add(others[0])
     if {name.split(',')[0] for name in seen} != set(CALLS):
         print(f'failures: not each call was refused memory: {seen}')
         sys.exit(1)
-    print(f'{"; ".join(right)}: {total} allocations')
+    print(f'{"; ".join(right)}: {total - reading} allocations, and {reading} for reading the line')
 
 
 def try_memory(words, refusals, right):

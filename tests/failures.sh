@@ -9,13 +9,13 @@ root=$(cd "$(dirname "${BASH_SOURCE[0]}")/.." && pwd)
 dir=$(mktemp -d)
 trap 'rm -rf "$dir"' EXIT
 "${CC:-cc}" -O2 -Wall -Wextra -shared -fPIC -o "$dir/refuse.so" "$root/tests/refuse.c" -ldl
-calls="$root/crates/bpf_calls/out/bpf_calls"
+calls="$root/crates/bpf_tests/out/bpf_tests"
 # Where nothing is proved, and it isn't there, no call is made that no command makes alone.
 if [ ! -x "$calls" ] && [ -n "${UNPROVED-}" ]; then
-    echo "failures: crates/bpf_calls is left out: it isn't built"
+    echo "failures: the calls of crates/bpf_tests are left out: it isn't built"
     calls=
 fi
-[ -z "$calls" ] || [ -x "$calls" ] || (cd "$root/crates/bpf_calls" && rt run) >/dev/null
+[ -z "$calls" ] || [ -x "$calls" ] || (cd "$root/crates/bpf_tests" && rt run </dev/null) >/dev/null
 for script in failures streams; do
     python3 "$root/tests/$script.py" "${BPF:-$root/crates/bpf/out/bpf}" "$root/examples" "$dir/refuse.so" "$calls"
 done

@@ -5,18 +5,12 @@ set -eu
 root=$(cd "$(dirname "${BASH_SOURCE[0]}")/.." && pwd)
 bpf=${BPF:-$root/bpf}
 seed=${2:-$(date +%s)}
-forced=$root/crates/bpf_tests/out/bpf_tests
-if [ ! -x "$forced" ] && [ -n "${UNPROVED-}" ]; then
-    echo "fuzz: guards by force are left out: crates/bpf_tests isn't built"
+cases=$root/crates/bpf_tests/out/bpf_tests
+if [ ! -x "$cases" ] && [ -n "${UNPROVED-}" ]; then
+    echo "fuzz: guards by force and converted filters are left out: crates/bpf_tests isn't built"
 else
-    [ -x "$forced" ] || (cd "$root/crates/bpf_tests" && rt run </dev/null) >/dev/null
-    python3 "$root/tests/forced.py" "$bpf" "$forced" 10000 "$seed"
-fi
-converts=$root/crates/bpf_tests/out/bpf_tests
-if [ ! -x "$converts" ] && [ -n "${UNPROVED-}" ]; then
-    echo "fuzz: converted filters are left out: crates/bpf_tests isn't built"
-else
-    [ -x "$converts" ] || (cd "$root/crates/bpf_tests" && rt run </dev/null) >/dev/null
-    python3 "$root/tests/classic.py" --program "$converts" 10000 "$seed"
+    [ -x "$cases" ] || (cd "$root/crates/bpf_tests" && rt run </dev/null) >/dev/null
+    python3 "$root/tests/forced.py" "$bpf" "$cases" 10000 "$seed"
+    python3 "$root/tests/classic.py" --program "$cases" 10000 "$seed"
 fi
 exec python3 "$root/tests/fuzz.py" "$bpf" "$root/examples" "${1:?seconds}" "$seed"

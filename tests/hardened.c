@@ -12,7 +12,7 @@
 enum { MOST = 524288 };
 
 static uint8_t old[MOST + 1], made[MOST];
-static uint64_t handle[MOST / 8 + 5];
+static uint64_t handle[MOST / 8 + MOST / 64 + 5];
 static char text[1 << 22];
 
 static size_t read_file(const char *name) {

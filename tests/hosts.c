@@ -550,6 +550,7 @@ static void bad_preparing(void) {
     for (int i = 0; i < 8; i++) WANTS(words[i], 7);
     WANTS(bpf_prepare(IMAGE, BPF_LITTLE, words, 8), BPF_YES);
     for (size_t i = size; i < 8; i++) WANTS(words[i], 7);
+    for (int i = 2; i < 8; i++) WANTS(((uint8_t *)(words + size - 1))[i], 0); /* behind the opcodes of two slots */
     WANTS(bpf_run_checked(NULL, 8, NULL, 0, &value), BPF_BAD_MEMORY);
     WANTS(bpf_run_checked(words, size, NULL, 1, &value), BPF_BAD_MEMORY);
     WANTS(value, 7);
@@ -849,6 +850,7 @@ static const struct instruction ip[] = {{0x28, 0, 0, 12}, {0x15, 0, 1, 0x800}, {
 static void bad_conversions(void) {
     static uint8_t made[512] = "as it was";
     static char text[4096] = "as it was";
+    struct bpf_convert_asked in_no_order = {2, BPF_BLOCKS, 32, BPF_LITTLE}, in_order = {bpf_order_here(), BPF_BLOCKS, 32, BPF_LITTLE};
     struct bpf_converted told = {7, 7, 7};
     struct bpf_refusal why = {7, 7, 7, 7};
 #define ROOM made, 512, text, 4096
@@ -877,9 +879,9 @@ static void bad_conversions(void) {
     WANTS(bpf_convert(IP, BPF_EXTENDED, 71, BPF_LITTLE, ROOM, TOLD), BPF_BAD_CALL);
     WANTS(bpf_convert(IP, BPF_EXTENDED, 4097, BPF_LITTLE, ROOM, TOLD), BPF_BAD_CALL);
     /* The library's own call, by an order of the instructions that is none, and by bytes that end inside of one. */
-    WANTS(bpf_host_convert((const uint8_t *)ip, 32, 2, BPF_BLOCKS, 32, BPF_LITTLE, made, 512, (uint8_t *)text, 4096, TOLD), BPF_BAD_CALL);
+    WANTS(bpf_host_convert((const uint8_t *)ip, 32, &in_no_order, made, 512, (uint8_t *)text, 4096, TOLD), BPF_BAD_CALL);
     WANTS(told.bound == 7 && why.kind == 7, 1);
-    WANTS(bpf_host_convert((const uint8_t *)ip, 31, bpf_order_here(), BPF_BLOCKS, 32, BPF_LITTLE, made, 512, (uint8_t *)text, 4096, TOLD), BPF_NO);
+    WANTS(bpf_host_convert((const uint8_t *)ip, 31, &in_order, made, 512, (uint8_t *)text, 4096, TOLD), BPF_NO);
     WANTS(why.kind == BPF_CLASSIC && why.number == 8 && why.place == 3 && !why.condition, 1);
     WANTS(bpf_convert(NULL, 0, BPF_BLOCKS, 32, BPF_LITTLE, ROOM, TOLD), BPF_NO);
     WANTS(why.kind == BPF_CLASSIC && why.number == 1 && why.place == 0, 1);

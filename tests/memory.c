@@ -14,7 +14,7 @@ enum { IMAGE_MOST = 524288, TEXT_MOST = 1 << 22 };
 extern long own_blocks __attribute__((weak)), own_left __attribute__((weak));
 
 static uint8_t image[IMAGE_MOST + 1], certificate[TEXT_MOST], made[TEXT_MOST];
-static uint64_t words[IMAGE_MOST / 8 + 8];
+static uint64_t words[IMAGE_MOST / 8 + IMAGE_MOST / 64 + 8];
 static size_t image_len, certificate_len, wanted;
 static uint32_t least, most;
 static struct bpf_verdict verdict;

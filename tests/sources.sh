@@ -151,9 +151,7 @@ for crate in "$crates"/*/; do
 done
 # A limit stands by name where it is believed, in definitions and clauses: its number stands where the name is defined, and nowhere else.
 limits='4096|512|65535|65536|1048576|1099511627776|2 \^ (20|40)'
-defined='bpf_insn/specs/Limits|bpf_classic/specs/Limits|bpf_cert/specs/Limits|bpf_state/specs/Transfer|bpf_request/specs/CommandLine'
-# How often a filter's run may jump back has 16 bits: its greatest number is no limit of programs.
-counts='jumps_back = number |turns_or \(Some turns\) usual = min turns 65535'
+defined='bpf_insn/specs/Limits|bpf_classic/specs/Limits|bpf_cert/specs/Limits|bpf_state/specs/Transfer|bpf_command/specs/Limits'
 # The lines of definitions, without comments and strings; the lines of contracts and ghost items, up to the brace that closes them.
 definitions() {
     awk '{ line = $0; gsub(/"[^"]*"/, "", line); sub(/(^|[[:space:]])--([[:space:]].*|$)/, "", line); print FILENAME ":" FNR ": " line }' "$@"
@@ -174,7 +172,7 @@ for crate in "$crates"/*/; do
     bare=$({
         [ -z "$specs" ] || definitions $specs
         [ -z "$sources" ] || clauses $sources
-    } | grep -vE "/($defined)\.antt:[0-9]+: [a-z_]+ = (pos \()?($limits)\)?\$" | grep -vE ": ($counts)" | grep -E ":[0-9]+:(.*[^[:alnum:]_])?($limits)([^[:alnum:]_]|\$)")
+    } | grep -vE "/($defined)\.antt:[0-9]+: [a-z_]+ = (pos \()?($limits)\)?\$" | grep -E ":[0-9]+:(.*[^[:alnum:]_])?($limits)([^[:alnum:]_]|\$)")
     if [ -n "$bare" ]; then
         echo "these clauses and definitions have a limit's number in place of its name:"
         echo "$bare"
@@ -183,8 +181,8 @@ for crate in "$crates"/*/; do
 done
 # The command's version names the kit that it was proved with last. A newer kit is a note, and no failure: a change of the kit changes no source.
 kit=$(rt version 2>/dev/null)
-if [ -n "$kit" ] && ! grep -qF "\\n$kit\";" "$crates/bpf_request/src/commands.rt"; then
-    echo "note: the version in bpf_request doesn't name this kit, $kit"
+if [ -n "$kit" ] && ! grep -qF "\\n$kit\";" "$crates/bpf_command/src/request/commands.rt"; then
+    echo "note: the version in bpf_command doesn't name this kit, $kit"
 fi
 [ "$failed" -eq 0 ] && echo "the checker makes one Work, and all its work is counted; what takes no memory names no allocator; limits stand by name"
 exit "$failed"

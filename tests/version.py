@@ -120,7 +120,7 @@ def main():
         sys.exit(f'version: tests/version.sums has no lines of {number}: tests/version.py PREFIX --renew writes them')
     lost = [what for what in now if of_number.get(what) != now[what]]
     if lost:
-        sys.exit(f'version: {" and ".join(lost)} changed, and BPF_HOST_VERSION is still {number}: it goes up, with those of crates/bpf_host_calls, bpf_request and bpf-host. '
+        sys.exit(f'version: {" and ".join(lost)} changed, and BPF_HOST_VERSION is still {number}: it goes up, with those of crates/bpf_host_calls, bpf_command and bpf-host. '
                  f'Where {number} never landed, its lines of tests/version.sums go out, and tests/version.py PREFIX --renew writes them again')
     print(f'version: {number} has the declarations and the words that it had')
 

@@ -179,9 +179,12 @@ range_pieces least most = if nat_eq least most then decimal least ∷ [] else de
 abbrev pub yes_line : ℕ → ℕ → ℕ → List ℕ
 yes_line least most bound = concat (codes "yes length " ∷ (range_pieces least most ++ (codes " bound " ∷ decimal bound ∷ codes "\n" ∷ [])))
 
--- nothing where no byte is left alone, or ` untouched 32`
-abbrev pub untouched_pieces : ℕ → List (List ℕ)
-untouched_pieces untouched = if nat_eq untouched 0 then [] else codes " untouched " ∷ decimal untouched ∷ []
+-- ` untouched 32`, the word and the number; nothing where no byte is left alone
+abbrev pub untouched_word : ℕ → List ℕ
+untouched_word untouched = if nat_eq untouched 0 then [] else codes " untouched "
+
+abbrev pub untouched_number : ℕ → List ℕ
+untouched_number untouched = if nat_eq untouched 0 then [] else decimal untouched
 
 -- where contexts are blocks
 abbrev pub padded_word : Bool → List ℕ
@@ -196,7 +199,7 @@ turns_word (Most turns) = decimal turns
 abbrev pub follows_line : Bounds → Turns → ℕ → List ℕ
 follows_line runs turns bound =
     concat (codes "yes length " ∷ decimal runs.length ∷ codes " turns " ∷ turns_word turns ∷ codes " bound " ∷ decimal bound ∷ padded_word runs.padded
-    ∷ (untouched_pieces runs.untouched ++ (codes "\n" ∷ [])))
+    ∷ untouched_word runs.untouched ∷ untouched_number runs.untouched ∷ codes "\n" ∷ [])
 
 -- what isn't shown to keep the meaning is named last
 abbrev pub proved_end : Bool → List ℕ
@@ -207,7 +210,7 @@ abbrev pub certified_line : (length bound : ℕ) → Option Rewriting → List �
 certified_line length bound None = concat (codes "yes length " ∷ decimal length ∷ codes " bound " ∷ decimal bound ∷ codes "\n" ∷ [])
 certified_line length bound (Some r) =
     concat (codes "yes length " ∷ decimal length ∷ codes " bound " ∷ decimal bound ∷ codes " hardened turns " ∷ turns_word r.told ∷ padded_word r.padded
-    ∷ (untouched_pieces r.untouched ++ (proved_end r.is_shown ∷ [])))
+    ∷ untouched_word r.untouched ∷ untouched_number r.untouched ∷ proved_end r.is_shown ∷ [])
 
 -- `no context of 3 bytes, want 16`
 abbrev pub no_context_line : ℕ → ℕ → ℕ → List ℕ

@@ -4,10 +4,10 @@ use Rattle.std.specs.List.{AllByRecursion}
 use Rattle.bpf_insn.specs.Limits.{max_slots}
 use Rattle.bpf_kept.specs.Matching.{Notes}
 use Rattle.bpf_kept.specs.declared.bounds.Bounds.{Bounds}
-use Rattle.bpf_kept_notes.specs.NotesText.{WholeIfAny, notes_text}
-use Rattle.bpf_kept_notes.specs.Refused.{IsRefused}
-use Rattle.bpf_kept_notes.specs.declared.error.NotesError.{NotesError}
-use Rattle.bpf_kept_notes.specs.declared.reading.NotesOfRuns.{NotesOfRuns}
+use Rattle.bpf_follows.specs.NotesText.{WholeIfAny, notes_text}
+use Rattle.bpf_follows.specs.Refused.{IsRefused}
+use Rattle.bpf_follows.specs.declared.error.NotesError.{NotesError}
+use Rattle.bpf_follows.specs.declared.reading.NotesOfRuns.{NotesOfRuns}
 use Rattle.bpf_answers.specs.Opened.{Opening, Unreadable}
 use Rattle.bpf_answers.specs.Loaded.{TextAt}
 use Rattle.bpf_answers.specs.Told.{OutputFails}

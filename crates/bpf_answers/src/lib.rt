@@ -50,5 +50,5 @@ pub use notes::notes_at;
 pub use output::{Content, put};
 pub use places::Places;
 pub use reply::Reply;
-pub use text::{readable_text_at, text_at};
+pub use text::{MAX_TEXT, readable_text_at, text_at};
 pub use whole::context_at;

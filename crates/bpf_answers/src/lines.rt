@@ -3,7 +3,7 @@
 ghost use Rattle.std.specs.Prelude.{◌≡◌, ◌++◌, OnOk, OnErr, Some};
 ghost use Rattle.std.specs.Io.KnownBytes.{Appends};
 ghost use Rattle.bpf_insn.specs.Written.{AppendsBeginning, Gathers};
-ghost use Rattle.bpf_answers.specs.Answer.{capture_line, certified_line, follows_line, groups_line, infer_refusal_line, no_context_line, padded_word, proved_end, run_line, text_of, text_refusal_line, turns_word, work_line, yes_line};
+ghost use Rattle.bpf_answers.specs.Answer.{capture_line, certified_line, follows_line, groups_line, infer_refusal_line, no_context_line, padded_word, proved_end, run_line, text_of, text_refusal_line, turns_word, untouched_number, untouched_word, work_line, yes_line};
 ghost use Rattle.bpf_answers.specs.declared.answer.Answer.TheVariants.{Yes};
 ghost use Rattle.bpf_text.specs.declared.error.TextError.TheVariants.{Program as InProgram};
 ghost use Rattle.bpf_infer_base.specs.declared.error.InferError.TheVariants.{Fault as NoState};
@@ -197,6 +197,24 @@ fn turns_word(buffer: &mut Buffer, turns: Turns) -> &str
     }
 }
 
+/// The word in front of how many bytes are left alone; nothing where none is.
+fn untouched_word(untouched: u32) -> &'static str
+    ensures { result.now ≡ untouched_word untouched }
+{
+    if untouched == 0 { "" } else { " untouched " }
+}
+
+/// How many bytes are left alone; nothing where none is.
+fn untouched_number(buffer: &mut Buffer, untouched: u32) -> &str
+    ensures { result.now ≡ untouched_number untouched }
+{
+    if untouched == 0 {
+        ""
+    } else {
+        buffer.format(untouched)
+    }
+}
+
 /// The line of a certified program that was hardened.
 fn write_rewritten<W: Write>(
     out: &mut W,
@@ -215,39 +233,24 @@ fn write_rewritten<W: Write>(
     let bound = second.format(bound);
     let turns = turns_word(&mut third, rewriting.told);
     let word = padded_word(rewriting.padded);
+    let front = untouched_word(rewriting.untouched);
+    let count = untouched_number(&mut fourth, rewriting.untouched);
     let end = proved_end(rewriting.is_shown);
-    if rewriting.untouched == 0 {
-        write_pieces(
-            out,
-            &[
-                "yes length ",
-                length,
-                " bound ",
-                bound,
-                " hardened turns ",
-                turns,
-                word,
-                end,
-            ],
-        )
-    } else {
-        let untouched = fourth.format(rewriting.untouched);
-        write_pieces(
-            out,
-            &[
-                "yes length ",
-                length,
-                " bound ",
-                bound,
-                " hardened turns ",
-                turns,
-                word,
-                " untouched ",
-                untouched,
-                end,
-            ],
-        )
-    }
+    write_pieces(
+        out,
+        &[
+            "yes length ",
+            length,
+            " bound ",
+            bound,
+            " hardened turns ",
+            turns,
+            word,
+            front,
+            count,
+            end,
+        ],
+    )
 }
 
 /// For which contexts and within which bound an image is certified, and what was done to it.
@@ -286,38 +289,23 @@ pub fn write_followed<W: Write>(
     let turns = turns_word(&mut second, turns);
     let bound = third.format(bound);
     let word = padded_word(runs.padded);
-    if runs.untouched == 0 {
-        write_pieces(
-            out,
-            &[
-                "yes length ",
-                length,
-                " turns ",
-                turns,
-                " bound ",
-                bound,
-                word,
-                "\n",
-            ],
-        )
-    } else {
-        let untouched = fourth.format(runs.untouched);
-        write_pieces(
-            out,
-            &[
-                "yes length ",
-                length,
-                " turns ",
-                turns,
-                " bound ",
-                bound,
-                word,
-                " untouched ",
-                untouched,
-                "\n",
-            ],
-        )
-    }
+    let front = untouched_word(runs.untouched);
+    let count = untouched_number(&mut fourth, runs.untouched);
+    write_pieces(
+        out,
+        &[
+            "yes length ",
+            length,
+            " turns ",
+            turns,
+            " bound ",
+            bound,
+            word,
+            front,
+            count,
+            "\n",
+        ],
+    )
 }
 
 /// `no context of 3 bytes, want 16`.

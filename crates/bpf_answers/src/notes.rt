@@ -8,8 +8,8 @@ ghost use Rattle.bpf_answers.specs.Told.{IsQuiet};
 use crate::bytes::{BytesError, bytes_at};
 use crate::failure::Failure;
 use crate::places::Places;
+use bpf_follows::{NotesError, NotesOfRuns, read};
 use bpf_insn::MAX_SLOTS;
-use bpf_kept_notes::{NotesError, NotesOfRuns, read};
 use std::alloc::Global;
 
 /// The greatest length of a text of notes that is read, in bytes: the first line, and a line for each slot of a program. None is longer than

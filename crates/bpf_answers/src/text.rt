@@ -11,7 +11,7 @@ use crate::places::Places;
 use std::alloc::Global;
 
 /// The greatest length of a text that is read, in bytes.
-const MAX_TEXT: usize = 16_777_216;
+pub const MAX_TEXT: usize = 16_777_216;
 
 /// The text at a name. It can't be read where it is longer than that; where it isn't UTF-8 it is the failure that is given.
 fn text_or<'a, P: Places>(

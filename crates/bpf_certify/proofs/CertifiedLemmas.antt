@@ -11,7 +11,7 @@ use Rattle.bpf_kept.specs.Shown.{Keeps}
 use Rattle.bpf_kept.specs.declared.mismatch.Mismatch.{Mismatch}
 use Rattle.bpf_kept.specs.declared.mismatch.Mismatch.TheVariants.{Order, Start, At, TooMany, Length, NoExit}
 use Rattle.bpf_kept.specs.declared.mismatch.NoteFault.{NoteFault}
-use Rattle.bpf_harden_kept.specs.Evidence.{Fails, IsEvidence, Shows, leaving}
+use Rattle.bpf_certify.specs.Evidence.{Fails, IsEvidence, Shows, leaving}
 use Rattle.bpf_certify.specs.Certified.{AreWished, IsPaid, IsRefused, IsRewritten, IsUnjudged, IsUnshown, certify_slot, runs_for, runs_of}
 use Rattle.bpf_certify.specs.declared.certified.Certified.{Certified}
 use Rattle.bpf_certify.specs.declared.certified.Rewritten.{Rewritten}

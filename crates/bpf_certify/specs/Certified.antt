@@ -14,8 +14,8 @@ use Rattle.bpf_kept.specs.Matching.{Notes, shown_turns}
 use Rattle.bpf_kept.specs.Mismatches.{MatchesBeside, mismatch_slot}
 use Rattle.bpf_kept.specs.Shown.{Keeps}
 use Rattle.bpf_kept.specs.declared.mismatch.Mismatch.{Mismatch}
-use Rattle.bpf_harden_kept.specs.Evidence.{Fails, leaving}
-use Rattle.bpf_changes.specs.RefusalNumbers.{harden_slot}
+use Rattle.bpf_certify.specs.Evidence.{Fails, leaving}
+use Rattle.bpf_infer_base.specs.HardenNumbers.{harden_slot}
 use Rattle.bpf_refusals.specs.Told.{told_hardening, told_not_shown, told_too_dear, told_uncertified}
 use Rattle.bpf_refusals.specs.declared.told.Told.{Told}
 use Rattle.bpf_certify.specs.declared.wish.Wish.{Wish}

@@ -9,8 +9,8 @@ use Rattle.bpf_kept.specs.Matching.{Notes}
 use Rattle.bpf_certify.specs.Certified.{Answers as IsAnswer, IsPaid, StandsFor}
 use Rattle.bpf_certify.specs.declared.certified.Certified.{Certified}
 use Rattle.bpf_certify.specs.declared.certified.Rewritten.{Rewritten}
-use Rattle.bpf_request.specs.CommandLine.{hardening_of}
-use Rattle.bpf_request.specs.declared.certifying.Certifying.{Certifying}
+use Rattle.bpf_command.specs.CommandLine.{hardening_of}
+use Rattle.bpf_command.specs.declared.request.certifying.Certifying.{Certifying}
 use Rattle.bpf_answers.specs.Opened.{Opening}
 use Rattle.bpf_answers.specs.Both.{Pairing, Putting}
 use Rattle.bpf_answers.specs.Both.Put.{Both}

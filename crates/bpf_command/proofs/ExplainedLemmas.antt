@@ -9,18 +9,18 @@ use Rattle.bpf_check.specs.CheckedProgram.{IsCertifiedBy}
 use Rattle.bpf_check.specs.RefusalNumbers.{refusal_number, refusal_slot}
 use Rattle.bpf_check.specs.declared.refusal.Refusal.{Refusal}
 use Rattle.bpf_kept.specs.Shown.{Keeps}
-use Rattle.bpf_harden_kept.specs.Evidence.{Fails}
-use Rattle.bpf_explain_harden.specs.Hardened.{IsMade, IsUnhardened}
-use Rattle.bpf_explain_harden.specs.declared.hardened.HardeningAsked.{HardeningAsked}
-use Rattle.bpf_explain_harden.specs.declared.hardened.HardenedProgram.{HardenedProgram}
-use Rattle.bpf_explain_harden.specs.declared.refusal.Unhardened.{Unhardened}
-use Rattle.bpf_explain_harden.specs.declared.refusal.Unhardened.TheVariants.{Refused, Unshown}
+use Rattle.bpf_certify.specs.Evidence.{Fails}
+use Rattle.bpf_explain.specs.Hardened.{IsMade, IsUnhardened}
+use Rattle.bpf_explain.specs.declared.hardened.HardeningAsked.{HardeningAsked}
+use Rattle.bpf_explain.specs.declared.hardened.HardenedProgram.{HardenedProgram}
+use Rattle.bpf_explain.specs.declared.refusal.Unhardened.{Unhardened}
+use Rattle.bpf_explain.specs.declared.refusal.Unhardened.TheVariants.{Refused, Unshown}
 use Rattle.bpf_answers.specs.Opened.{Opening, Unreadable}
 use Rattle.bpf_answers.specs.Loaded.{LoadsImage, CertificateAt, ShortTextAt, TextAt, TextFails, Tried}
 use Rattle.bpf_answers.specs.Answer.{Says, status_of}
 use Rattle.bpf_answers.specs.declared.answer.Answer.{Answer}
 use Rattle.bpf_answers.specs.declared.answer.Answer.TheVariants.{Yes, NoImage, NotCertified, NotHardened, NotShown, Written}
-use Rattle.bpf_command_core.specs.Printed.{ImageSays, JudgedSays, LoadedSays, YesSays}
+use Rattle.bpf_command.specs.Printed.{ImageSays, JudgedSays, LoadedSays, YesSays}
 use Rattle.bpf_command.specs.Inferred.{IsProposal}
 use Rattle.std.specs.Borrow.{Bor}
 use Rattle.bpf_answers.specs.declared.failure.Failure.{Failure}
@@ -28,7 +28,7 @@ use Rattle.bpf_answers.specs.declared.failure.Failure.TheVariants.{CannotRead}
 use Rattle.bpf_command.specs.Explained.{Answers, HardenedSays, IsHardened, JudgesOf, LinesAt, LinesFail, SoughtSays, TaskSays}
 use Rattle.bpf_command.specs.declared.commands.explain.ExplainTask.{ExplainTask}
 use Rattle.bpf_command.specs.declared.commands.explain.ExplainTask.TheVariants.{Search, Harden}
-use Rattle.bpf_command_core.proofs.JudgedLemmas.{loaded_says}
+use Rattle.bpf_command.proofs.JudgedLemmas.{loaded_says}
 
 -- an answer that was printed has its status
 pub printed_so : {E : Type 0} (result : Result ℕ E) (answer : Answer) (old new : Option (List ℕ)) (P : Answer → Type 0) → P answer → IfOk result (λ status. Says answer status old new) → IfOk result (Answers P)

@@ -10,9 +10,9 @@ use Rattle.bpf_kept.specs.declared.mismatch.Mismatch.{Mismatch}
 use Rattle.bpf_kept.specs.declared.mismatch.Mismatch.TheVariants.{Order, Start, At, TooMany, Length, NoExit}
 use Rattle.bpf_kept.specs.Matching.{Notes, shown_turns}
 use Rattle.bpf_kept.specs.Shown.{Keeps}
-use Rattle.bpf_kept_notes.specs.NotesText.{notes_text}
-use Rattle.bpf_harden_kept.specs.Evidence.{IsEvidence}
-use Rattle.bpf_request.specs.declared.hardening.Hardening.{Hardening}
+use Rattle.bpf_follows.specs.NotesText.{notes_text}
+use Rattle.bpf_certify.specs.Evidence.{IsEvidence}
+use Rattle.bpf_command.specs.declared.request.hardening.Hardening.{Hardening}
 use Rattle.bpf_answers.specs.Opened.{Opening}
 use Rattle.bpf_answers.specs.Made.{Making}
 use Rattle.bpf_answers.specs.Both.{NotPut}

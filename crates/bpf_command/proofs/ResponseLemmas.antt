@@ -8,8 +8,8 @@ use Rattle.bpf_answers.specs.declared.failure.Failure.{Failure}
 use Rattle.bpf_answers.specs.declared.failure.Failure.TheVariants.{NotTogether}
 use Rattle.bpf_answers.specs.declared.reply.Reply.TheVariants.{One}
 use Rattle.bpf_answers.proofs.MadeLemmas.{keeps}
-use Rattle.bpf_request.specs.declared.converting.Converting.{Converting}
-use Rattle.bpf_command_core.specs.Given.{Replies}
+use Rattle.bpf_command.specs.declared.request.converting.Converting.{Converting}
+use Rattle.bpf_command.specs.Given.{Replies}
 use Rattle.bpf_command.specs.Conflicts.{conversion_conflict, is_misfit}
 use Rattle.bpf_command.specs.Found.{Finding, Gives}
 use Rattle.bpf_command.specs.declared.finding.Finding.TheVariants.{Given}

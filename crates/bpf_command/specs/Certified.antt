@@ -11,15 +11,15 @@ use Rattle.bpf_kept.specs.declared.bounds.Turns.TheVariants.{Most}
 use Rattle.bpf_kept.specs.Matching.{Notes, shown_turns}
 use Rattle.bpf_kept.specs.Mismatches.{MatchesBeside}
 use Rattle.bpf_kept.specs.Shown.{Keeps}
-use Rattle.bpf_kept_notes.specs.NotesText.{notes_text}
+use Rattle.bpf_follows.specs.NotesText.{notes_text}
 use Rattle.bpf_certify.specs.Certified.{IsPaid, IsRefused, told_turns}
 use Rattle.bpf_certify.specs.declared.certified.Certified.{Certified}
 use Rattle.bpf_certify.specs.declared.certified.Rewritten.{Rewritten}
 use Rattle.bpf_certify.specs.declared.error.CertifyError.{CertifyError}
 use Rattle.bpf_certify.specs.declared.error.CertifyError.TheVariants as errors
 use Rattle.bpf_certify.specs.declared.wish.Wish.{Wish}
-use Rattle.bpf_request.specs.CommandLine.{hardening_of}
-use Rattle.bpf_request.specs.declared.certifying.Certifying.{Certifying}
+use Rattle.bpf_command.specs.CommandLine.{hardening_of}
+use Rattle.bpf_command.specs.declared.request.certifying.Certifying.{Certifying}
 use Rattle.bpf_answers.specs.Opened.{Opening}
 use Rattle.bpf_answers.specs.declared.answer.Answer.{Answer}
 use Rattle.bpf_answers.specs.declared.answer.Answer.TheVariants.{NoImage as ImageAnswer, NotHardened, NotShown, TooDear, Uncertified, Certified as IsCertified}

@@ -3,19 +3,19 @@ use Rattle.std.specs.Prelude.{◌&&◌, Bool, List, [], ℕ, Option, Some, None,
 use Rattle.std.specs.Option.{option_or}
 use Rattle.std.specs.Str.{bytes_eq}
 use Rattle.std.specs.Borrow.{Bor}
-use Rattle.bpf_request.specs.CommandLine.{name_of}
+use Rattle.bpf_command.specs.CommandLine.{name_of}
 use Rattle.bpf_c.specs.Names.{is_name}
-use Rattle.bpf_request.specs.declared.certifying.Certifying.{Certifying}
-use Rattle.bpf_request.specs.declared.converting.Converting.{Converting}
-use Rattle.bpf_request.specs.declared.emitting.Emitting.{Emitting}
-use Rattle.bpf_request.specs.declared.hardening.Hardening.{Hardening}
-use Rattle.bpf_request.specs.declared.words.Request.{Request}
-use Rattle.bpf_request.specs.declared.words.Request.TheVariants.{Groups, Asm, List as ListOf, Run, Check, RunChecked, Replay, Infer, Harden, Certify, Convert, ToC, Follows, Migrate, Explain}
-use Rattle.bpf_request.specs.declared.subject.Aspect.{Aspect}
-use Rattle.bpf_request.specs.declared.subject.Aspect.TheVariants.{Listing, Slot as OneSlot, Graph as Drawn}
-use Rattle.bpf_request.specs.declared.subject.Subject.{Subject}
-use Rattle.bpf_request.specs.declared.subject.Subject.TheVariants.{Image, Text as TextAlone, Certified, Slot, Inferred, Hardened, Graph, GraphAlone, Misfit}
-pub use Rattle.bpf_command_core.specs.Spelled.{is_misfit}
+use Rattle.bpf_command.specs.declared.request.certifying.Certifying.{Certifying}
+use Rattle.bpf_command.specs.declared.request.converting.Converting.{Converting}
+use Rattle.bpf_command.specs.declared.request.emitting.Emitting.{Emitting}
+use Rattle.bpf_command.specs.declared.request.hardening.Hardening.{Hardening}
+use Rattle.bpf_command.specs.declared.request.words.Request.{Request}
+use Rattle.bpf_command.specs.declared.request.words.Request.TheVariants.{Groups, Asm, List as ListOf, Run, Check, RunChecked, Replay, Infer, Harden, Certify, Convert, ToC, Follows, Migrate, Explain}
+use Rattle.bpf_command.specs.declared.request.subject.Aspect.{Aspect}
+use Rattle.bpf_command.specs.declared.request.subject.Aspect.TheVariants.{Listing, Slot as OneSlot, Graph as Drawn}
+use Rattle.bpf_command.specs.declared.request.subject.Subject.{Subject}
+use Rattle.bpf_command.specs.declared.request.subject.Subject.TheVariants.{Image, Text as TextAlone, Certified, Slot, Inferred, Hardened, Graph, GraphAlone, Misfit}
+pub use Rattle.bpf_command.specs.Spelled.{is_misfit}
 use Rattle.bpf_answers.specs.declared.failure.Failure.{Failure}
 use Rattle.bpf_answers.specs.declared.failure.Failure.TheVariants.{MostBelowLeast, InputTwice, NotTogether}
 

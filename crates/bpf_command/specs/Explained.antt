@@ -16,22 +16,22 @@ use Rattle.bpf_infer_base.specs.RefusalNumbers.{infer_slot}
 use Rattle.bpf_kept.specs.declared.bounds.Bounds.{Bounds}
 use Rattle.bpf_kept.specs.Matching.{Notes}
 use Rattle.bpf_kept.specs.Shown.{Keeps}
-use Rattle.bpf_harden_kept.specs.Evidence.{Fails}
-use Rattle.bpf_changes.specs.RefusalNumbers.{harden_slot}
+use Rattle.bpf_certify.specs.Evidence.{Fails}
+use Rattle.bpf_infer_base.specs.HardenNumbers.{harden_slot}
 use Rattle.bpf_answers.specs.Opened.{Opening}
 use Rattle.bpf_answers.specs.Loaded.{ImageFails, ReadableFails, ShortTextAt, Tried}
 use Rattle.bpf_answers.specs.Answer.{status_of}
 use Rattle.bpf_answers.specs.declared.answer.Answer.{Answer}
 use Rattle.bpf_answers.specs.declared.answer.Answer.TheVariants.{NoText, NotCertified, NotProposed, NotHardened, NotShown, Lists, Written}
 use Rattle.bpf_answers.specs.Told.{OutputFails}
-use Rattle.bpf_command_core.specs.Printed.{ImageSays, ListSays, LoadedSays, LoadedFails, YesSays}
+use Rattle.bpf_command.specs.Printed.{ImageSays, ListSays, LoadedSays, LoadedFails, YesSays}
 use Rattle.bpf_command.specs.Inferred.{IsProposal}
 use Rattle.bpf_answers.specs.declared.failure.Failure.{Failure}
 use Rattle.bpf_answers.specs.declared.failure.Failure.TheVariants.{CannotRead, NotTogether}
-use Rattle.bpf_request.specs.declared.asking.Explaining.{Explaining}
-use Rattle.bpf_request.specs.declared.subject.Subject.{Subject}
-use Rattle.bpf_request.specs.declared.subject.Subject.TheVariants.{Image, Text, Certified, Slot, Inferred, Hardened, Graph, GraphAlone, Misfit}
-use Rattle.bpf_request.specs.CommandLine.{usual_turns}
+use Rattle.bpf_command.specs.declared.request.asking.Explaining.{Explaining}
+use Rattle.bpf_command.specs.declared.request.subject.Subject.{Subject}
+use Rattle.bpf_command.specs.declared.request.subject.Subject.TheVariants.{Image, Text, Certified, Slot, Inferred, Hardened, Graph, GraphAlone, Misfit}
+use Rattle.bpf_command.specs.Limits.{usual_turns}
 use Rattle.bpf_command.specs.declared.commands.explain.ExplainTask.{ExplainTask}
 use Rattle.bpf_command.specs.declared.commands.explain.ExplainTask.TheVariants.{Search, Harden}
 

@@ -8,8 +8,8 @@ use Rattle.bpf_answers.specs.Told.{OutputFails}
 use Rattle.bpf_answers.specs.declared.failure.Failure.{Failure}
 use Rattle.bpf_answers.specs.declared.reply.Reply.{Reply}
 use Rattle.bpf_answers.specs.declared.reply.Reply.TheVariants.{One, Each}
-use Rattle.bpf_command_core.specs.Converted.{conversion_answer}
-use Rattle.bpf_command_core.specs.declared.conversion.Conversion.{Conversion}
+use Rattle.bpf_command.specs.Converted.{conversion_answer}
+use Rattle.bpf_command.specs.declared.commands.conversion.Conversion.{Conversion}
 use Rattle.bpf_command.specs.Certified.{assessment_answer}
 use Rattle.bpf_command.specs.Hardened.{attempt_answer}
 use Rattle.bpf_command.specs.Inferred.{inference_answer}

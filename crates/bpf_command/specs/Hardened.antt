@@ -9,10 +9,10 @@ use Rattle.bpf_kept.specs.Matching.{Notes, shown_turns}
 use Rattle.bpf_kept.specs.Shown.{Keeps}
 use Rattle.bpf_kept.specs.declared.mismatch.Mismatch.{Mismatch}
 use Rattle.bpf_kept.specs.declared.mismatch.Mismatch.TheVariants.{Order, Start, At, TooMany, Length, NoExit}
-use Rattle.bpf_kept_notes.specs.NotesText.{notes_text}
-use Rattle.bpf_harden_kept.specs.Evidence.{Fails, IsEvidence}
-use Rattle.bpf_changes.specs.RefusalNumbers.{harden_slot}
-use Rattle.bpf_request.specs.declared.hardening.Hardening.{Hardening}
+use Rattle.bpf_follows.specs.NotesText.{notes_text}
+use Rattle.bpf_certify.specs.Evidence.{Fails, IsEvidence}
+use Rattle.bpf_infer_base.specs.HardenNumbers.{harden_slot}
+use Rattle.bpf_command.specs.declared.request.hardening.Hardening.{Hardening}
 use Rattle.bpf_answers.specs.Opened.{Opening}
 use Rattle.bpf_answers.specs.Loaded.{ImageFails, ImageRefused, LoadsImage, Tried}
 use Rattle.bpf_answers.specs.Made.{Making}

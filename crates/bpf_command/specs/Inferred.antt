@@ -6,7 +6,7 @@ use Rattle.bpf_cert.specs.View.{CertificateView}
 use Rattle.bpf_cert.specs.Limits.{IsCertificate}
 use Rattle.bpf_cert.specs.Spelling.{certificate_text}
 use Rattle.bpf_infer_base.specs.RefusalNumbers.{infer_slot}
-use Rattle.bpf_request.specs.declared.asking.Inferring.{Inferring}
+use Rattle.bpf_command.specs.declared.request.asking.Inferring.{Inferring}
 use Rattle.bpf_answers.specs.Opened.{Opening}
 use Rattle.bpf_answers.specs.Made.{Making}
 use Rattle.bpf_answers.specs.Loaded.{ImageFails, ImageRefused, LoadsImage, Tried}

@@ -1,9 +1,9 @@
 -- Which names `explain` opens, in which order.
 use Rattle.std.specs.Prelude.{ℕ, List, [], ◌∷◌, Option, Some, None}
 use Rattle.std.specs.Borrow.{Bor}
-use Rattle.bpf_request.specs.declared.asking.Explaining.{Explaining}
-use Rattle.bpf_request.specs.declared.subject.Subject.{Subject}
-use Rattle.bpf_request.specs.declared.subject.Subject.TheVariants.{Image, Text, Certified, Slot, Inferred, Hardened, Graph, GraphAlone, Misfit}
+use Rattle.bpf_command.specs.declared.request.asking.Explaining.{Explaining}
+use Rattle.bpf_command.specs.declared.request.subject.Subject.{Subject}
+use Rattle.bpf_command.specs.declared.request.subject.Subject.TheVariants.{Image, Text, Certified, Slot, Inferred, Hardened, Graph, GraphAlone, Misfit}
 
 -- what is explained
 abbrev pub names_explained : List ℕ → Subject → List (List ℕ)

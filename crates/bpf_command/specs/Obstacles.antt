@@ -1,12 +1,12 @@
 -- Which names of a request lead to one file where they may not.
 use Rattle.std.specs.Prelude.{◌≡◌, ◌||◌, Bool, false, List, ℕ, Option, Some, None}
 use Rattle.std.specs.Borrow.{Bor}
-use Rattle.bpf_request.specs.CommandLine.{hardening_of}
-use Rattle.bpf_request.specs.declared.certifying.Certifying.{Certifying}
-use Rattle.bpf_request.specs.declared.converting.Converting.{Converting}
-use Rattle.bpf_request.specs.declared.hardening.Hardening.{Hardening}
-use Rattle.bpf_request.specs.declared.words.Request.{Request}
-use Rattle.bpf_request.specs.declared.words.Request.TheVariants.{Groups, Asm, List as ListOf, Run, Check, RunChecked, Replay, Infer, Harden, Certify, Convert, ToC, Follows, Migrate, Explain}
+use Rattle.bpf_command.specs.CommandLine.{hardening_of}
+use Rattle.bpf_command.specs.declared.request.certifying.Certifying.{Certifying}
+use Rattle.bpf_command.specs.declared.request.converting.Converting.{Converting}
+use Rattle.bpf_command.specs.declared.request.hardening.Hardening.{Hardening}
+use Rattle.bpf_command.specs.declared.request.words.Request.{Request}
+use Rattle.bpf_command.specs.declared.request.words.Request.TheVariants.{Groups, Asm, List as ListOf, Run, Check, RunChecked, Replay, Infer, Harden, Certify, Convert, ToC, Follows, Migrate, Explain}
 
 -- From places and two names to whether what is written for the one comes to stand in the place of what is written for the other.
 abbrev pub Meeting : Type 0 → Type 1

@@ -1,15 +1,15 @@
 -- What is told beside the answer to a request.
 use Rattle.std.specs.Prelude.{Option, Some, None, nat_eq, if◌then◌else◌}
-use Rattle.bpf_request.specs.declared.asking.Inferring.{Inferring}
-use Rattle.bpf_request.specs.declared.certifying.Certifying.{Certifying}
-use Rattle.bpf_request.specs.declared.hardening.Hardening.{Hardening}
-use Rattle.bpf_request.specs.declared.words.Request.{Request}
-use Rattle.bpf_request.specs.declared.words.Request.TheVariants.{Groups, Asm, List as ListOf, Check, Infer, Harden, Certify, ToC}
+use Rattle.bpf_command.specs.declared.request.asking.Inferring.{Inferring}
+use Rattle.bpf_command.specs.declared.request.certifying.Certifying.{Certifying}
+use Rattle.bpf_command.specs.declared.request.hardening.Hardening.{Hardening}
+use Rattle.bpf_command.specs.declared.request.words.Request.{Request}
+use Rattle.bpf_command.specs.declared.request.words.Request.TheVariants.{Groups, Asm, List as ListOf, Check, Infer, Harden, Certify, ToC}
 use Rattle.bpf_answers.specs.Answer.{status_of}
 use Rattle.bpf_answers.specs.declared.answer.Answer.{Answer}
 use Rattle.bpf_answers.specs.declared.answer.Answer.TheVariants.{NoCapture}
 use Rattle.bpf_answers.specs.declared.reply.Reply.TheVariants.{One}
-use Rattle.bpf_command_core.specs.declared.conversion.Conversion.TheVariants.{Refused}
+use Rattle.bpf_command.specs.declared.commands.conversion.Conversion.TheVariants.{Refused}
 use Rattle.bpf_kept.specs.declared.bounds.Bounds.{Bounds}
 use Rattle.bpf_kept.specs.declared.bounds.Turns.{Turns}
 use Rattle.bpf_kept.specs.declared.mismatch.Mismatch.{Mismatch}

@@ -3,9 +3,9 @@ use Rattle.std.specs.Prelude.{◌≡◌, ◌≢◌, ◌⊎◌, ⊤, Bool, true, 
 use Rattle.std.specs.Io.KnownBytes.{Keeps}
 use Rattle.std.specs.String.{string_bytes}
 use Rattle.clap.specs.Words.{Text, subcommand_of}
-use Rattle.bpf_request.specs.CommandLine.{IsAsked, bpf, faults_in}
-use Rattle.bpf_request.specs.declared.words.Request.{Request}
-use Rattle.bpf_request.specs.declared.words.Request.TheVariants.{Groups, Asm, List as ListOf, Run, Check, RunChecked, Replay, Infer, Harden, Certify, Convert, ToC, Follows, Migrate, Explain}
+use Rattle.bpf_command.specs.CommandLine.{IsAsked, bpf, faults_in}
+use Rattle.bpf_command.specs.declared.request.words.Request.{Request}
+use Rattle.bpf_command.specs.declared.request.words.Request.TheVariants.{Groups, Asm, List as ListOf, Run, Check, RunChecked, Replay, Infer, Harden, Certify, Convert, ToC, Follows, Migrate, Explain}
 use Rattle.bpf_answers.specs.Opened.{Opening}
 use Rattle.bpf_answers.specs.Made.{Making, making}
 use Rattle.bpf_answers.specs.Both.{Putting, putting}
@@ -13,14 +13,14 @@ use Rattle.bpf_answers.specs.Loaded.{ImageFails, OpensFirst}
 use Rattle.bpf_answers.specs.Told.{IsTold}
 use Rattle.bpf_answers.specs.declared.failure.Failure.{Failure}
 use Rattle.bpf_answers.specs.declared.failure.Failure.TheVariants.{NoMemory, NotTogether}
-use Rattle.bpf_command_core.specs.Emitted.{EmitFails, EmitSays, NotEmitted}
-use Rattle.bpf_command_core.specs.Converted.{ConvertFails, ConvertSays, NotConverted}
-use Rattle.bpf_command_core.specs.Standing.{Placing, placing}
-use Rattle.bpf_command_core.specs.Followed.{FollowsFails, FollowsSays}
-use Rattle.bpf_command_core.specs.Given.{CheckedFails, CheckedLeaves, CheckedSays, Replies, RepliesEach, RunFails, RunLeaves, RunSays}
-use Rattle.bpf_command_core.specs.Names.{names_checked, names_run}
-use Rattle.bpf_command_core.specs.Printed.{AsmFails, AsmSays, CheckSays, GroupsSay, ImageSays, ListSays, LoadedFails, MigrateFails, MigrateSays, NotAssembled, NotMigrated, notes_of}
-use Rattle.bpf_command_core.specs.Replayed.{ReplayedFails, ReplayedLeaves, ReplayedSays, names_replayed}
+use Rattle.bpf_command.specs.Emitted.{EmitFails, EmitSays, NotEmitted}
+use Rattle.bpf_command.specs.Converted.{ConvertFails, ConvertSays, NotConverted}
+use Rattle.bpf_command.specs.Standing.{Placing, placing}
+use Rattle.bpf_command.specs.Followed.{FollowsFails, FollowsSays}
+use Rattle.bpf_command.specs.Given.{CheckedFails, CheckedLeaves, CheckedSays, Replies, RepliesEach, RunFails, RunLeaves, RunSays}
+use Rattle.bpf_command.specs.RunNames.{names_checked, names_run}
+use Rattle.bpf_command.specs.Printed.{AsmFails, AsmSays, CheckSays, GroupsSay, ImageSays, ListSays, LoadedFails, MigrateFails, MigrateSays, NotAssembled, NotMigrated, notes_of}
+use Rattle.bpf_command.specs.Replayed.{ReplayedFails, ReplayedLeaves, ReplayedSays, names_replayed}
 use Rattle.bpf_command.specs.Certified.{CertifyWithFails, CertifyWithSays, NotCertifiedWith}
 use Rattle.bpf_command.specs.Conflicts.{conflict_of}
 use Rattle.bpf_command.specs.Explained.{ExplainWithFails, ExplainWithSays}

@@ -4,7 +4,7 @@ use Rattle.std.specs.Borrow.{Bor}
 use Rattle.bpf_answers.specs.Made.{Making}
 use Rattle.bpf_answers.specs.Both.{NotPut}
 use Rattle.bpf_answers.specs.declared.failure.Failure.{Failure}
-use Rattle.bpf_request.specs.declared.hardening.Hardening.{Hardening}
+use Rattle.bpf_command.specs.declared.request.hardening.Hardening.{Hardening}
 
 -- names, each with the text that is to stand there
 abbrev pub NamedTexts : Type 0

@@ -7,14 +7,14 @@ ghost use Rattle.bpf_command.specs.declared.remark.Remark.TheVariants.{Shown};
 
 use crate::aside::Terminal;
 use crate::remark::Remark;
+use crate::request::{Clash, Contexts, Hardening, Inferring, Request, Subject};
 use crate::shown::OneLine;
 use bpf_answers::{ContextError, Failure};
-use bpf_explain_harden::Unshown;
+use bpf_explain::Unshown;
 use bpf_harden::HardenError;
 use bpf_infer::{ForeseenCondition, InferError};
 use bpf_insn::Order;
 use bpf_kept::{Bounds, Mismatch, Turns};
-use bpf_request::{Clash, Contexts, Hardening, Inferring, Request, Subject};
 use std::alloc::{AllocError, Global};
 use std::fmt::{self, Display};
 use std::io::Write;

@@ -1,15 +1,47 @@
-//! The commands that search, harden, certify and explain, each a function from places to what it found; and what is told of runs.
+//! The commands, each a function from places to what it found.
 
+mod asm;
 mod certify;
 mod changes;
+mod check;
+mod conversion;
+mod convert;
+mod emitting;
 mod explain;
+mod follows;
+mod groups;
 mod harden;
 mod infer;
+mod judged;
+mod list;
+mod migrate;
+mod noted;
+mod packets;
+mod placed;
+mod reading;
+mod run;
+mod run_checked;
 mod texts;
+mod to_c;
 mod trace;
+mod tracer;
+mod unconvertible;
 
+pub use asm::assembled;
 pub use certify::{Assessed, Assessment, certified};
+pub use check::checked;
+pub use conversion::Conversion;
+pub use convert::converted;
 pub use explain::explained;
+pub use follows::followed;
+pub use groups::grouped;
 pub use harden::{Attempt, KeptMeaning, hardened};
 pub use infer::{Inference, inferred};
+pub use list::listed;
+pub use migrate::migrated;
+pub use packets::replayed;
+pub use run::ran_on;
+pub use run_checked::ran_checked_on;
+pub use to_c::emitted;
 pub use trace::Trace;
+pub use unconvertible::Unconvertible;

@@ -3,9 +3,10 @@
 ghost use Rattle.std.specs.Prelude.{◌≡◌};
 ghost use Rattle.bpf_command.specs.Conflicts.{certify_conflict, conflict_of, conflict_with, conversion_conflict, dashed, dashed_if, emission_conflict, harden_conflict, is_misfit, misplaced, misplaced_in, name_given, out_of_order, same_name, same_names, thrice, twice, twice_in_four, written_twice};
 
+use crate::request::{Aspect, Certifying, Converting, Emitting, Hardening, Request, Subject};
 use bpf_answers::Failure;
 use bpf_c::is_name;
-use bpf_request::{Aspect, Certifying, Converting, Emitting, Hardening, Request, Subject};
+use bpf_semantics::HEAD_BYTES;
 
 /// Standard input can be read once.
 fn twice(first: &str, second: &str) -> Option<Failure<'static>>
@@ -154,9 +155,6 @@ fn certify_conflict(asked: Certifying<'_>) -> Option<Failure<'static>>
     dashes.or(twice_written).or(twice_read)
 }
 
-/// The bytes in front of the packet of a block.
-const HEAD: u32 = 8;
-
 /// The bytes in front of the packet of a block with the words of Linux's auxiliary data.
 const LONG_HEAD: u32 = 72;
 
@@ -172,7 +170,7 @@ fn is_misfit(asked: Converting<'_>) -> bool
     } else if asked.extensions {
         asked.plain || asked.length < LONG_HEAD
     } else {
-        !asked.plain && asked.length < HEAD
+        !asked.plain && asked.length < HEAD_BYTES
     }
 }
 

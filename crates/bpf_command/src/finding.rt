@@ -3,9 +3,8 @@
 ghost use Rattle.std.specs.Prelude.{◌≡◌};
 ghost use Rattle.bpf_command.specs.Found.{Prints, lines_of, reply_of};
 
-use crate::commands::{Assessed, Attempt, Inference};
+use crate::commands::{Assessed, Attempt, Conversion, Inference};
 use bpf_answers::{Failure, Reply, print};
-use bpf_command_core::Conversion;
 use std::io::Write;
 
 /// What a command found for a request. What is printed of it, and what is told beside, are functions of it.

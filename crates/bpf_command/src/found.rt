@@ -2,10 +2,9 @@
 
 ghost use Rattle.std.specs.Prelude.{◌≡◌, IfOk, IfErr, Ok, Err};
 
-use crate::commands::{Assessed, Attempt, Inference};
+use crate::commands::{Assessed, Attempt, Conversion, Inference};
 use crate::finding::Finding;
 use bpf_answers::{Answer, Failure, Reply};
-use bpf_command_core::Conversion;
 
 /// What a command gives back.
 pub trait CommandAnswer {

@@ -1,4 +1,5 @@
-//! The command `bpf` over places that are named: what each command answers, prints and writes. The program `bpf` joins it with the system.
+//! The command `bpf` over places that are named: what a command line asks for, and what each command answers, prints and writes. The
+//! program `bpf` joins it with the system.
 #![tactic(auto)]
 
 mod advice;
@@ -10,6 +11,7 @@ mod found;
 mod obstacles;
 mod progress;
 mod remark;
+mod request;
 mod response;
 mod sentences;
 mod shown;

@@ -3,8 +3,8 @@
 ghost use Rattle.std.specs.Prelude.{◌≡◌, IfOk, Some};
 ghost use Rattle.bpf_command.specs.Obstacles.{AreLinesInTheWay, IsAnyInTheWay, IsCertificateInTheWay, IsConversionInTheWay, IsHardeningInTheWay, IsInTheWay, MeetEither, MeetsOne, Obstructs};
 
+use crate::request::{Certifying, Converting, Hardening, Request};
 use bpf_answers::Places;
-use bpf_request::{Certifying, Converting, Hardening, Request};
 use std::alloc::AllocError;
 
 /// Whether what is written for a name, if it is given, comes to stand in the place of what is written for another one.

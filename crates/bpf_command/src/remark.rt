@@ -3,17 +3,16 @@
 ghost use Rattle.std.specs.Prelude.{◌≡◌};
 ghost use Rattle.bpf_command.specs.Remarks.{remark_of, remark_of_answer, remark_of_assessment, remark_of_attempt, remark_of_refusal, remark_of_runs, remark_of_search};
 
-use crate::commands::{Assessment, Attempt, Inference, KeptMeaning};
+use crate::commands::{Assessment, Attempt, Conversion, Inference, KeptMeaning, Unconvertible};
 use crate::finding::Finding;
+use crate::request::{Certifying, Hardening, Inferring, Request};
 use bpf_answers::{Answer, REFUSED, Reply};
 use bpf_captures::CaptureRefusal;
 use bpf_certify::CertifyError;
-use bpf_command_core::{Conversion, Unconvertible};
 use bpf_harden::HardenError;
 use bpf_infer::InferError;
 use bpf_insn::{DecodeError, Order};
 use bpf_kept::{Bounds, Mismatch, Turns};
-use bpf_request::{Certifying, Hardening, Inferring, Request};
 
 /// What is told beside an answer.
 #[derive(Clone, Copy)]

@@ -7,20 +7,19 @@ ghost use Rattle.bpf_command.specs.Response.{Carries, Performs, Responds, Serves
 
 use crate::advice::after_failure;
 use crate::aside::Aside;
-use crate::commands::{Trace, certified, explained, hardened, inferred};
+use crate::commands::{
+    Trace, assembled, certified, checked, converted, emitted, explained, followed, grouped,
+    hardened, inferred, listed, migrated, ran_checked_on, ran_on, replayed,
+};
 use crate::conflicts::conflict_in;
 use crate::finding::Finding;
 use crate::found::finding_of;
 use crate::obstacles::obstructs;
 use crate::remark::remark_of;
+use crate::request::{Request, request_of};
 use crate::sentences::tell_remark;
 use crate::shown::tell_mistake;
 use bpf_answers::{BAD_WORDS, CLOSED, Cause, FAILED, Failure, Places, tell};
-use bpf_command_core::{
-    assembled, checked, converted, emitted, followed, grouped, listed, migrated, ran_checked_on,
-    ran_on, replayed,
-};
-use bpf_request::{Request, request_of};
 use clap::error::ErrorKind;
 use std::alloc::Global;
 use std::io::Write;

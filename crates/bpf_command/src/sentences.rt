@@ -10,12 +10,12 @@ use crate::advice::{
 use crate::aside::Aside;
 use crate::finding::Finding;
 use crate::remark::Remark;
+use crate::request::{Certifying, Request};
 use crate::shown::OneLine;
 use bpf_certify::{CertifyError, MOST_BOUND};
 use bpf_check::Refusal;
-use bpf_explain_harden::Unshown;
+use bpf_explain::Unshown;
 use bpf_explain_program::source_at;
-use bpf_request::{Certifying, Request};
 use std::alloc::Global;
 use std::fmt::{self, Display};
 use std::io::Write;

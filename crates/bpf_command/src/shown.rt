@@ -1,6 +1,6 @@
 //! The words of the command line as a terminal is shown them: their control characters by their bytes.
 
-use bpf_request::request_of;
+use crate::request::request_of;
 use bpf_streams::{Escaped, write_escaped};
 use clap::Error;
 use std::alloc::Global;

@@ -337,6 +337,16 @@ fn explain<W: Write>(
     }
 }
 
+/// I5: memory ran out, and nothing is known.
+fn out_of_memory() -> SearchStop
+    ensures { result.error ≡ Memory }
+{
+    SearchStop {
+        error: InferError::Memory,
+        sketch: Sketch::nothing(),
+    }
+}
+
 /// What the plain inferrer had where it refused a program. I5 where memory runs out meanwhile.
 fn stop_of(alloc: Global, quest: Quest<'_>, error: InferError) -> SearchStop
     requires order { quest.least ≤ quest.most }
@@ -349,10 +359,7 @@ fn stop_of(alloc: Global, quest: Quest<'_>, error: InferError) -> SearchStop
     };
     match sketch {
         Ok(sketch) => SearchStop { error, sketch },
-        Err(InferError::Memory) => SearchStop {
-            error: InferError::Memory,
-            sketch: Sketch::nothing(),
-        },
+        Err(InferError::Memory) => out_of_memory(),
         Err(_) => SearchStop {
             error,
             sketch: Sketch::nothing(),
@@ -361,17 +368,19 @@ fn stop_of(alloc: Global, quest: Quest<'_>, error: InferError) -> SearchStop
 }
 
 /// What the deep search had where it stopped; of an access that is refused also which loop moves its pointer, where the plain
-/// inferrer sees one.
+/// inferrer sees one. I5 where memory runs out meanwhile.
 fn with_walk(alloc: Global, quest: Quest<'_>, stop: SearchStop) -> SearchStop
     requires order { quest.least ≤ quest.most }
     requires short { quest.most ≤ max_context }
-    ensures { result.error ≡ stop.error }
+    ensures { (result.error ≡ stop.error) ⊎ (result.error ≡ Memory) }
 {
     if !matches!(stop.error, InferError::Fault { .. }) {
         return stop;
     }
-    let Ok(plain) = sketch_of(alloc, quest, stop.error) else {
-        return stop;
+    let plain = match sketch_of(alloc, quest, stop.error) {
+        Ok(plain) => plain,
+        Err(InferError::Memory) => return out_of_memory(),
+        Err(_) => return stop,
     };
     let SearchStop { error, sketch } = stop;
     SearchStop {

@@ -5,8 +5,8 @@ use crate::places::{changes, is_same, is_unknown, places_compared, places_writte
 use crate::sight::{EdgeSeen, Sight};
 use bpf_cert::{Function, Label, Measure};
 use bpf_check::{Index, Seen};
-use bpf_infer_base::{PLACES, PlaceSet, place, slots_touched};
-use bpf_insn::{Code, Insn, Reg};
+use bpf_infer_base::{PlaceSet, place, slots_touched};
+use bpf_insn::{Code, Insn, PLACES, Reg};
 use bpf_state::{Place, State};
 use bpf_streams::{Count, Tell};
 use std::fmt;

@@ -3,8 +3,8 @@
 ghost use Rattle.std.specs.Prelude.{◌≤◌};
 
 use crate::sight::is_test;
-use bpf_infer_base::{PLACES, PlaceSet};
-use bpf_insn::Insn;
+use bpf_infer_base::PlaceSet;
+use bpf_insn::{FRAME_SLOTS, Insn, PLACES};
 use bpf_state::{Place, Pointer, SlotState, State, Tag};
 
 /// A number of a slot, which is from 1 to 64.
@@ -12,7 +12,7 @@ fn numbered(k: u8) -> u8
     ensures low { 1 ≤ result }
     ensures high { result ≤ 64 }
 {
-    k.max(1).min(64)
+    k.max(1).min(FRAME_SLOTS as u8)
 }
 
 /// The counter that a place holds.

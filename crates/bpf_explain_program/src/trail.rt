@@ -2,7 +2,7 @@
 //! and Their Compilers, 1970) over moves and sums, without states.
 
 use arrayvec::ArrayVec;
-use bpf_insn::{AluOp, Code, Cond, Insn, Operand, Reg, Width};
+use bpf_insn::{AluOp, Code, Cond, Insn, Operand, REGISTERS, Reg, Width};
 
 /// A value and a constant, as `r3 + 8`.
 #[derive(Clone, Copy)]
@@ -47,7 +47,7 @@ pub struct Held {
 /// What registers hold, and which of them were tested.
 #[derive(Drop)]
 pub struct Trail {
-    held: [Held; 11],
+    held: [Held; REGISTERS],
     /// The tests by which a register is above or below something.
     tests: ArrayVec<RegisterUse, 32>,
 }
@@ -108,8 +108,8 @@ impl Held {
 impl Trail {
     /// At a label.
     pub fn new() -> Self {
-        let mut held = [Held::of(0); 11];
-        for number in 0..11 {
+        let mut held = [Held::of(0); REGISTERS];
+        for number in 0..REGISTERS {
             held[number] = Held::of(number as u32);
         }
         let tests = ArrayVec::new();

@@ -5,8 +5,8 @@ use crate::places::{is_unknown, tag_at};
 use crate::sight::Sight;
 use bpf_cert::Label;
 use bpf_check::{Here, place_of};
-use bpf_infer_base::{PLACES, place};
-use bpf_insn::Code;
+use bpf_infer_base::place;
+use bpf_insn::{Code, PLACES};
 use bpf_state::{State, Tag};
 use bpf_streams::Tell;
 

@@ -8,5 +8,8 @@ pub mod PlaceLemmas
 pub mod StepLemmas
 pub mod RunLemmas
 pub mod OpcodeLemmas
+pub mod PairLemmas
+pub mod OperationLemmas
 pub mod RegisterLemmas
 pub mod WideLemmas
+pub mod ByteOfPairLemmas

@@ -3,3 +3,4 @@ pub mod Parts
 pub mod Frames
 pub mod Stops
 pub mod Opcodes
+pub mod Pairs

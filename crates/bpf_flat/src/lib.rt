@@ -7,6 +7,8 @@ mod frames;
 mod image;
 mod machine;
 mod op;
+mod opcodes;
+mod pairs;
 mod runs;
 mod seldom;
 mod standing;
@@ -14,4 +16,5 @@ mod step;
 
 pub use fetch::Fetch;
 pub use image::{fetched_in, opcode_in, wide_in};
+pub use opcodes::put_opcodes;
 pub use runs::{run, run_fetched};

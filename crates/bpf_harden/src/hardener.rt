@@ -3,15 +3,17 @@
 ghost use Rattle.std.specs.Prelude.{◌<◌, ◌≤◌, IfOk, IfErr};
 ghost use Rattle.bpf_insn.specs.Instruction.{slots};
 ghost use Rattle.bpf_insn.specs.Limits.{max_context};
-ghost use Rattle.bpf_changes.specs.RefusalNumbers.{harden_slot};
+ghost use Rattle.bpf_infer_base.specs.HardenNumbers.{harden_slot};
 
 use crate::judge::{LoopVerdict, verdict_of};
+use crate::old::Old;
+use crate::plan::Plan;
 use crate::rounds::{certified, guard_all, guarded_everywhere};
 use bpf_cert::Certificate;
-use bpf_changes::{HardenError, Hardened, Options};
-use bpf_harden_text::{Old, Plan};
 use bpf_infer::infer;
-use bpf_infer_base::{DEEP_WORK, Meter, Quest, Task, Unwatched, Watch};
+use bpf_infer_base::{
+    DEEP_WORK, HardenError, Hardened, Meter, Options, Quest, Task, Unwatched, Watch,
+};
 use bpf_insn::{Code, Program};
 use std::alloc::{AllocError, Global};
 
@@ -126,7 +128,7 @@ fn hardened(
 
 /// A program that is made to do what the old one does, and has a certificate for contexts of `length` bytes, at most 4,096: on
 /// every context on which the old one ends with a number, and its loops turn no more often than is allowed, the new one should end
-/// with that number, which is tested, and judged by `bpf_follows`; where an access of the old one would leave its region, the new
+/// with that number, which the checker of notes judges; where an access of the old one would leave its region, the new
 /// one goes to a trap. Unless contexts are blocks, one that has a certificate as it stands comes out unchanged. H1 to H12 where
 /// none is found.
 pub fn harden(

@@ -2,7 +2,8 @@
 //! budget of the loop around. A budget has few terms, and the loops inside one may be more.
 
 use crate::heads::arcs_of;
-use bpf_harden_text::{Old, Plan};
+use crate::old::Old;
+use crate::plan::Plan;
 use bpf_infer_base::{Arc, Components, Flow, Graph, put};
 use std::alloc::{AllocError, Global};
 

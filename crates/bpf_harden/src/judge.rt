@@ -2,11 +2,14 @@
 
 ghost use Rattle.std.specs.Prelude.{◌≤◌};
 
+use crate::draft::Draft;
+use crate::emit::emitted;
+use crate::old::{Old, refusal};
+use crate::plan::Plan;
+use crate::rooms::Rooms;
 use bpf_cert::{Certificate, Function};
-use bpf_changes::HardenError;
-use bpf_harden_text::{Draft, Old, Plan, Rooms, emitted, refusal};
-use bpf_infer_base::{Cfg, InferError, Meter, Quest, Task, Watch};
-use bpf_infer_budgets::{ranked, uncounted};
+use bpf_infer::{ranked, uncounted};
+use bpf_infer_base::{Cfg, HardenError, InferError, Meter, Quest, Task, Watch};
 use bpf_infer_states::{Survey, surveyed};
 use std::alloc::Global;
 

@@ -2,10 +2,11 @@
 //! faults of a round are mended together.
 
 use crate::judge::JudgedText;
+use crate::kinds::RegisterKind;
+use crate::old::Old;
+use crate::plan::{ByteSpan, Guard, Plan};
 use crate::sums::GuardedSum;
-use bpf_changes::{Change, HardenError};
-use bpf_harden_text::{ByteSpan, Guard, Old, Plan, RegisterKind};
-use bpf_infer_base::ForeseenCondition;
+use bpf_infer_base::{Change, ForeseenCondition, HardenError};
 use bpf_insn::{Access, Insn, Reg};
 use bpf_state::{RegState, StateFault};
 
@@ -17,8 +18,8 @@ struct Flaw {
     fault: StateFault,
 }
 
-/// The offsets that are folded into accesses are below this.
-const MOST_CONSTANT: u64 = 8192;
+/// The offsets that are folded into accesses, or that stand in a base before a sum, are below this.
+pub const MOST_CONSTANT: u64 = 8192;
 
 /// How many instructions may lie between accesses that are tested together.
 const LONGEST_SPAN: u32 = 32;

@@ -1,8 +1,10 @@
 //! Loops that are counted by a number of the program's own, though a counter of turns would give them a smaller budget.
 
 use crate::judge::{JudgedText, LoopVerdict};
+use crate::old::Old;
+use crate::plan::Plan;
+use crate::rooms::Rooms;
 use bpf_cert::{Label, Measure, Term};
-use bpf_harden_text::{Old, Plan, Rooms};
 use bpf_infer_base::{Flow, PlaceSet};
 use bpf_state::Place;
 use std::alloc::{AllocError, Global};

@@ -1,9 +1,10 @@
 //! Notes of what was done.
 
+use crate::draft::Draft;
+use crate::old::Old;
+use crate::rooms::Rooms;
 use bpf_cert::Certificate;
-use bpf_changes::{FunctionNote, HardenError, Hardened, Note};
-use bpf_harden_text::{Draft, Old, Rooms};
-use bpf_infer_base::get_or;
+use bpf_infer_base::{FunctionNote, HardenError, Hardened, Note, get_or};
 use std::alloc::{AllocError, Global};
 
 /// What was done at each slot of a new program.

@@ -2,17 +2,20 @@
 //! This is counterexample-guided refinement (Clarke and others, Counterexample-guided abstraction refinement, 2000): of
 //! the program, and not of the abstraction.
 
+use crate::emit::emitted;
 use crate::heads::{heads_of, loop_heads};
 use crate::inner::InnerLoops;
 use crate::judge::{JudgedText, LoopVerdict};
+use crate::kinds::RegisterKind;
 use crate::mend::Mender;
+use crate::old::Old;
 use crate::pay::Payer;
+use crate::plan::{ByteSpan, Guard, Plan};
 use crate::record::recorded;
+use crate::rooms::Rooms;
 use crate::slim::slim;
 use crate::wide::widen_all;
-use bpf_changes::{HardenError, Hardened};
-use bpf_harden_text::{ByteSpan, Guard, Old, Plan, RegisterKind, Rooms, emitted};
-use bpf_infer_base::{Flow, Meter, Watch, get_or, put};
+use bpf_infer_base::{Flow, HardenError, Hardened, Meter, Watch, get_or, put};
 use std::alloc::{AllocError, Global};
 
 /// The most rounds. A round mends all faults or counts all loops of a depth, so few are needed.

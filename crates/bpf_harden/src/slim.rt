@@ -2,8 +2,8 @@
 //! lead to the trap are taken away, all at once. What holds behind a test that never fails holds in front of it.
 
 use crate::judge::JudgedText;
-use bpf_changes::Change;
-use bpf_harden_text::{Guard, Plan};
+use crate::plan::{Guard, Plan};
+use bpf_infer_base::Change;
 use bpf_insn::{Cond, Insn, Operand};
 
 /// The bounds of what is compared with.

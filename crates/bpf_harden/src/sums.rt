@@ -1,14 +1,12 @@
 //! Where the base of an access gets its offset: by a sum in front of it, of a constant and a number that varies.
 
-use crate::mend::Mender;
-use bpf_harden_text::{ByteSpan, Early, Plan, RegisterKind};
+use crate::kinds::RegisterKind;
+use crate::mend::{MOST_CONSTANT, Mender};
+use crate::plan::{ByteSpan, Early, Plan};
 use bpf_insn::{AluOp, FRAME_BYTES, Insn, Operand, Reg, Width};
 
 /// How many instructions may lie between a sum and the access.
-const FARTHEST: u32 = 16;
-
-/// The greatest offset in the base before the sum.
-const MOST_OFFSET: u64 = 8192;
+const ADDED_WITHIN: u32 = 16;
 
 /// An access that is to be guarded, and what of it is tested.
 #[derive(Clone, Copy)]
@@ -30,7 +28,7 @@ impl<'a> GuardedSum<'a> {
         let register = self.added(slot)?;
         let before = self.mender.held(slot, self.base).number()?.unsigned();
         let added = self.mender.held(slot, register).number()?.unsigned();
-        if before.lo() != before.hi() || before.lo() >= MOST_OFFSET {
+        if before.lo() != before.hi() || before.lo() >= MOST_CONSTANT {
             return None;
         }
         let offset = i64::try_from(before.lo()).ok()?;
@@ -78,7 +76,7 @@ impl<'a> GuardedSum<'a> {
     /// The slot of the instruction that wrote a register last in front of another one.
     fn written(&self, behind: u32, r: Reg) -> Option<u32> {
         let mut slot = behind;
-        for _ in 0..FARTHEST {
+        for _ in 0..ADDED_WITHIN {
             slot = self.mender.old.preceding(slot)?;
             if self.mender.old.kept(slot)?.register_written() == Some(r) {
                 return Some(slot);

@@ -5,10 +5,10 @@ ghost use Rattle.bpf_insn.specs.Limits.{max_context};
 ghost use Rattle.std.specs.Prelude.{◌≤◌};
 
 use crate::hardener::{lengths, work_for};
+use crate::old::Old;
+use crate::plan::Plan;
 use crate::rounds::{certified, guard_all};
-use bpf_changes::{HardenError, Hardened, Options};
-use bpf_harden_text::{Old, Plan};
-use bpf_infer_base::{DEEP_WORK, Meter, Quest, Unwatched, Watch};
+use bpf_infer_base::{DEEP_WORK, HardenError, Hardened, Meter, Options, Quest, Unwatched, Watch};
 use bpf_insn::Program;
 use std::alloc::Global;
 

@@ -1,6 +1,8 @@
 //! 32-bit operations that can't wrap, as 64-bit ones, which counters may use.
 
-use bpf_harden_text::{Draft, Old, Plan};
+use crate::draft::Draft;
+use crate::old::Old;
+use crate::plan::Plan;
 use bpf_infer_states::Survey;
 use bpf_insn::{AluOp, Insn, Operand, Width};
 

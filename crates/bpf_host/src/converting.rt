@@ -2,7 +2,7 @@
 
 ghost use Rattle.std.specs.Prelude.{◌≡◌, ◌⊎◌, ◌↔◌, ◌<◌, false};
 ghost use Rattle.bpf_host_calls.specs.Told.{order_named};
-ghost use Rattle.bpf_host_calls.specs.Forms.{form_part, form_asked, may_have, wanted_by};
+ghost use Rattle.bpf_host_calls.specs.Forms.{form_part, form_asked, may_have, wanted_as};
 ghost use Rattle.bpf_host_calls.specs.Converted.{GivesConverted, IsNotConverted, WantsConvertedRoom};
 ghost use Rattle.bpf_host_calls.specs.ConvertSizes.{convert_size};
 ghost use Rattle.bpf_host_calls.specs.declared.answers.TheConstants.{YES, NO, NO_MEMORY, BAD_CALL, TOO_SMALL};
@@ -23,30 +23,21 @@ pub extern "C" fn bpf_host_convert_size(count: usize) -> usize
 pub extern "C" fn bpf_host_convert(
     alloc: Global,
     filter: &[u8],
-    filter_order: u32,
-    form: u32,
-    size: u32,
-    order: u32,
+    asked: &ConvertAsked,
     made: &mut [u8],
     text: &mut [u8],
     converted: &mut BpfConverted,
     refusal: &mut BpfRefusal,
 ) -> i32
-    ensures given { result ≡ YES → GivesConverted (order_named filter_order) filter.now (wanted_by form size (order_named order)) converted.new made.old made.new text.old text.new }
-    ensures small { result ≡ TOO_SMALL → WantsConvertedRoom (order_named filter_order) filter.now (wanted_by form size (order_named order)) converted.new made.old text.old }
-    ensures refused { result ≡ NO → IsNotConverted (order_named filter_order) filter.now (form_asked form) refusal.new }
-    ensures call { (result ≡ BAD_CALL) ↔ ((1 < filter_order) ⊎ ((1 < order) ⊎ ((3 < form_part form) ⊎ (may_have (form_asked form) size ≡ false)))) }
+    ensures given { result ≡ YES → GivesConverted (order_named asked.now.filter_order) filter.now (wanted_as asked.now) converted.new made.old made.new text.old text.new }
+    ensures small { result ≡ TOO_SMALL → WantsConvertedRoom (order_named asked.now.filter_order) filter.now (wanted_as asked.now) converted.new made.old text.old }
+    ensures refused { result ≡ NO → IsNotConverted (order_named asked.now.filter_order) filter.now (form_asked asked.now.form) refusal.new }
+    ensures call { (result ≡ BAD_CALL) ↔ ((1 < asked.now.filter_order) ⊎ ((1 < asked.now.order) ⊎ ((3 < form_part asked.now.form) ⊎ (may_have (form_asked asked.now.form) asked.now.size ≡ false)))) }
     ensures answers { (result ≡ YES) ⊎ (result ≡ NO) ⊎ (result ≡ NO_MEMORY) ⊎ (result ≡ BAD_CALL) ⊎ (result ≡ TOO_SMALL) }
     ensures made_kept { (result ≡ YES) ⊎ (made.new ≡ made.old) }
     ensures text_kept { (result ≡ YES) ⊎ (text.new ≡ text.old) }
     ensures converted_kept { (result ≡ YES) ⊎ (result ≡ TOO_SMALL) ⊎ (converted.new ≡ converted.old) }
     ensures refusal_kept { (result ≡ NO) ⊎ (refusal.new ≡ refusal.old) }
 {
-    let asked = ConvertAsked {
-        filter_order,
-        form,
-        size,
-        order,
-    };
-    bpf_host_calls::convert(alloc, filter, asked, made, text, converted, refusal)
+    bpf_host_calls::convert(alloc, filter, *asked, made, text, converted, refusal)
 }

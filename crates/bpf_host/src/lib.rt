@@ -9,14 +9,14 @@ ghost use Rattle.bpf_insn.specs.declared.instruction.Insn.{Insn as Instruction};
 ghost use Rattle.bpf_cert.specs.View.{CertificateView};
 ghost use Rattle.bpf_check.specs.Verdicts.{Verified, Promises, Certifies};
 ghost use Rattle.bpf_host_calls.specs.Told.{AnswersVerdict, order_named};
-ghost use Rattle.bpf_host_calls.specs.Prepared.{IsPrepared, IsMarked, IsWhole, prepared_head, version};
-ghost use Rattle.bpf_host_calls.specs.Loaded.{handle_head, IsLoaded, LoadsEach, IsMarkedHandle, IsWholeHandle, HoldsLoaded, EndsAsLoaded, loaded_least, loaded_most};
+ghost use Rattle.bpf_host_calls.specs.Prepared.{IsPrepared, IsMarked, IsWhole, prepared_head, prepared_length, version};
+ghost use Rattle.bpf_host_calls.specs.Loaded.{handle_head, handle_length, IsLoaded, LoadsEach, IsMarkedHandle, IsWholeHandle, HoldsLoaded, EndsAsLoaded, loaded_least, loaded_most};
 ghost use Rattle.bpf_host_calls.specs.Answers.{IsRefusedAsTold, IsNoImage, RanImage, RanPrepared, IsUnrun, HoldsProgram, MayRun, EndsAsPrepared};
 ghost use Rattle.bpf_host_calls.specs.Explained.{IsSomeImage};
 ghost use Rattle.bpf_host_calls.specs.Sizes.{infer_size, explain_size};
 ghost use Rattle.bpf_host_calls.specs.Texts.{refusal_text, answer_text, IsNumbered};
 ghost use Rattle.bpf_host_calls.specs.Proposals.{GivesProposal, WantsRoom, IsNotProposed};
-ghost use Rattle.bpf_host_calls.specs.Hardened.{bounds_of, GivesHardened, WantsHardenedRoom, IsNotHardened};
+ghost use Rattle.bpf_host_calls.specs.Hardened.{bounds_asked, GivesHardened, WantsHardenedRoom, IsNotHardened};
 ghost use Rattle.bpf_host_calls.specs.Followed.{IsFollowed, IsNotFollowed};
 ghost use Rattle.bpf_host_calls.specs.declared.answers.TheConstants.{YES, NO, NO_MEMORY, BAD_CALL, TOO_SMALL, TOO_LONG, BAD_LENGTH, BAD_WORDS};
 
@@ -88,7 +88,7 @@ pub extern "C" fn bpf_host_run(
 /// `prepared_size` of `bpf_host_calls`, for C.
 #[unsafe(no_mangle)]
 pub extern "C" fn bpf_host_prepared_size(image_len: usize) -> usize
-    ensures words { image_len ≤ 8 * max_slots → image_len % 8 ≡ 0 → 0 < image_len → 8 * result ≡ prepared_head + image_len }
+    ensures words { image_len ≤ 8 * max_slots → image_len % 8 ≡ 0 → 0 < image_len → 8 * result ≡ prepared_length image_len }
     ensures none { (8 * max_slots < image_len) ⊎ ((image_len ≡ 0) ⊎ (0 < image_len % 8)) → result ≡ 0 }
 {
     bpf_host_calls::prepared_size(image_len)
@@ -101,8 +101,8 @@ pub extern "C" fn bpf_host_prepare(image: &[u8], order: u32, memory: &mut [u8]) 
     ensures program { result ≡ YES → (is : List Instruction) × IsImageOfProgram (order_named order) image.now is }
     ensures refused { result ≡ NO → IsNoImage (order_named order) image.now }
     ensures call { (result ≡ BAD_CALL) ↔ (1 < order) }
-    ensures small { result ≡ TOO_SMALL → ((is : List Instruction) × IsImageOfProgram (order_named order) image.now is) × (length memory.old ≢ prepared_head + length image.now) }
-    ensures size { result ≡ YES → length memory.old ≡ prepared_head + length image.now }
+    ensures small { result ≡ TOO_SMALL → ((is : List Instruction) × IsImageOfProgram (order_named order) image.now is) × (length memory.old ≢ prepared_length (length image.now)) }
+    ensures size { result ≡ YES → length memory.old ≡ prepared_length (length image.now) }
     ensures answers { (result ≡ YES) ⊎ (result ≡ NO) ⊎ (result ≡ BAD_CALL) ⊎ (result ≡ TOO_SMALL) }
     ensures kept { (result ≡ YES) ⊎ (memory.new ≡ memory.old) }
 {
@@ -144,7 +144,7 @@ pub extern "C" fn bpf_host_run_prepared(
 /// `loaded_size` of `bpf_host_calls`, for C.
 #[unsafe(no_mangle)]
 pub extern "C" fn bpf_host_loaded_size(image_len: usize) -> usize
-    ensures words { image_len ≤ 8 * max_slots → image_len % 8 ≡ 0 → 0 < image_len → 8 * result ≡ handle_head + image_len }
+    ensures words { image_len ≤ 8 * max_slots → image_len % 8 ≡ 0 → 0 < image_len → 8 * result ≡ handle_length image_len }
     ensures none { (8 * max_slots < image_len) ⊎ ((image_len ≡ 0) ⊎ (0 < image_len % 8)) → result ≡ 0 }
 {
     bpf_host_calls::loaded_size(image_len)
@@ -172,9 +172,9 @@ pub extern "C" fn bpf_host_load(
     ensures unpaid { LoadsEach order image.now certificate.now memory.old (λ c. limit < c.steps) (λ c. AnswersVerdict TOO_LONG c result verdict.new) }
     ensures memory { result ≡ NO_MEMORY → (is : List Instruction) × IsImageOfProgram (order_named order) image.now is }
     ensures call { (result ≡ BAD_CALL) ↔ (1 < order) }
-    ensures small { result ≡ TOO_SMALL → length memory.old ≢ handle_head + length image.now }
+    ensures small { result ≡ TOO_SMALL → length memory.old ≢ handle_length (length image.now) }
     ensures certified { result ≡ TOO_SMALL → (c : CertificateView) × Certifies (order_named order) image.now certificate.now c }
-    ensures size { (result ≡ YES) ⊎ (result ≡ TOO_LONG) → length memory.old ≡ handle_head + length image.now }
+    ensures size { (result ≡ YES) ⊎ (result ≡ TOO_LONG) → length memory.old ≡ handle_length (length image.now) }
     ensures answers { (result ≡ YES) ⊎ (result ≡ NO) ⊎ (result ≡ NO_MEMORY) ⊎ (result ≡ BAD_CALL) ⊎ (result ≡ TOO_SMALL) ⊎ (result ≡ TOO_LONG) }
     ensures memory_kept { (result ≡ YES) ⊎ (memory.new ≡ memory.old) }
     ensures verdict_kept { (result ≡ YES) ⊎ (result ≡ TOO_LONG) ⊎ (verdict.new ≡ verdict.old) }
@@ -251,34 +251,21 @@ pub extern "C" fn bpf_host_harden(
     alloc: Global,
     image: &[u8],
     order: u32,
-    size: u32,
-    turns: u32,
-    otherwise: u64,
-    padded: u32,
-    unproved: u32,
-    untouched: u32,
+    asked: &HardenAsked,
     text: &mut [u8],
     wanted: &mut usize,
     refusal: &mut BpfRefusal,
 ) -> i32
-    ensures given { result ≡ YES → GivesHardened (order_named order) image.now (bounds_of size padded turns untouched) (unproved == 1) wanted.new text.old text.new }
-    ensures small { result ≡ TOO_SMALL → WantsHardenedRoom (order_named order) image.now (bounds_of size padded turns untouched) (unproved == 1) wanted.new text.old }
-    ensures refused { result ≡ NO → IsNotHardened (order_named order) image.now (bounds_of size padded turns untouched) (unproved == 1) refusal.new }
-    ensures call { (result ≡ BAD_CALL) ↔ ((1 < order) ⊎ ((max_context < size) ⊎ ((1 < padded) ⊎ ((1 < unproved) ⊎ (frame_bytes < untouched))))) }
+    ensures given { result ≡ YES → GivesHardened (order_named order) image.now (bounds_asked asked.now) (asked.now.unproved == 1) wanted.new text.old text.new }
+    ensures small { result ≡ TOO_SMALL → WantsHardenedRoom (order_named order) image.now (bounds_asked asked.now) (asked.now.unproved == 1) wanted.new text.old }
+    ensures refused { result ≡ NO → IsNotHardened (order_named order) image.now (bounds_asked asked.now) (asked.now.unproved == 1) refusal.new }
+    ensures call { (result ≡ BAD_CALL) ↔ ((1 < order) ⊎ ((max_context < asked.now.size) ⊎ ((1 < asked.now.padded) ⊎ ((1 < asked.now.unproved) ⊎ (frame_bytes < asked.now.untouched))))) }
     ensures answers { (result ≡ YES) ⊎ (result ≡ NO) ⊎ (result ≡ NO_MEMORY) ⊎ (result ≡ BAD_CALL) ⊎ (result ≡ TOO_SMALL) }
     ensures text_kept { (result ≡ YES) ⊎ (text.new ≡ text.old) }
     ensures wanted_kept { (result ≡ YES) ⊎ (result ≡ TOO_SMALL) ⊎ (wanted.new ≡ wanted.old) }
     ensures refusal_kept { (result ≡ NO) ⊎ (refusal.new ≡ refusal.old) }
 {
-    let asked = HardenAsked {
-        size,
-        turns,
-        otherwise,
-        padded,
-        unproved,
-        untouched,
-    };
-    bpf_host_calls::harden(alloc, image, order, asked, text, wanted, refusal)
+    bpf_host_calls::harden(alloc, image, order, *asked, text, wanted, refusal)
 }
 
 /// `follows` of `bpf_host_calls`, for C.

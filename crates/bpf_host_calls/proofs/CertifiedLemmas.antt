@@ -9,8 +9,7 @@ use Rattle.bpf_insn.specs.declared.order.Order.{Order}
 use Rattle.bpf_cert.specs.Spelling.{certificate_text}
 use Rattle.bpf_check.specs.Verdicts.{Promises}
 use Rattle.bpf_safety.specs.Certified.{Certified as IsCertified}
-use Rattle.bpf_cert.specs.Certificates.{Spells}
-use Rattle.bpf_kept_notes.specs.NotesText.{notes_text}
+use Rattle.bpf_follows.specs.NotesText.{notes_text}
 use Rattle.bpf_kept.specs.declared.bounds.Turns.{Turns}
 use Rattle.bpf_kept.specs.declared.bounds.Turns.TheVariants.{Any, Most}
 use Rattle.bpf_kept.specs.Matching.{has_counter, shown_turns}
@@ -26,7 +25,8 @@ use Rattle.bpf_host_calls.specs.ToldAdvice.{TellsCertify}
 use Rattle.bpf_host_calls.specs.declared.certification.BpfWish.{BpfWish}
 use Rattle.bpf_host_calls.specs.declared.certification.BpfCertified.{BpfCertified}
 use Rattle.bpf_host_calls.specs.declared.refusals.Unmade.{Unmade}
-use Rattle.bpf_host_calls.proofs.FollowedLemmas.{IsReadFrom, followed_by, in_order, read_from}
+use Rattle.bpf_host_calls.proofs.FollowedLemmas.{IsReadFrom, followed_by, read_from}
+use Rattle.bpf_host_calls.proofs.ImageLemmas.{in_order}
 
 -- ---- what is told
 

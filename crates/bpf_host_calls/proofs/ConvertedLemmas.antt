@@ -6,7 +6,7 @@ use Rattle.bpf_insn.specs.Laws.{IsImageOfProgram}
 use Rattle.bpf_insn.specs.declared.order.Order.{Order}
 use Rattle.bpf_cert.specs.Spelling.{certificate_text}
 use Rattle.bpf_cert.specs.View.{CertificateView}
-use Rattle.bpf_check.specs.Verdicts.{Promises, program_in}
+use Rattle.bpf_check.specs.Verdicts.{Promises}
 use Rattle.bpf_safety.specs.Certified.{Certified}
 use Rattle.bpf_classic.specs.declared.raw.Raw.{Raw}
 use Rattle.bpf_classic.specs.Bytes.{raws_in}
@@ -16,10 +16,7 @@ use Rattle.bpf_conversion.specs.Made.{Certifies, IsMade, filter_of}
 use Rattle.bpf_conversion.specs.declared.made.Made.{Made}
 use Rattle.bpf_host_calls.specs.Converted.{IsConvertedAs, IsImageOfFilter}
 use Rattle.bpf_host_calls.specs.declared.conversion.BpfConverted.{BpfConverted}
-
--- a program is its list in its order
-in_order : (order : Order) (p : Instructions) → p.order ≡ order → p ≡ program_in order p.list
-in_order order p same = ap (λ o. program_in o p.list) same
+use Rattle.bpf_host_calls.proofs.ImageLemmas.{in_order}
 
 -- the image of a program in its order
 image_in : (order : Order) (p : Instructions) (bytes : List ℕ) → p.order ≡ order → IsProgram p.list → bytes ≡ image p.order p.list → IsImageOfProgram order bytes p.list

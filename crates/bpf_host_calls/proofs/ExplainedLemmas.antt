@@ -1,8 +1,7 @@
 -- How an image is judged, from what its parts tell.
-use Rattle.std.proofs.Common.{◌≡◌, ℕ, List, Option, Some, None, IfSome, IfNone, sym, ap, subst, inr}
+use Rattle.std.proofs.Common.{◌≡◌, ℕ, List, Option, Some, None, IfSome, IfNone, sym, subst, inr}
 use Rattle.bpf_insn.specs.Instruction.{Instructions}
 use Rattle.bpf_insn.specs.Image.{IsImage, IsProgram}
-use Rattle.bpf_insn.specs.Laws.{IsImageOfProgram}
 use Rattle.bpf_insn.specs.declared.order.Order.{Order}
 use Rattle.bpf_cert.specs.View.{CertificateView}
 use Rattle.bpf_cert.specs.Certificates.{Spells}
@@ -11,7 +10,6 @@ use Rattle.bpf_cert.specs.declared.error.CertError.{CertError}
 use Rattle.bpf_safety.specs.Certified.{Certified, IsLeastFlaw}
 use Rattle.bpf_check.specs.CheckedProgram.{IsCertifiedBy}
 use Rattle.bpf_check.specs.RefusalNumbers.{refusal_slot, refusal_number}
-use Rattle.bpf_check.specs.Verdicts.{Certifies, program_in}
 use Rattle.bpf_check.specs.declared.refusal.Refusal.{Refusal}
 use Rattle.bpf_check.specs.declared.verifier.VerifyError.TheVariants.{Image as InImage, Cert as InCert, Check as InCheck}
 use Rattle.bpf_host_calls.specs.Told.{TellsCertificate, TellsCheck}
@@ -20,19 +18,13 @@ use Rattle.bpf_host_calls.specs.Explained.{IsRefusedImage, IsCheckedAs, IsCertif
 use Rattle.bpf_host_calls.specs.declared.answers.BpfRefusal.{BpfRefusal}
 use Rattle.bpf_host_calls.specs.declared.explanation.HowJudged.{HowJudged}
 use Rattle.bpf_host_calls.specs.declared.explanation.HowJudged.TheVariants.{Accepted, Refused}
-
--- a program is its list in its order
-in_order : (order : Order) (p : Instructions) → p.order ≡ order → p ≡ program_in order p.list
-in_order order p same = ap (λ o. program_in o p.list) same
+use Rattle.bpf_host_calls.proofs.ImageLemmas.{image_of, in_order}
 
 -- bytes that are no image
 pub by_image : (order : Order) (image text : List ℕ) (o : Option HowJudged) → IfSome o (λ j. (told : BpfRefusal) × (j ≡ Refused told) × IsRefusedImage order image told) → IfSome o (IsCheckedAs order image text)
 by_image order image text None h = h
 by_image order image text (Some j) h =
     subst (λ k. IsCheckedAs order image text k) (sym h.1) (record { error = InImage h.2.0; refused = h.2.1; read = λ unread. unread; tells = h.2.2 })
-
-image_of : (order : Order) (image : List ℕ) (p : Instructions) → IsImage order p.list image → IsProgram p.list → IsImageOfProgram order image p.list
-image_of order image p im program = record { program = program; bytes_are = im.bytes_are }
 
 -- a text that is no certificate
 pub by_text : (order : Order) (image text : List ℕ) (p : Instructions) (e : CertError) (o : Option HowJudged) → IsImage order p.list image → IsProgram p.list → IsFaultOf text e → IfSome o (λ j. (told : BpfRefusal) × (j ≡ Refused told) × TellsCertificate e told × ¬ (IsFromOutside e)) → IfSome o (IsCheckedAs order image text)

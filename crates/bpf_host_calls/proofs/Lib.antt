@@ -1,5 +1,7 @@
+pub mod ImageLemmas
 pub mod EndLemmas
 pub mod VerdictLemmas
+pub mod PreparedLemmas
 pub mod LoadedLemmas
 pub mod ConvertedLemmas
 pub mod CertifiedLemmas

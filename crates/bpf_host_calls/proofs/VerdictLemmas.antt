@@ -2,8 +2,10 @@
 use Rattle.std.proofs.Common.{◌≡◌, ◌≢◌, ◌⊎◌, ◌≤◌, ◌<◌, ℕ, List, ℤ, pos, negsuc, Result, Ok, Err, IsOk, IfOk, IsOkAnd, IsErrAnd, MatchResult, ap, ◌∙◌, inl, inr, arith}
 use Rattle.bpf_cert.specs.View.{CertificateView}
 use Rattle.std.proofs.lemmas.Bool.{false≢true}
+use Rattle.bpf_insn.specs.Laws.{IsImageOfProgram}
 use Rattle.bpf_insn.specs.declared.order.Order.{Order}
-use Rattle.bpf_check.specs.Verdicts.{Promises, Certifies, IsUnread}
+use Rattle.bpf_insn.specs.declared.instruction.Insn.{Insn}
+use Rattle.bpf_check.specs.Verdicts.{Verified, Promises, Certifies, IsUnread}
 use Rattle.bpf_check.specs.declared.verifier.Verdict.{Verdict}
 use Rattle.bpf_check.specs.declared.verifier.VerifyError.{VerifyError}
 use Rattle.bpf_host_calls.specs.Told.{IsVerdictOf, TellsVerdict, TellsRefusal}
@@ -76,3 +78,8 @@ tells_too_long j r told why c limit says told_yes told_no small answers paid man
 pub certified : (order : Order) (image text : List ℕ) (j : Judged) → IsOk j → IfOk j (λ v. Promises order image text v.least v.most v.bound) → (c : CertificateView) × Certifies order image text c
 certified order image text (Ok v) is holds = (holds.certificate, holds.certifies)
 certified order image text (Err e) is holds = absurd (false≢true is)
+
+-- an image that is judged with a yes is a program's
+pub is_program : (order : Order) (image : List ℕ) (j : Judged) → IfOk j (λ v. Verified order image v.least v.most v.bound) → IsOk j → (is : List Insn) × IsImageOfProgram order image is
+is_program order image (Ok v) verified is = (verified.program, verified.is_image)
+is_program order image (Err e) verified is = absurd (false≢true is)

@@ -15,7 +15,7 @@ use Rattle.bpf_certify.specs.declared.wish.Wish.{Wish}
 use Rattle.bpf_certify.specs.declared.certified.Rewritten.{Rewritten}
 use Rattle.bpf_certify.specs.declared.error.CertifyError.{CertifyError}
 use Rattle.bpf_certify.specs.declared.error.CertifyError.TheVariants.{Unhardened}
-use Rattle.bpf_changes.specs.declared.error.HardenError.TheVariants.{Memory as NoRoomLeft}
+use Rattle.bpf_infer_base.specs.declared.harden_error.HardenError.TheVariants.{Memory as NoRoomLeft}
 use Rattle.bpf_host_calls.specs.Told.{TellsImage, number_of}
 use Rattle.bpf_host_calls.specs.declared.answers.BpfRefusal.{BpfRefusal}
 use Rattle.bpf_host_calls.specs.Followed.{IsFollowed, following_of}

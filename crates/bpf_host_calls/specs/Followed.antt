@@ -19,10 +19,10 @@ use Rattle.bpf_kept.specs.declared.bounds.Bounds.{Bounds}
 use Rattle.bpf_kept.specs.declared.bounds.Turns.{Turns}
 use Rattle.bpf_kept.specs.declared.bounds.Turns.TheVariants.{Any, Most}
 use Rattle.bpf_kept.specs.declared.mismatch.Mismatch.{Mismatch}
-use Rattle.bpf_kept_notes.specs.NotesText.{notes_text}
-use Rattle.bpf_kept_notes.specs.Refused.{IsRefused as AreRefused}
-use Rattle.bpf_kept_notes.specs.declared.error.NotesError.{NotesError}
-use Rattle.bpf_host_calls.specs.Told.{TellsImage, TellsCertificate, TellsCheck, number_of}
+use Rattle.bpf_follows.specs.NotesText.{notes_text}
+use Rattle.bpf_follows.specs.Refused.{IsRefused as AreRefused}
+use Rattle.bpf_follows.specs.declared.error.NotesError.{NotesError}
+use Rattle.bpf_host_calls.specs.Told.{TellsCertificate, TellsCheck, number_of}
 use Rattle.bpf_host_calls.specs.Explained.{IsSomeImage, IsRefusedImage}
 use Rattle.bpf_host_calls.specs.declared.answers.BpfRefusal.{BpfRefusal}
 use Rattle.bpf_host_calls.specs.ToldAdvice.{TellsNewImage, TellsNotes, TellsMatch}
@@ -40,10 +40,8 @@ long_turns (Most turns) = min turns (2 ^ 64 - 2)
 abbrev pub following_of : Bounds → Turns → ℕ → BpfFollowing
 following_of runs turns bound = record { size = runs.length; padded = number_of runs.padded; turns = long_turns turns; untouched = runs.untouched; bound = bound }
 
--- Both are images. One text is that of notes, and another one spells a certificate, which certifies the new program. Beside it the notes match, so the new
--- program keeps the old one's meaning on the runs of which they speak. These are told, and the certificate's bound. Where no note has a counter, it is
--- told that they are runs of any number of turns.
-pub record IsFollowed (order : Order) (old new notes text : List ℕ) (told : BpfFollowing) : Type 0 where
+-- Both are images. One text is that of notes, and another one spells a certificate, which certifies the new program.
+pub record AreJudged (order : Order) (old new notes text : List ℕ) : Type 0 where
   pub program : List Insn
   pub is_old : IsImageOfProgram order old program
   pub made : List Insn
@@ -54,9 +52,14 @@ pub record IsFollowed (order : Order) (old new notes text : List ℕ) (told : Bp
   pub certificate : CertificateView
   pub spelled : Spells text certificate
   pub certified : IsCertifiedBy (program_in order made) certificate
-  pub matches : MatchesBeside (program_in order program) (program_in order made) noted certificate runs
-  pub keeps : Keeps (program_in order program) (program_in order made) noted runs
-  pub told_is : told ≡ following_of runs (shown_turns noted runs.turns) certificate.steps
+
+-- Beside the certificate the notes match, so the new program keeps the old one's meaning on the runs of which they speak. These are told, and the
+-- certificate's bound. Where no note has a counter, it is told that they are runs of any number of turns.
+pub record IsFollowed (order : Order) (old new notes text : List ℕ) (told : BpfFollowing) : Type 0 where
+  pub judged : AreJudged order old new notes text
+  pub matches : MatchesBeside (program_in order judged.program) (program_in order judged.made) judged.noted judged.certificate judged.runs
+  pub keeps : Keeps (program_in order judged.program) (program_in order judged.made) judged.noted judged.runs
+  pub told_is : told ≡ following_of judged.runs (shown_turns judged.noted judged.runs.turns) judged.certificate.steps
 
 -- ---- what is refused: the first of both images, the notes, the certificate, what it certifies, and what the notes show
 
@@ -84,18 +87,9 @@ IsFlawedNew order old new notes text told =
 
 -- all that is well, and this fails of the notes beside the certificate
 pub record IsMismatched (order : Order) (old new notes text : List ℕ) (told : BpfRefusal) : Type 0 where
-  pub program : List Insn
-  pub is_old : IsImageOfProgram order old program
-  pub made : List Insn
-  pub is_new : IsImageOfProgram order new made
-  pub runs : Bounds
-  pub noted : Notes
-  pub notes_are : notes ≡ notes_text runs noted
-  pub certificate : CertificateView
-  pub spelled : Spells text certificate
-  pub certified : IsCertifiedBy (program_in order made) certificate
+  pub judged : AreJudged order old new notes text
   pub mismatch : Mismatch
-  pub fails : IsMismatch (program_in order program) (program_in order made) noted certificate runs mismatch
+  pub fails : IsMismatch (program_in order judged.program) (program_in order judged.made) judged.noted judged.certificate judged.runs mismatch
   pub tells : TellsMatch mismatch told
 
 -- as is told

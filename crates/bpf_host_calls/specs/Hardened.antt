@@ -12,10 +12,10 @@ use Rattle.bpf_kept.specs.Matching.{Notes}
 use Rattle.bpf_kept.specs.Shown.{Keeps}
 use Rattle.bpf_kept.specs.declared.bounds.Bounds.{Bounds}
 use Rattle.bpf_kept.specs.declared.mismatch.Mismatch.{Mismatch}
-use Rattle.bpf_harden_kept.specs.Evidence.{Fails}
-use Rattle.bpf_changes.specs.RefusalNumbers.{harden_slot}
-use Rattle.bpf_changes.specs.declared.error.HardenError.{HardenError}
-use Rattle.bpf_changes.specs.declared.error.HardenError.TheVariants.{Memory as NoRoomLeft}
+use Rattle.bpf_certify.specs.Evidence.{Fails}
+use Rattle.bpf_infer_base.specs.HardenNumbers.{harden_slot}
+use Rattle.bpf_infer_base.specs.declared.harden_error.HardenError.{HardenError}
+use Rattle.bpf_infer_base.specs.declared.harden_error.HardenError.TheVariants.{Memory as NoRoomLeft}
 use Rattle.bpf_host_calls.specs.Told.{TellsImage}
 use Rattle.bpf_host_calls.specs.declared.answers.BpfRefusal.{BpfRefusal}
 use Rattle.bpf_host_calls.specs.ToldAdvice.{TellsHardening, TellsUnshown}

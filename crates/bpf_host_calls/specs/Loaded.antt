@@ -5,7 +5,7 @@ use Rattle.bpf_insn.specs.declared.order.Order.{Order}
 use Rattle.bpf_cert.specs.View.{CertificateView}
 use Rattle.bpf_check.specs.Verdicts.{Certifies, Verified}
 use Rattle.bpf_host_calls.specs.Told.{order_named}
-use Rattle.bpf_host_calls.specs.Prepared.{IsPrepared, IsMarked, IsWhole}
+use Rattle.bpf_host_calls.specs.Prepared.{IsPrepared, IsMarked, IsWhole, opcodes_room}
 use Rattle.bpf_host_calls.specs.Answers.{EndsOn}
 
 -- the numbers of a handle, each of eight bytes: how many bytes a context has at least and at most, and how many instructions a run takes
@@ -28,16 +28,20 @@ pub record HasRange (least most bound : ℕ) (memory : List ℕ) : Type 0 where
 abbrev pub handle_head : ℕ
 handle_head = 40
 
+-- how many bytes the handle of an image of n bytes takes
+abbrev pub handle_length : ℕ → ℕ
+handle_length n = handle_head + n + opcodes_room n
+
 -- the numbers of a verdict, and then an image, prepared
 pub record IsLoaded (order : Order) (image : List ℕ) (least most bound : ℕ) (memory : List ℕ) : Type 0 where
-  pub fits : handle_head + length image ≤ length memory
+  pub fits : handle_length (length image) ≤ length memory
   pub numbers : HasRange least most bound memory
   pub is_prepared : IsPrepared order image (drop 24 memory)
 
 -- Each certificate that certifies an image in an order that there is, and is one of these, is answered so, where memory has just the size of a handle.
 abbrev pub LoadsEach : (order : ℕ) → (image certificate memory : List ℕ) → (which says : CertificateView → Type 0) → Type 0
 LoadsEach order image certificate memory which says =
-    (c : CertificateView) → order ≤ 1 → length memory ≡ handle_head + length image → Certifies (order_named order) image certificate c → which c → says c
+    (c : CertificateView) → order ≤ 1 → length memory ≡ handle_length (length image) → Certifies (order_named order) image certificate c → which c → says c
 
 -- this version's mark stands in a handle
 abbrev pub IsMarkedHandle : List ℕ → Type 0

@@ -2,16 +2,16 @@
 use Rattle.std.specs.Prelude.{◌≡◌, ◌≢◌}
 use Rattle.bpf_infer_base.specs.declared.error.InferError.{InferError}
 use Rattle.bpf_infer_base.specs.declared.error.InferError.TheVariants.{Memory}
-use Rattle.bpf_changes.specs.declared.error.HardenError.{HardenError}
-use Rattle.bpf_changes.specs.declared.error.HardenError.TheVariants.{Memory as NoRoomLeft}
+use Rattle.bpf_infer_base.specs.declared.harden_error.HardenError.{HardenError}
+use Rattle.bpf_infer_base.specs.declared.harden_error.HardenError.TheVariants.{Memory as NoRoomLeft}
 use Rattle.bpf_certify.specs.Certified.{told_certifying}
 use Rattle.bpf_certify.specs.declared.error.CertifyError.{CertifyError}
 use Rattle.bpf_certify.specs.declared.error.CertifyError.TheVariants.{Unhardened}
 use Rattle.bpf_cert.specs.ReadAnswers.{IsFromOutside}
 use Rattle.bpf_cert.specs.declared.error.CertError.{CertError}
 use Rattle.bpf_kept.specs.declared.mismatch.Mismatch.{Mismatch}
-use Rattle.bpf_kept_notes.specs.declared.error.NotesError.{NotesError}
-use Rattle.bpf_kept_notes.specs.declared.error.NotesError.TheVariants.{Form, Memory as NoNotesMemory}
+use Rattle.bpf_follows.specs.declared.error.NotesError.{NotesError}
+use Rattle.bpf_follows.specs.declared.error.NotesError.TheVariants.{Form, Memory as NoNotesMemory}
 use Rattle.bpf_insn.specs.declared.refusal.DecodeError.{DecodeError}
 use Rattle.bpf_refusals.specs.Told.{told_hardening, told_image, told_inference, told_mismatch, told_not_shown, told_notes}
 use Rattle.bpf_host_calls.specs.Told.{TellsCertificate, refusal_of}

@@ -1,34 +1,20 @@
 -- Whether a run of an image ends at a trap, by notes.
-use Rattle.std.specs.Prelude.{◌≡◌, ◌⊎◌, ℕ, Bool, false, List}
-use Rattle.bpf_insn.specs.Instruction.{Instructions}
+use Rattle.std.specs.Prelude.{◌≡◌, ◌⊎◌, ℕ, Bool, List}
 use Rattle.bpf_insn.specs.Laws.{IsImageOfProgram}
 use Rattle.bpf_insn.specs.declared.order.Order.{Order}
 use Rattle.bpf_insn.specs.declared.instruction.Insn.{Insn}
 use Rattle.bpf_check.specs.Verdicts.{program_in}
-use Rattle.bpf_machine.specs.Answers.{IsRun}
-use Rattle.bpf_machine.specs.declared.outcome.Outcome.{Outcome}
-use Rattle.bpf_machine.specs.declared.outcome.Outcome.TheVariants.{Done, Fault, OutOfFuel}
 use Rattle.bpf_kept.specs.Matching.{Notes}
 use Rattle.bpf_kept.specs.declared.bounds.Bounds.{Bounds}
-use Rattle.bpf_kept_notes.specs.NotesText.{notes_text}
-use Rattle.bpf_kept_notes.specs.Refused.{IsRefused as AreRefused}
-use Rattle.bpf_kept_notes.specs.declared.error.NotesError.{NotesError}
-use Rattle.bpf_traps.specs.Traps.{EndsByNotes}
+use Rattle.bpf_follows.specs.NotesText.{notes_text}
+use Rattle.bpf_follows.specs.Refused.{IsRefused as AreRefused}
+use Rattle.bpf_follows.specs.declared.error.NotesError.{NotesError}
+use Rattle.bpf_follows.specs.Traps.{RunsToTrap}
 use Rattle.bpf_host_calls.specs.Told.{number_of}
 use Rattle.bpf_host_calls.specs.ToldAdvice.{TellsNotes}
 use Rattle.bpf_host_calls.specs.Explained.{IsSomeImage, IsRefusedImage}
 use Rattle.bpf_host_calls.specs.declared.answers.BpfRefusal.{BpfRefusal}
 use Rattle.bpf_host_calls.specs.declared.refusals.Unmade.TheVariants.{Refused}
-
--- A run that ends does so at a trap, or at another EXIT. One that doesn't end is at no trap.
-abbrev pub EndsAtTrap : Instructions → List ℕ → Notes → Outcome → Bool → Type 0
-EndsAtTrap p context notes (Done v k) at_trap = EndsByNotes p context notes v k at_trap
-EndsAtTrap p context notes (Fault slot why k) at_trap = at_trap ≡ false
-EndsAtTrap p context notes OutOfFuel at_trap = at_trap ≡ false
-
--- So it is of the program's run of at most so many instructions.
-abbrev pub RunsToTrap : Instructions → List ℕ → Notes → (most : ℕ) → Bool → Type 0
-RunsToTrap p context notes most at_trap = (outcome : Outcome) × IsRun p context most outcome × EndsAtTrap p context notes outcome at_trap
 
 -- The bytes are an image, and the text is that of notes, by which the image's run ends so.
 pub record IsTrapped (order : Order) (image notes context : List ℕ) (most : ℕ) (at_trap : Bool) : Type 0 where

@@ -1,6 +1,7 @@
 //! What is asked of the call, in numbers as C hands them over.
 
-/// Which image is to be made of a filter, and how the filter's bytes are read.
+/// Which image is to be made of a filter, and how the filter's bytes are read, as C hands it over.
+#[repr(C)]
 #[derive(Clone, Copy)]
 pub struct ConvertAsked {
     /// The byte order of the numbers in the filter, 0 little-endian or 1 big-endian.

@@ -1,15 +1,13 @@
 //! Images certified, as they stand or hardened.
 
-ghost use Rattle.std.specs.Prelude.{◌≡◌, ◌≤◌, ◌<◌, ◌++◌, ◌⊎◌, IfOk, IfErr, IfSome, length, drop};
+ghost use Rattle.std.specs.Prelude.{◌≡◌, ◌≤◌, IfOk, IfErr, IfSome};
 ghost use Rattle.bpf_insn.specs.Limits.{max_context};
 ghost use Rattle.bpf_host_calls.specs.Certified.{IsCertifiedAs, IsImageMade, IsNotCertified, TellsMade, short_turns, wish_of};
 ghost use Rattle.bpf_host_calls.specs.ToldAdvice.{IsTold};
-ghost use Rattle.bpf_host_calls.specs.declared.answers.TheConstants.{YES, TOO_SMALL};
 
-use crate::answers::{TOO_SMALL, YES, refusal_of};
+use crate::answers::refusal_of;
 use crate::explanation::Given;
-use crate::hardening::image_of;
-use crate::proposal::text_of;
+use crate::outputs::{ImageWithText, image_of, text_of};
 use crate::refusals::{Unmade, of_certifying};
 use bpf_certify::{Certified, Turns, Wish, certify};
 use bpf_insn::{DecodeError, decode};
@@ -55,8 +53,7 @@ pub struct BpfCertified {
 /// An image and its certificate, and what is told of them.
 #[derive(Drop)]
 pub(crate) struct MadeWithin {
-    pub(crate) image: Vec<u8>,
-    pub(crate) text: Vec<u8>,
+    pub(crate) both: ImageWithText,
     pub(crate) told: BpfCertified,
 }
 
@@ -133,7 +130,7 @@ pub(crate) fn certification(
     wish: BpfWish,
 ) -> Result<MadeWithin, Unmade>
     requires { size ≤ max_context }
-    ensures ok { IfOk result (λ made. IsCertifiedAs given.entry.order given.entry.image.now size wish made.told made.image.items made.text.items) }
+    ensures ok { IfOk result (λ made. IsCertifiedAs given.entry.order given.entry.image.now size wish made.told made.both.image.items made.both.text.items) }
     ensures err { IfErr result (IsTold (IsNotCertified given.entry.order given.entry.image.now size wish)) }
 {
     let program = match decode(alloc, given.image, given.order) {
@@ -152,22 +149,8 @@ pub(crate) fn certification(
         return Err(Unmade::Memory);
     };
     let told = told_of(&certified, image.len(), text.len());
-    Ok(MadeWithin { image, text, told })
-}
-
-/// Gives both where there is room for each.
-pub(crate) fn give_both(made: &MadeWithin, image: &mut [u8], text: &mut [u8]) -> i32
-    ensures image { result ≡ YES → image.new ≡ made.now.image.items ++ drop (length made.now.image.items) image.old }
-    ensures text { result ≡ YES → text.new ≡ made.now.text.items ++ drop (length made.now.text.items) text.old }
-    ensures small { result ≡ TOO_SMALL → (length image.old < length made.now.image.items) ⊎ (length text.old < length made.now.text.items) }
-    ensures image_kept { (result ≡ YES) ⊎ (image.new ≡ image.old) }
-    ensures text_kept { (result ≡ YES) ⊎ (text.new ≡ text.old) }
-    ensures answers { (result ≡ YES) ⊎ (result ≡ TOO_SMALL) }
-{
-    if image.len() < made.image.len() || text.len() < made.text.len() {
-        return TOO_SMALL;
-    }
-    image[..made.image.len()].copy_from_slice(&made.image);
-    text[..made.text.len()].copy_from_slice(&made.text);
-    YES
+    Ok(MadeWithin {
+        both: ImageWithText { image, text },
+        told,
+    })
 }

@@ -7,9 +7,10 @@ ghost use Rattle.bpf_host_calls.specs.Certified.{GivesCertified, IsNotCertified,
 ghost use Rattle.bpf_host_calls.specs.declared.answers.TheConstants.{YES, NO, NO_MEMORY, BAD_CALL, TOO_SMALL};
 
 use crate::answers::{BAD_CALL, BpfRefusal, NO, NO_MEMORY, order_of};
-use crate::certification::{BpfCertified, certification, give_both};
+use crate::certification::{BpfCertified, certification};
 use crate::explanation::Given;
 use crate::host_advice_asked::CertifyAsked;
+use crate::outputs::give_both;
 use crate::refusals::Unmade;
 use bpf_insn::MAX_CONTEXT;
 use std::alloc::Global;
@@ -53,7 +54,7 @@ pub fn certify(
     match certification(alloc, Given { image, order }, asked.size, asked.wish) {
         Ok(found) => {
             *certified = found.told;
-            give_both(&found, made, text)
+            give_both(&found.both, made, text)
         }
         Err(Unmade::Memory) => NO_MEMORY,
         Err(Unmade::Refused(told)) => {

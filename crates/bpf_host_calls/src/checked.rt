@@ -2,7 +2,7 @@
 
 ghost use Rattle.std.specs.Prelude.{◌≤◌, ◌↔◌, IsSome, IfSome, length};
 ghost use Rattle.bpf_host_calls.specs.Answers.{IsVerifiedFor, MayRun, EndsAsVerified, EndsAsPrepared};
-ghost use Rattle.bpf_host_calls.specs.Prepared.{IsMarked, IsWhole, prepared_head};
+ghost use Rattle.bpf_host_calls.specs.Prepared.{AreOpcodesOf, IsMarked, IsWhole, prepared_head};
 ghost use Rattle.bpf_host_calls.specs.Told.{order_named};
 
 use crate::ordered::Ordered;
@@ -11,26 +11,31 @@ use bpf_flat::run_fetched;
 use bpf_insn::Order;
 use bpf_semantics::{finish_is_last, runs_are_one, stuck_has_reason};
 
-/// The number with which the program of a verified image in the byte order of a number ends on a context.
-fn end_in<const ORDER: u32>(image: &[u8], context: &[u8]) -> u64
-    requires { IsVerifiedFor (order_named ORDER) image.now context.now }
+/// The greatest bound that a certificate says.
+const MAX_STEPS: u32 = u32::MAX;
+
+/// The number with which the program of a verified image in the byte order of a number ends on a context. Its opcodes stand beside it.
+fn end_in<const ORDER: u32>(image: &[u8], opcodes: &[u8], context: &[u8]) -> u64
+    requires verified { IsVerifiedFor (order_named ORDER) image.now context.now }
+    requires opcodes { AreOpcodesOf (order_named ORDER) image.now opcodes.now }
     ensures { EndsAsVerified (order_named ORDER) image.now context.now result }
 {
     finish_is_last();
     stuck_has_reason();
     runs_are_one();
-    let program: Ordered<'_, ORDER> = Ordered::of(image);
-    run_fetched(&program, context, u32::MAX)
+    let program: Ordered<'_, ORDER> = Ordered::of(image, opcodes);
+    run_fetched(&program, context, MAX_STEPS)
 }
 
-/// The number with which the program of a verified image ends on a context.
-pub(crate) fn end_of_image(image: &[u8], order: Order, context: &[u8]) -> u64
-    requires { IsVerifiedFor order image.now context.now }
+/// The number with which the program of a verified image ends on a context. Its opcodes stand beside it.
+pub(crate) fn end_of_image(image: &[u8], opcodes: &[u8], order: Order, context: &[u8]) -> u64
+    requires verified { IsVerifiedFor order image.now context.now }
+    requires opcodes { AreOpcodesOf order image.now opcodes.now }
     ensures { EndsAsVerified order image.now context.now result }
 {
     match order {
-        Order::Little => end_in::<0>(image, context),
-        Order::Big => end_in::<1>(image, context),
+        Order::Little => end_in::<0>(image, opcodes, context),
+        Order::Big => end_in::<1>(image, opcodes, context),
     }
 }
 
@@ -42,5 +47,5 @@ pub(crate) fn end_of(memory: &[u8], context: &[u8]) -> Option<u64>
     ensures known { IsSome result ↔ (IsMarked memory.now × IsWhole memory.now) }
 {
     let found = found_in(memory)?;
-    Some(end_of_image(found.image, found.order, context))
+    Some(end_of_image(found.image, found.opcodes, found.order, context))
 }

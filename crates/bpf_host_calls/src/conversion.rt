@@ -1,20 +1,18 @@
 //! Filters converted.
 
-ghost use Rattle.std.specs.Prelude.{◌≡◌, ◌≤◌, ◌<◌, ◌++◌, ◌⊎◌, IfOk, IfErr, IfSome, length, drop};
-ghost use Rattle.bpf_insn.specs.Image.{IsProgram, image};
+ghost use Rattle.std.specs.Prelude.{◌≤◌, IfOk, IfErr};
 ghost use Rattle.bpf_insn.specs.Limits.{max_context};
-ghost use Rattle.bpf_cert.specs.Spelling.{certificate_text};
 ghost use Rattle.bpf_classic.specs.Template.{head};
 ghost use Rattle.bpf_host_calls.specs.Converted.{IsConvertedAs, IsNotConverted};
-ghost use Rattle.bpf_host_calls.specs.ToldConverted.{IsTold};
-ghost use Rattle.bpf_host_calls.specs.declared.answers.TheConstants.{YES, TOO_SMALL};
+ghost use Rattle.bpf_host_calls.specs.ToldAdvice.{IsTold};
 
-use crate::answers::{TOO_SMALL, YES, refusal_of};
-use crate::unconverted::{Unmade, of_conversion};
-use bpf_cert::{Certificate, write};
+use crate::answers::refusal_of;
+use crate::outputs::{ImageWithText, image_of, text_of};
+use crate::refusals::Unmade;
+use crate::unconverted::of_conversion;
 use bpf_classic::{TextFault, Wanted, raws_in};
 use bpf_conversion::converted;
-use bpf_insn::{Code, Order, Program, encode};
+use bpf_insn::Order;
 use std::alloc::Global;
 
 /// The bytes of a filter, and the order of its numbers.
@@ -39,33 +37,8 @@ pub struct BpfConverted {
 /// An image and its certificate, and what is told of them.
 #[derive(Drop)]
 pub(crate) struct MadeOfFilter {
-    pub(crate) image: Vec<u8>,
-    pub(crate) text: Vec<u8>,
+    pub(crate) both: ImageWithText,
     pub(crate) told: BpfConverted,
-}
-
-/// The image of a program; None where memory ran out.
-fn image_of(alloc: Global, program: &Program) -> Option<Vec<u8>>
-    ensures program { IfSome result (λ _. IsProgram program.now.list) }
-    ensures bytes { IfSome result (λ bytes. bytes.items ≡ image program.now.order program.now.list) }
-{
-    let _ = Code::slots(program);
-    let mut bytes = Vec::new(alloc);
-    match encode(program, &mut bytes) {
-        Ok(()) => Some(bytes),
-        Err(_) => None,
-    }
-}
-
-/// The text of a certificate; None where memory ran out.
-fn text_of(alloc: Global, certificate: &Certificate) -> Option<Vec<u8>>
-    ensures { IfSome result (λ text. text.items ≡ certificate_text certificate.now) }
-{
-    let mut text = Vec::new(alloc);
-    match write(certificate, &mut text) {
-        Ok(()) => Some(text),
-        Err(_) => None,
-    }
 }
 
 /// The image and the certificate of what a filter becomes.
@@ -76,7 +49,7 @@ pub(crate) fn conversion(
 ) -> Result<MadeOfFilter, Unmade>
     requires short { wanted.length ≤ max_context }
     requires room { head wanted.form ≤ wanted.length }
-    ensures ok { IfOk result (λ made. IsConvertedAs given.entry.order given.entry.filter.now wanted made.told made.image.items made.text.items) }
+    ensures ok { IfOk result (λ made. IsConvertedAs given.entry.order given.entry.filter.now wanted made.told made.both.image.items made.both.text.items) }
     ensures err { IfErr result (IsTold (IsNotConverted given.entry.order given.entry.filter.now wanted.form)) }
 {
     let raws = match raws_in(alloc, given.filter, given.order) {
@@ -103,22 +76,8 @@ pub(crate) fn conversion(
         certificate_len: text.len(),
         bound: made.certificate.steps(),
     };
-    Ok(MadeOfFilter { image, text, told })
-}
-
-/// Gives both where there is room for each.
-pub(crate) fn give_both(made: &MadeOfFilter, image: &mut [u8], text: &mut [u8]) -> i32
-    ensures image { result ≡ YES → image.new ≡ made.now.image.items ++ drop (length made.now.image.items) image.old }
-    ensures text { result ≡ YES → text.new ≡ made.now.text.items ++ drop (length made.now.text.items) text.old }
-    ensures small { result ≡ TOO_SMALL → (length image.old < length made.now.image.items) ⊎ (length text.old < length made.now.text.items) }
-    ensures image_kept { (result ≡ YES) ⊎ (image.new ≡ image.old) }
-    ensures text_kept { (result ≡ YES) ⊎ (text.new ≡ text.old) }
-    ensures answers { (result ≡ YES) ⊎ (result ≡ TOO_SMALL) }
-{
-    if image.len() < made.image.len() || text.len() < made.text.len() {
-        return TOO_SMALL;
-    }
-    image[..made.image.len()].copy_from_slice(&made.image);
-    text[..made.text.len()].copy_from_slice(&made.text);
-    YES
+    Ok(MadeOfFilter {
+        both: ImageWithText { image, text },
+        told,
+    })
 }

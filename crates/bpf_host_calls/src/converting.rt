@@ -9,9 +9,10 @@ ghost use Rattle.bpf_host_calls.specs.declared.answers.TheConstants.{YES, NO, NO
 
 use crate::answers::{BAD_CALL, BpfRefusal, NO, NO_MEMORY, order_of};
 use crate::asked::ConvertAsked;
-use crate::conversion::{BpfConverted, Given, conversion, give_both};
+use crate::conversion::{BpfConverted, Given, conversion};
 use crate::forms::{form_of, form_part, may_have, wanted_by};
-use crate::unconverted::Unmade;
+use crate::outputs::give_both;
+use crate::refusals::Unmade;
 use std::alloc::Global;
 
 /// Makes an image of a filter of classic BPF, and a certificate, for contexts of exactly `size` bytes in a form. The filter's instructions are eight bytes
@@ -65,7 +66,7 @@ pub fn convert(
     match conversion(alloc, given, wanted) {
         Ok(found) => {
             *converted = found.told;
-            give_both(&found, made, text)
+            give_both(&found.both, made, text)
         }
         Err(Unmade::Memory) => NO_MEMORY,
         Err(Unmade::Refused(told)) => {

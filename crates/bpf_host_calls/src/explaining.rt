@@ -10,7 +10,7 @@ ghost use Rattle.bpf_host_calls.specs.declared.answers.TheConstants.{YES, NO, NO
 use crate::answers::{BAD_CALL, BpfRefusal, NO, NO_MEMORY, YES, order_of};
 use crate::explanation::{Given, HowJudged, checked, read_alone, searched, shown_of};
 use crate::host_advice_asked::{ExplainAsked, RangeAsked};
-use crate::proposal::give;
+use crate::outputs::give;
 use bpf_explain::CertificateSearch;
 use bpf_infer::WantedCertificate;
 use bpf_insn::MAX_CONTEXT;

@@ -11,10 +11,9 @@ use crate::host_advice_asked::{BpfFollowing, FollowAsked};
 use crate::refusals::Unmade;
 use bpf_cert::{CertError, read as read_certificate};
 use bpf_check::{VerifyError, check};
+use bpf_follows::{NotesError, follows as shows, read as read_notes};
 use bpf_insn::{DecodeError, Order, ProgramView};
 use bpf_kept::{Bounds, Turns, turns_shown};
-use bpf_kept_notes::{NotesError, read as read_notes};
-use bpf_kept_pass::follows as shows;
 use std::alloc::Global;
 
 /// Why a new image is refused.

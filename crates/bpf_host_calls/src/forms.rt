@@ -7,9 +7,7 @@ ghost use Rattle.bpf_host_calls.specs.Forms.{form_named, may_have, form_part, fo
 
 use bpf_classic::{Form, Wanted, usual_turns};
 use bpf_insn::{MAX_CONTEXT, Order};
-
-/// The bytes in front of a packet that tell its length.
-const HEAD: u32 = 8;
+use bpf_semantics::HEAD_BYTES;
 
 /// The bytes in front of a packet with the words of Linux's auxiliary data.
 const LONG_HEAD: u32 = 72;
@@ -38,7 +36,7 @@ pub(crate) fn may_have(form: Form, size: u32) -> bool
     ensures room { result ≡ true → head form ≤ size }
 {
     match form {
-        Form::Blocks => size >= HEAD && size <= MAX_CONTEXT as u32,
+        Form::Blocks => size >= HEAD_BYTES && size <= MAX_CONTEXT as u32,
         Form::Plain => size <= MAX_CONTEXT as u32,
         Form::Seccomp => size == SECCOMP_DATA,
         Form::Extended => size >= LONG_HEAD && size <= MAX_CONTEXT as u32,

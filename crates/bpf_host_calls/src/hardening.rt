@@ -1,18 +1,18 @@
 //! Images hardened.
 
-ghost use Rattle.std.specs.Prelude.{◌≡◌, ◌≤◌, ◌==◌, IfOk, IfErr, IfSome, IsOk, false};
+ghost use Rattle.std.specs.Prelude.{◌≡◌, ◌≤◌, ◌==◌, IfOk, IfErr, IsOk, false};
 ghost use Rattle.bpf_insn.specs.Limits.{max_context};
-ghost use Rattle.bpf_insn.specs.Image.{IsProgram, image};
 ghost use Rattle.bpf_host_calls.specs.Hardened.{bounds_asked, IsKeptBy, IsHardenedAs, IsNotHardened, IsUnshown};
 ghost use Rattle.bpf_host_calls.specs.ToldAdvice.{IsTold};
 
 use crate::answers::{refusal_of, told_refusal};
 use crate::explanation::Given;
 use crate::host_advice_asked::HardenAsked;
+use crate::outputs::image_of;
 use crate::refusals::{Unmade, of_hardening};
+use bpf_certify::evidence_for;
 use bpf_harden::{Hardened, Options, harden};
-use bpf_harden_kept::evidence_for;
-use bpf_insn::{Code, DecodeError, Program, decode, encode};
+use bpf_insn::{DecodeError, Program, decode};
 use bpf_kept::Bounds;
 use bpf_refusals::Told;
 use std::alloc::Global;
@@ -26,19 +26,6 @@ fn bounds_asked(asked: HardenAsked) -> Bounds
         padded: asked.padded == 1,
         turns: u64::from(asked.turns),
         untouched: asked.untouched,
-    }
-}
-
-/// The image of a program; None where memory ran out.
-pub(crate) fn image_of(alloc: Global, program: &Program) -> Option<Vec<u8>>
-    ensures program { IfSome result (λ _. IsProgram program.now.list) }
-    ensures bytes { IfSome result (λ bytes. bytes.items ≡ image program.now.order program.now.list) }
-{
-    let _ = Code::slots(program);
-    let mut bytes = Vec::new(alloc);
-    match encode(program, &mut bytes) {
-        Ok(()) => Some(bytes),
-        Err(_) => None,
     }
 }
 

@@ -53,7 +53,8 @@ pub struct TrapAsked<'a> {
     pub most: u64,
 }
 
-/// What is asked of a hardening.
+/// What is asked of a hardening, as C hands it over.
+#[repr(C)]
 #[derive(Clone, Copy)]
 pub struct HardenAsked {
     /// How many bytes a context has, from 0 to 4,096.
@@ -70,7 +71,8 @@ pub struct HardenAsked {
     pub untouched: u32,
 }
 
-/// What is asked of a certification.
+/// What is asked of a certification, as C hands it over.
+#[repr(C)]
 #[derive(Clone, Copy)]
 pub struct CertifyAsked {
     /// The byte order of the image, 0 little-endian or 1 big-endian.

@@ -1,10 +1,12 @@
 //! What is answered of an image that was judged by a certificate. The judgement is an argument, so that the clauses can say that nothing else is told. They
 //! can't say which of the answers that it may give the checker gave.
 
-ghost use Rattle.std.specs.Prelude.{◌≡◌, ◌≢◌, ◌⊎◌, ◌↔◌, ◌<◌, ◌≤◌, ◌+◌, IsOkAnd, IsErrAnd, IfOk, IsOk, length};
+ghost use Rattle.std.specs.Prelude.{◌≡◌, ◌≢◌, ◌⊎◌, ◌↔◌, ◌<◌, ◌≤◌, ◌+◌, IsOkAnd, IsErrAnd, IfOk, IsOk, List, length};
+ghost use Rattle.bpf_insn.specs.Laws.{IsImageOfProgram};
+ghost use Rattle.bpf_insn.specs.declared.instruction.Insn.{Insn as Instruction};
 ghost use Rattle.bpf_check.specs.Verdicts.{IsUnread};
 ghost use Rattle.bpf_host_calls.specs.Told.{TellsRefusal, TellsVerdict};
-ghost use Rattle.bpf_host_calls.specs.Loaded.{handle_head, IsLoaded};
+ghost use Rattle.bpf_host_calls.specs.Loaded.{handle_length, IsLoaded};
 ghost use Rattle.bpf_host_calls.specs.declared.answers.TheConstants.{YES, NO, NO_MEMORY, TOO_SMALL, TOO_LONG};
 
 use crate::answers::{
@@ -68,15 +70,16 @@ pub(crate) fn kept(
     verdict: &mut BpfVerdict,
     refusal: &mut BpfRefusal,
 ) -> i32
+    requires { IsOk judged → (is : List Instruction) × IsImageOfProgram given.order given.image.now is }
     ensures loaded { result ≡ YES → IsLoaded given.entry.order given.entry.image.now verdict.new.least verdict.new.most verdict.new.bound memory.new }
     ensures yes { (result ≡ YES) ⊎ (result ≡ TOO_LONG) → IsOkAnd judged (λ v. TellsVerdict v verdict.new) }
     ensures paid { result ≡ YES → verdict.new.bound ≤ given.entry.limit }
     ensures long { result ≡ TOO_LONG → given.entry.limit < verdict.new.bound }
     ensures no { result ≡ NO → IsErrAnd judged (λ e. TellsRefusal e refusal.new × ¬ (IsUnread e)) }
     ensures memory { result ≡ NO_MEMORY → IsErrAnd judged IsUnread }
-    ensures small { result ≡ TOO_SMALL → length memory.old ≢ handle_head + length given.entry.image.now }
+    ensures small { result ≡ TOO_SMALL → length memory.old ≢ handle_length (length given.entry.image.now) }
     ensures certified { result ≡ TOO_SMALL → IsOk judged }
-    ensures size { (result ≡ YES) ⊎ (result ≡ TOO_LONG) → length memory.old ≡ handle_head + length given.entry.image.now }
+    ensures size { (result ≡ YES) ⊎ (result ≡ TOO_LONG) → length memory.old ≡ handle_length (length given.entry.image.now) }
     ensures answers { (result ≡ YES) ⊎ (result ≡ NO) ⊎ (result ≡ NO_MEMORY) ⊎ (result ≡ TOO_SMALL) ⊎ (result ≡ TOO_LONG) }
     ensures memory_kept { (result ≡ YES) ⊎ (memory.new ≡ memory.old) }
     ensures verdict_kept { (result ≡ YES) ⊎ (result ≡ TOO_LONG) ⊎ (verdict.new ≡ verdict.old) }

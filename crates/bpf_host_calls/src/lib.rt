@@ -20,6 +20,7 @@ mod host_advice_asked;
 mod judged;
 mod loaded;
 mod ordered;
+mod outputs;
 mod prepared;
 mod proposal;
 mod refusals;

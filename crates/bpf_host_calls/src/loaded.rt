@@ -2,34 +2,33 @@
 
 ghost use Rattle.std.specs.Prelude.{◌≡◌, ◌≤◌, ◌+◌, ◌*◌, ◌↔◌, IsTrue, IsSome, IfSome, List, ℕ, length, drop};
 ghost use Rattle.bpf_insn.specs.Limits.{max_slots};
+ghost use Rattle.bpf_insn.specs.Laws.{IsImageOfProgram};
 ghost use Rattle.bpf_insn.specs.declared.order.Order.{Order as ByteOrderOf};
-ghost use Rattle.bpf_host_calls.specs.Prepared.{IsPrepared, prepared_head};
-ghost use Rattle.bpf_host_calls.specs.Loaded.{handle_head, IsLoaded, IsMarkedHandle, IsWholeHandle, HasRange, loaded_least, loaded_most};
+ghost use Rattle.bpf_insn.specs.declared.instruction.Insn.{Insn as Instruction};
+ghost use Rattle.bpf_host_calls.specs.Prepared.{AreOpcodesOf, IsPrepared, prepared_head};
+ghost use Rattle.bpf_host_calls.specs.Loaded.{handle_head, handle_length, IsLoaded, IsMarkedHandle, IsWholeHandle, HasRange, loaded_least, loaded_most};
 
 use crate::answers::BpfVerdict;
-use crate::prepared::{OrderedImage, found_in, put};
+use crate::prepared::{OrderedImage, found_in, has_room, put, size_for};
 use bpf_insn::Order;
 use byteorder::{ByteOrder, LittleEndian};
 
 /// How many bytes stand before the prepared program: the verdict's three numbers, each of eight bytes.
 const RANGE: usize = 24;
 
-/// How many bytes stand before the image.
-const HEAD: usize = RANGE + 16;
-
 /// How many bytes the handle of an image takes.
 pub(crate) fn handle_size(len: usize) -> usize
     requires { len ≤ 8 * max_slots }
-    ensures { result ≡ handle_head + len }
+    ensures { result ≡ handle_length len }
 {
-    HEAD + len
+    RANGE + size_for(len)
 }
 
 /// Whether memory is as large as the handle of an image of `len` bytes.
 pub(crate) fn has_handle_room(memory: &[u8], len: usize) -> bool
-    ensures { IsTrue result ↔ (length memory.now ≡ handle_head + len) }
+    ensures { IsTrue result ↔ (length memory.now ≡ handle_length len) }
 {
-    memory.len() >= HEAD && memory.len() - HEAD == len
+    memory.len() >= RANGE && has_room(&memory[RANGE..], len)
 }
 
 /// Writes a verdict's numbers.
@@ -43,9 +42,10 @@ fn put_range(verdict: BpfVerdict, memory: &mut [u8])
     LittleEndian::write_u64(&mut memory[16..], u64::from(verdict.bound));
 }
 
-/// Writes the handle of an image.
+/// Writes the handle of the image of a program.
 pub(crate) fn put_loaded(image: &[u8], order: Order, verdict: BpfVerdict, memory: &mut [u8])
-    requires { length memory.old ≡ handle_head + length image.now }
+    requires room { length memory.old ≡ handle_length (length image.now) }
+    requires program { (is : List Instruction) × IsImageOfProgram order image.now is }
     ensures { IsLoaded order image.now verdict.least verdict.most verdict.bound memory.new }
 {
     put_range(verdict, memory);
@@ -64,7 +64,7 @@ pub(crate) fn takes(memory: &[u8], len: usize) -> bool
 /// What stands prepared in a handle; None where another version wrote it, or words of it aren't there.
 pub(crate) fn found_loaded(memory: &[u8]) -> Option<OrderedImage<'_>>
     requires { handle_head ≤ length memory.now }
-    ensures found { IfSome result (λ f. (order : ByteOrderOf) (image : List ℕ) → IsPrepared order image (drop 24 memory.now) → (f.image.now ≡ image) × (f.order ≡ order)) }
+    ensures found { IfSome result (λ f. (order : ByteOrderOf) (image : List ℕ) → IsPrepared order image (drop 24 memory.now) → (f.image.now ≡ image) × (f.order ≡ order) × AreOpcodesOf order image f.opcodes.now) }
     ensures known { IsSome result ↔ (IsMarkedHandle memory.now × IsWholeHandle memory.now) }
 {
     found_in(&memory[RANGE..])

@@ -10,12 +10,12 @@ use bpf_certify::{Certified, CertifyError};
 use bpf_harden::{HardenError, Hardened};
 use bpf_infer::InferError;
 
-/// Why nothing is made of an image: no certificate for its program, or no hardened image.
+/// Why nothing is made of an image, no certificate and no hardened one, or no image of a filter.
 #[derive(Clone, Copy)]
 pub(crate) enum Unmade {
     /// Memory ran out.
     Memory,
-    /// The image or its program is refused.
+    /// The image or its program is refused, or the filter.
     Refused(BpfRefusal),
 }
 

@@ -8,8 +8,8 @@ ghost use Rattle.bpf_insn.specs.declared.instruction.Insn.{Insn as Instruction};
 ghost use Rattle.bpf_cert.specs.View.{CertificateView};
 ghost use Rattle.bpf_check.specs.Verdicts.{Verified, Promises, Certifies};
 ghost use Rattle.bpf_host_calls.specs.Told.{AnswersVerdict, order_named};
-ghost use Rattle.bpf_host_calls.specs.Prepared.{IsPrepared, IsMarked, IsWhole, prepared_head, version};
-ghost use Rattle.bpf_host_calls.specs.Loaded.{handle_head, IsLoaded, LoadsEach, IsMarkedHandle, IsWholeHandle, HoldsLoaded, EndsAsLoaded, loaded_least, loaded_most};
+ghost use Rattle.bpf_host_calls.specs.Prepared.{IsPrepared, IsMarked, IsWhole, prepared_head, prepared_length, version};
+ghost use Rattle.bpf_host_calls.specs.Loaded.{handle_head, handle_length, IsLoaded, LoadsEach, IsMarkedHandle, IsWholeHandle, HoldsLoaded, EndsAsLoaded, loaded_least, loaded_most};
 ghost use Rattle.bpf_host_calls.specs.Answers.{IsRefusedAsTold, IsNoImage, RanImage, RanPrepared, IsUnrun, HoldsProgram, MayRun, EndsAsPrepared};
 ghost use Rattle.bpf_host_calls.specs.declared.answers.TheConstants.{YES, NO, NO_MEMORY, BAD_CALL, TOO_SMALL, TOO_LONG, BAD_LENGTH, BAD_WORDS};
 
@@ -25,8 +25,8 @@ use crate::runs::{outcome_of, outcome_of_prepared};
 use bpf_insn::{MAX_CONTEXT, MAX_IMAGE, ProgramView};
 use std::alloc::Global;
 
-/// Version 0.3.3.
-pub(crate) const VERSION: u32 = 303;
+/// Version 0.3.4.
+pub(crate) const VERSION: u32 = 304;
 
 /// The library's version as one number: 10,000 times its first part, 100 times its second, and its third, together.
 pub fn version() -> u32
@@ -105,7 +105,7 @@ pub fn run(image: &[u8], order: u32, context: &[u8], fuel: u64, outcome: &mut Bp
 
 /// How many words of eight bytes the prepared program of an image of `image_len` bytes takes; 0 where no image is as long.
 pub fn prepared_size(image_len: usize) -> usize
-    ensures words { image_len ≤ 8 * max_slots → image_len % 8 ≡ 0 → 0 < image_len → 8 * result ≡ prepared_head + image_len }
+    ensures words { image_len ≤ 8 * max_slots → image_len % 8 ≡ 0 → 0 < image_len → 8 * result ≡ prepared_length image_len }
     ensures none { (8 * max_slots < image_len) ⊎ ((image_len ≡ 0) ⊎ (0 < image_len % 8)) → result ≡ 0 }
 {
     if image_len == 0 || image_len > MAX_IMAGE || image_len % 8 != 0 {
@@ -126,8 +126,8 @@ pub fn prepare(image: &[u8], order: u32, memory: &mut [u8]) -> i32
     ensures program { result ≡ YES → (is : List Instruction) × IsImageOfProgram (order_named order) image.now is }
     ensures refused { result ≡ NO → IsNoImage (order_named order) image.now }
     ensures call { (result ≡ BAD_CALL) ↔ (1 < order) }
-    ensures small { result ≡ TOO_SMALL → ((is : List Instruction) × IsImageOfProgram (order_named order) image.now is) × (length memory.old ≢ prepared_head + length image.now) }
-    ensures size { result ≡ YES → length memory.old ≡ prepared_head + length image.now }
+    ensures small { result ≡ TOO_SMALL → ((is : List Instruction) × IsImageOfProgram (order_named order) image.now is) × (length memory.old ≢ prepared_length (length image.now)) }
+    ensures size { result ≡ YES → length memory.old ≡ prepared_length (length image.now) }
     ensures answers { (result ≡ YES) ⊎ (result ≡ NO) ⊎ (result ≡ BAD_CALL) ⊎ (result ≡ TOO_SMALL) }
     ensures kept { (result ≡ YES) ⊎ (memory.new ≡ memory.old) }
 {
@@ -191,7 +191,7 @@ pub fn run_checked(memory: &[u8], context: &[u8], value: &mut u64) -> i32
 
 /// How many words of eight bytes the handle of an image of `image_len` bytes takes; 0 where no image is as long.
 pub fn loaded_size(image_len: usize) -> usize
-    ensures words { image_len ≤ 8 * max_slots → image_len % 8 ≡ 0 → 0 < image_len → 8 * result ≡ handle_head + image_len }
+    ensures words { image_len ≤ 8 * max_slots → image_len % 8 ≡ 0 → 0 < image_len → 8 * result ≡ handle_length image_len }
     ensures none { (8 * max_slots < image_len) ⊎ ((image_len ≡ 0) ⊎ (0 < image_len % 8)) → result ≡ 0 }
 {
     if image_len == 0 || image_len > MAX_IMAGE || image_len % 8 != 0 {
@@ -237,9 +237,9 @@ pub fn load(
     ensures unpaid { LoadsEach asked.order image.now certificate.now memory.old (λ c. asked.limit < c.steps) (λ c. AnswersVerdict TOO_LONG c result verdict.new) }
     ensures memory { result ≡ NO_MEMORY → (is : List Instruction) × IsImageOfProgram (order_named asked.order) image.now is }
     ensures call { (result ≡ BAD_CALL) ↔ (1 < asked.order) }
-    ensures small { result ≡ TOO_SMALL → length memory.old ≢ handle_head + length image.now }
+    ensures small { result ≡ TOO_SMALL → length memory.old ≢ handle_length (length image.now) }
     ensures certified { result ≡ TOO_SMALL → (c : CertificateView) × Certifies (order_named asked.order) image.now certificate.now c }
-    ensures size { (result ≡ YES) ⊎ (result ≡ TOO_LONG) → length memory.old ≡ handle_head + length image.now }
+    ensures size { (result ≡ YES) ⊎ (result ≡ TOO_LONG) → length memory.old ≡ handle_length (length image.now) }
     ensures answers { (result ≡ YES) ⊎ (result ≡ NO) ⊎ (result ≡ NO_MEMORY) ⊎ (result ≡ BAD_CALL) ⊎ (result ≡ TOO_SMALL) ⊎ (result ≡ TOO_LONG) }
     ensures memory_kept { (result ≡ YES) ⊎ (memory.new ≡ memory.old) }
     ensures verdict_kept { (result ≡ YES) ⊎ (result ≡ TOO_LONG) ⊎ (verdict.new ≡ verdict.old) }
@@ -283,6 +283,6 @@ pub fn run_loaded(memory: &[u8], context: &[u8], value: &mut u64) -> i32
     if !takes(memory, context.len()) {
         return BAD_LENGTH;
     }
-    *value = end_of_image(found.image, found.order, context);
+    *value = end_of_image(found.image, found.opcodes, found.order, context);
     YES
 }

@@ -1,4 +1,4 @@
-//! Runs of images that nobody verified. Those of checked programs are in `checked.rt` and `loaded.rt`, the calls in `lib.rt`.
+//! Runs of images that nobody verified, also of prepared ones. Those of verified images are in `checked.rt`, the calls in `running.rt`.
 
 ghost use Rattle.std.specs.Prelude.{◌≤◌, ◌↔◌, IsSome, IfSome, List, length};
 ghost use Rattle.bpf_insn.specs.Limits.{max_context};
@@ -10,7 +10,7 @@ ghost use Rattle.bpf_host_calls.specs.Answers.{HoldsProgram, IsRunOfPrepared};
 ghost use Rattle.bpf_host_calls.specs.Prepared.{IsMarked, IsWhole, prepared_head};
 ghost use Rattle.bpf_host_calls.specs.Told.{order_named};
 
-use crate::ordered::Ordered;
+use crate::ordered::Imaged;
 use crate::prepared::found_in;
 use bpf_insn::Order;
 use bpf_machine::{Outcome, run};
@@ -21,7 +21,7 @@ fn outcome_in<const ORDER: u32>(image: &[u8], context: &[u8], fuel: u64) -> Outc
     requires short { length context.now ≤ max_context }
     ensures { (is : List Instruction) → IsImageOfProgram (order_named ORDER) image.now is → IsRun (program_in (order_named ORDER) is) context.now fuel result }
 {
-    let program: Ordered<'_, ORDER> = Ordered::of(image);
+    let program: Imaged<'_, ORDER> = Imaged::of(image);
     run(&program, context, fuel)
 }
 

@@ -4,7 +4,7 @@ ghost use Rattle.std.specs.Prelude.{◌≡◌, ◌/◌, min};
 ghost use Rattle.bpf_insn.specs.Limits.{max_slots};
 ghost use Rattle.bpf_host_calls.specs.Sizes.{infer_size, explain_size};
 
-use bpf_insn::MAX_SLOTS;
+use bpf_insn::{MAX_SLOTS, PLACES};
 
 /// A header, and the last line.
 const ENDS: usize = 64;
@@ -16,14 +16,15 @@ const HEADS: usize = 320;
 const ENTRY: usize = 136;
 
 /// How many such lines a label has at most: of r0 to r9, and of 64 slots.
-const LABEL_ENTRIES: usize = 74;
+const LABEL_ENTRIES: usize = PLACES - 1;
 
 /// How many of them a search keeps at most.
 const MOST_ENTRIES: usize = 16 * MAX_SLOTS;
 
-/// What is told of an image as a whole, and of each instruction of it.
+/// What is told of an image as a whole.
 const WHOLE_WORDS: usize = 100_000;
 
+/// What is told of each instruction of it.
 const SLOT_WORDS: usize = 8192;
 
 /// How many slots an image of so many bytes has at most.

@@ -4,31 +4,16 @@ ghost use Rattle.std.specs.Prelude.{◌≡◌, ◌↔◌, ◌⊎◌, ◌<◌, �
 ghost use Rattle.bpf_insn.specs.Limits.{max_context};
 ghost use Rattle.bpf_host_calls.specs.Told.{order_named};
 ghost use Rattle.bpf_host_calls.specs.ToldAdvice.{IsTold};
-ghost use Rattle.bpf_host_calls.specs.Trapped.{IsNotJudged, IsTrapped, RunsToTrap, TellsTrap};
+ghost use Rattle.bpf_host_calls.specs.Trapped.{IsNotJudged, IsTrapped, TellsTrap};
 ghost use Rattle.bpf_host_calls.specs.declared.answers.TheConstants.{YES, NO, NO_MEMORY, BAD_CALL, BAD_LENGTH};
 
 use crate::answers::{BAD_CALL, BAD_LENGTH, BpfRefusal, NO, NO_MEMORY, YES, order_of, refusal_of};
 use crate::following::of_notes;
 use crate::host_advice_asked::TrapAsked;
 use crate::refusals::Unmade;
-use bpf_insn::{Code, MAX_CONTEXT, Order, ProgramView};
-use bpf_kept::Note;
-use bpf_kept_notes::read as read_notes;
-use bpf_machine::{Outcome, run};
-use bpf_traps::{exit_slot, is_trap};
+use bpf_follows::{ends_at_trap as runs_to_trap, read as read_notes};
+use bpf_insn::{MAX_CONTEXT, Order, ProgramView};
 use std::alloc::Global;
-
-/// Whether a program's run of at most so many instructions ends at a trap.
-fn runs_to_trap<C: Code>(program: &C, context: &[u8], most: u64, notes: &[Option<Note>]) -> bool
-    requires { length context.now ≤ max_context }
-    ensures { RunsToTrap (C.program program.now) context.now notes.now most result }
-{
-    match run(program, context, most) {
-        Outcome::Done { steps, .. } => is_trap(notes, exit_slot(program, context, steps)),
-        Outcome::Fault { .. } => false,
-        Outcome::OutOfFuel => false,
-    }
-}
 
 /// Whether the image's run ends at a trap, by the notes of the text.
 fn trapped(alloc: Global, asked: TrapAsked<'_>, order: Order) -> Result<bool, Unmade>

@@ -3,18 +3,10 @@
 ghost use Rattle.std.specs.Prelude.{◌≡◌};
 ghost use Rattle.bpf_host_calls.specs.ToldConverted.{TellsConversion};
 
-use crate::answers::{BpfRefusal, told_refusal};
+use crate::answers::told_refusal;
+use crate::refusals::Unmade;
 use bpf_classic::FilterRefusal;
 use bpf_refusals::{FILTER_MEMORY, Tells};
-
-/// Why no image is made of a filter.
-#[derive(Clone, Copy)]
-pub(crate) enum Unmade {
-    /// Memory ran out.
-    Memory,
-    /// The bytes are no filter, or no program is made of it.
-    Refused(BpfRefusal),
-}
 
 /// Why no program is made of instructions.
 pub(crate) fn of_conversion(error: FilterRefusal) -> Unmade

@@ -2,8 +2,8 @@
 
 ghost use Rattle.std.specs.Prelude.{◌≤◌};
 
+use crate::ranking::ranked;
 use bpf_infer_base::{Cfg, DEEP_WORK, Meter, Proposal, Quest, SearchStop, Task, Watch};
-use bpf_infer_budgets::ranked;
 use bpf_infer_states::draft;
 use std::alloc::Global;
 

@@ -1,1 +1,2 @@
 pub mod RefusalNumbers
+pub mod HardenNumbers

@@ -1,6 +1,6 @@
-//! What both searches for certificates, the plain and the deep one, go by: where instructions lead, the labels,
-//! blocks, functions and graphs of a program, the places that count, and what states have in common; and what is
-//! answered where none is proposed. It makes no claim but to be safe and to end, and what the numbers of refusals are.
+//! What the searches and hardening share. Of the searches: where instructions lead, the labels, blocks, functions and graphs of a
+//! program, the places that count, and what states have in common. Of all: what is answered, a proposal, a hardened program with its
+//! notes, or why there is none. It makes no claim but to be safe and to end, and what the numbers of refusals are.
 #![tactic(auto)]
 
 mod blocks;
@@ -13,6 +13,8 @@ mod fault;
 mod flow;
 mod functions;
 mod graph;
+mod harden_error;
+mod hardened;
 mod joined_states;
 mod joins;
 mod labels;
@@ -20,6 +22,8 @@ mod lines;
 mod lists;
 mod losses;
 mod meter;
+mod notes;
+mod options;
 mod places;
 mod proposal;
 mod quest;
@@ -40,6 +44,8 @@ pub use fault::SlotFailure;
 pub use flow::Flow;
 pub use functions::{Call, calls_of};
 pub use graph::{Arc, Components, Graph, longest_paths, nodes_on_cycles, number_in};
+pub use harden_error::HardenError;
+pub use hardened::Hardened;
 pub use joined_states::JoinedStates;
 pub use joins::{join, join_register, join_slots};
 pub use labels::{LabelState, labels_of, load, load_at};
@@ -47,6 +53,8 @@ pub use lines::{LinearTerm, NumberSpan};
 pub use lists::{get_or, held, put, vacant};
 pub use losses::losses_in;
 pub use meter::{DEEP_WORK, LABEL_WORK, Meter, PLAIN_WORK};
+pub use notes::{Change, FunctionNote, Note};
+pub use options::Options;
 pub use places::{
     PLACES, PlaceSet, WRITABLE, number_at, place, said, slots_touched, tag_own, tight_number,
 };

@@ -230,6 +230,14 @@ fn stores_alike(known: &KnownHere<'_>, insn: &Insn, moved: &Insn) -> bool
     }
 }
 
+/// The address at an offset from a register.
+fn displaced(base: Reg, off: i16) -> Displaced
+    ensures base { result.base ≡ base }
+    ensures off { result.off ≡ off }
+{
+    Displaced { base, off }
+}
+
 /// To which bytes of the own frame such a store may go.
 fn reached(left: u32, insn: &Insn, moved: &Insn) -> Option<Change>
     ensures { result ≡ reached left insn.now moved.now }
@@ -242,12 +250,7 @@ fn reached(left: u32, insn: &Insn, moved: &Insn) -> Option<Change>
                 off: at,
                 ..
             },
-        ) => reaches(
-            left,
-            size.bytes(),
-            Displaced { base: dst, off },
-            Displaced { base, off: at },
-        ),
+        ) => reaches(left, size.bytes(), displaced(dst, off), displaced(base, at)),
         (
             Insn::StoreImm { size, dst, off, .. },
             Insn::StoreImm {
@@ -255,12 +258,7 @@ fn reached(left: u32, insn: &Insn, moved: &Insn) -> Option<Change>
                 off: at,
                 ..
             },
-        ) => reaches(
-            left,
-            size.bytes(),
-            Displaced { base: dst, off },
-            Displaced { base, off: at },
-        ),
+        ) => reaches(left, size.bytes(), displaced(dst, off), displaced(base, at)),
         (
             Insn::Atomic {
                 wide,
@@ -275,8 +273,7 @@ fn reached(left: u32, insn: &Insn, moved: &Insn) -> Option<Change>
                 ..
             },
         ) => {
-            let old = Displaced { base: dst, off };
-            let new = Displaced { base, off: at };
+            let (old, new) = (displaced(dst, off), displaced(base, at));
             let change = reaches(left, Size::of_word(wide).bytes(), old, new)?;
             fetches(op.fetch_register(src), change)
         }

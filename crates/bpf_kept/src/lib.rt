@@ -1,10 +1,11 @@
-//! Semantic preservation on plain addresses: notes that show that a program keeps the meaning of
-//! another, the laws, and the checker of notes.
+//! Semantic preservation on plain addresses: notes that are a simulation relation (Milner) between a new program and an old one, the laws,
+//! and what is checked of the notes at a slot. The pass over all slots is in `bpf_follows`.
 #![tactic(auto)]
 
 mod accesses;
 mod alike;
 mod atomics;
+mod begin;
 mod behind;
 mod bounds;
 mod calls;
@@ -23,7 +24,6 @@ mod laws;
 mod made;
 mod mismatch;
 mod notes;
-mod pass;
 mod pins;
 mod reach;
 mod results;
@@ -36,6 +36,7 @@ mod ways;
 mod widened;
 
 pub use alike::{are_same, paired};
+pub use begin::{begun, start_slot};
 pub use behind::{holds_behind, is_told};
 pub use bounds::{Bounds, Turns};
 pub use calls::{
@@ -58,7 +59,6 @@ pub use laws::{
 };
 pub use mismatch::{Mismatch, NoteFault, mismatch_text};
 pub use notes::{BACK, COUNTERS, Change, FACTS, Fact, Holder, Need, Note, SLOTS, Term, TurnsLeft};
-pub use pass::{begun, start_slot};
 pub use slots::{Displaced, slot_at};
 pub use stands::extra;
 pub use terms::{constant, frame_end, minus, plus, zero};

@@ -1,6 +1,6 @@
 -- What the refusals say whose crates have no table, by their numbers and without the place. There is no number 0.
 use Rattle.std.specs.Prelude.{◌++◌, ◌∷◌, ℕ, List, [], codes}
-use Rattle.bpf_changes.specs.RefusalNumbers.{harden_texts}
+use Rattle.bpf_infer_base.specs.HardenNumbers.{harden_texts}
 
 -- why a text is no program, A1 to A7
 abbrev pub text_texts : List (List ℕ)

@@ -21,14 +21,14 @@ use Rattle.bpf_classic.specs.declared.fault.TextFault.TheVariants as spellings
 use Rattle.bpf_infer_base.specs.RefusalNumbers.{condition_number, infer_number}
 use Rattle.bpf_infer_base.specs.declared.error.InferError.{InferError}
 use Rattle.bpf_infer_base.specs.declared.error.InferError.TheVariants as searches
-use Rattle.bpf_changes.specs.RefusalNumbers.{harden_number, harden_slot}
-use Rattle.bpf_changes.specs.declared.error.HardenError.{HardenError}
-use Rattle.bpf_changes.specs.declared.error.HardenError.TheVariants as hardenings
+use Rattle.bpf_infer_base.specs.HardenNumbers.{harden_number, harden_slot}
+use Rattle.bpf_infer_base.specs.declared.harden_error.HardenError.{HardenError}
+use Rattle.bpf_infer_base.specs.declared.harden_error.HardenError.TheVariants as hardenings
 use Rattle.bpf_kept.specs.Mismatches.{mismatch_number, mismatch_slot}
 use Rattle.bpf_kept.specs.declared.mismatch.Mismatch.{Mismatch}
-use Rattle.bpf_kept_notes.specs.Refused.{refusal_number as notes_number}
-use Rattle.bpf_kept_notes.specs.declared.error.NotesError.{NotesError}
-use Rattle.bpf_kept_notes.specs.declared.error.NotesError.TheVariants as notes
+use Rattle.bpf_follows.specs.Refused.{refusal_number as notes_number}
+use Rattle.bpf_follows.specs.declared.error.NotesError.{NotesError}
+use Rattle.bpf_follows.specs.declared.error.NotesError.TheVariants as notes
 use Rattle.bpf_captures.specs.Refused.{refusal_number as capture_number}
 use Rattle.bpf_captures.specs.declared.error.CaptureError.{CaptureError}
 use Rattle.bpf_captures.specs.declared.error.CaptureError.TheVariants as captures

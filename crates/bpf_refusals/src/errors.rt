@@ -4,13 +4,12 @@ use crate::letter::Letter;
 use crate::told::{At, FILTER_MEMORY, Tells, Told};
 use bpf_captures::{CaptureError, CaptureRefusal};
 use bpf_cert::CertError;
-use bpf_changes::HardenError;
 use bpf_check::Refusal as CheckRefusal;
 use bpf_classic::{FilterRefusal, TextFault};
-use bpf_infer_base::InferError;
+use bpf_follows::NotesError;
+use bpf_infer_base::{HardenError, InferError};
 use bpf_insn::DecodeError;
 use bpf_kept::Mismatch;
-use bpf_kept_notes::NotesError;
 use bpf_semantics::Reason;
 use bpf_text::TextError;
 

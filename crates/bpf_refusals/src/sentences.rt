@@ -4,7 +4,7 @@ ghost use Rattle.std.specs.Prelude.{◌≡◌, ◌<◌, ◌≤◌, ◌↔◌, []
 ghost use Rattle.bpf_refusals.specs.Sentences.{hardening_texts, notes_texts, text_texts};
 
 use crate::told::{NOT_SHOWN, TOO_DEAR, UNCERTIFIED};
-use bpf_changes::HardenError;
+use bpf_infer_base::HardenError;
 
 /// Why a text is no program.
 pub fn text_sentence(number: u32) -> Option<&'static str>

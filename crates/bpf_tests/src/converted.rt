@@ -1,6 +1,6 @@
 //! Filters converted and run on packets, beside what libpcap's `bpf_filter` and the kernel's seccomp answer: the wanted output is theirs.
 //!
-//! Each line of standard input is a case: `blocks`, `plain`, `seccomp` or `extended`, the length of contexts, behind a slash how often a
+//! Each line is a case: `blocks`, `plain`, `seccomp` or `extended`, the length of contexts, behind a slash how often a
 //! run may jump back, if that isn't usual, the text of a filter with `/`
 //! for the end of a line and `,` for a space, and packets in hex, `none` for an empty one; with `extended` each packet stands behind the 64
 //! bytes of the words. The line that answers it has `yes` where the checker takes the
@@ -10,6 +10,7 @@ ghost use Rattle.std.specs.Prelude.{◌≤◌, IfOk, IfSome, length};
 ghost use Rattle.bpf_insn.specs.Limits.{max_context};
 ghost use Rattle.bpf_conversion.specs.Claim.{IsConversion};
 
+use crate::words::number_of;
 use bpf_check::check;
 use bpf_classic::{
     Converted, Filter, FilterRefusal, Form, Kind, Raw, TextFault, Wanted, convert, raws_of,
@@ -37,14 +38,6 @@ struct FilterCase<'a> {
     /// How often a run may jump back.
     turns: u16,
     filter: &'a str,
-}
-
-/// A number, 0 where the word isn't one.
-fn number_of(word: Option<&str>) -> u32 {
-    match word {
-        Some(word) => word.parse::<u32>().unwrap_or(0),
-        None => 0,
-    }
 }
 
 /// A length, and how often a run may jump back.

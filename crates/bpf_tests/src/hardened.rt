@@ -1,7 +1,7 @@
 //! Programs with guards and counters forced on each access and loop, run beside the old ones: `tests/forced.py` holds the one to the
 //! other.
 //!
-//! Each line of standard input is a case: `little` or `big`, the length of contexts, the turns that a loop has, an image in hex, and
+//! Each line is a case: `little` or `big`, the length of contexts, the turns that a loop has, an image in hex, and
 //! contexts in hex, `none` for an empty one. The line that answers it has `yes` where the new program is shown to keep the meaning, `yes-32`
 //! where that is for runs that leave the lowest 32 bytes of each frame alone, else the number of what fails, as `M3`, or `M9` where no certificate
 //! is found for it; and then `OLD/NEW` for each context, what the old and the new program end with: a number, `trap`, the number of a fault, as `F3`,
@@ -10,8 +10,9 @@
 ghost use Rattle.std.specs.Prelude.{◌≤◌, IfSome, length};
 ghost use Rattle.bpf_insn.specs.Limits.{max_context};
 
+use crate::words::number_of;
+use bpf_certify::evidence_of;
 use bpf_harden::{Hardened, Options, harden};
-use bpf_harden_kept::evidence_of;
 use bpf_infer::{Unwatched, search};
 use bpf_insn::{MAX_CONTEXT, Order, Program, decode};
 use bpf_kept::{Bounds, Mismatch};
@@ -55,14 +56,6 @@ struct Pair {
     mismatch: Option<Mismatch>,
     /// How many of the lowest bytes of each frame runs have to leave to r10 for that.
     untouched: u32,
-}
-
-/// A number, 0 where the word isn't one.
-fn number_of(word: Option<&str>) -> u32 {
-    match word {
-        Some(word) => word.parse::<u32>().unwrap_or(0),
-        None => 0,
-    }
 }
 
 impl<'a> Case<'a> {

@@ -4,20 +4,20 @@ ghost use Rattle.std.specs.Prelude.{◌≡◌, ◌≤◌, IfOk, IfErr, IfSome, f
 ghost use Rattle.bpf_insn.specs.Limits.{max_context};
 ghost use Rattle.bpf_certify.specs.Certified.{Answers as IsAnswer, IsRefused};
 ghost use Rattle.bpf_answers.specs.Both.{putting};
-ghost use Rattle.bpf_request.specs.CommandLine.{hardening_of};
+ghost use Rattle.bpf_command.specs.CommandLine.{hardening_of};
 ghost use Rattle.std.specs.String.{string_bytes};
 ghost use Rattle.bpf_command.specs.Certified.{CertifyFails, CertifySays, CertifyWithFails, CertifyWithSays, IsAllPut, NotAllPut, NotCertified, NotCertifiedWith, assessment_answer, made_of, noted_text, notes_of, refused_as, retold, rewriting_of, runs_told, told_of, wish_of};
 ghost use Rattle.bpf_command.specs.Texts.{notes_and_changes};
 
 use crate::commands::explain::lines_at;
 use crate::commands::texts::{SideTexts, changes_of, put_beside, text_of};
+use crate::request::Certifying;
 use bpf_answers::{Answer, Certification, Failure, Places, Rewriting, program_at, put_both};
 use bpf_cert::Certificate;
 use bpf_certify::{Certified, CertifyError, MOST_BOUND, Rewritten, Wish, certify};
 use bpf_harden::HardenError;
 use bpf_insn::{Code, DecodeError, MAX_CONTEXT, Program};
 use bpf_kept::Bounds;
-use bpf_request::Certifying;
 use std::alloc::{AllocError, Global};
 
 /// What the certification of an image came to.

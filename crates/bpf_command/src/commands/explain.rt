@@ -5,22 +5,21 @@ ghost use Rattle.std.specs.String.{string_bytes};
 ghost use Rattle.bpf_command.specs.Names.{behind_lines, names_explained, names_opened};
 ghost use Rattle.bpf_answers.specs.Loaded.{CertificateFails, ImageFails, OpensFirst, ReadableFails, ReadsCertificateAt, Tried};
 ghost use Rattle.bpf_command.specs.Explained.{Answers, ExplainFails, ExplainSays, ExplainWithFails, ExplainWithSays, HardenedSays, JudgesOf, LinesAt, LinesFail, SoughtSays, TaskSays, TextSays};
-ghost use Rattle.bpf_command_core.specs.Printed.{ImageSays, JudgedSays, ListSays, LoadedFails, LoadedSays, YesSays};
+ghost use Rattle.bpf_command.specs.Printed.{ImageSays, JudgedSays, ListSays, LoadedFails, LoadedSays, YesSays};
 ghost use Rattle.bpf_answers.specs.Told.{OutputFails};
 
+use crate::request::{Aspect, Explaining, Subject, USUAL_TURNS};
 use bpf_answers::{
     Answer, DONE, Failure, Keeping, Places, REFUSED, image_at, print, readable_text_at, text_at,
 };
 use bpf_cert::{CertError, Certificate, read};
 use bpf_check::Refusal;
 use bpf_explain::{
-    CertificateSearch, Shown, explain, explain_search, is_table, write_alone, write_fault,
-    write_program, write_refusal, write_text_refusal,
+    CertificateSearch, HardeningAsked, Shown, explain, explain_hardening, explain_search, is_table,
+    write_alone, write_fault, write_program, write_refusal, write_text_refusal,
 };
-use bpf_explain_harden::{HardeningAsked, explain_hardening};
 use bpf_infer::{WantedCertificate, Watch};
 use bpf_insn::{Code, DecodeError, MAX_CONTEXT, Order, Program, ProgramView, decode};
-use bpf_request::{Aspect, Explaining, Subject, USUAL_TURNS};
 use bpf_text::{TextError, assemble};
 use std::alloc::Global;
 use std::io::{self, Write};

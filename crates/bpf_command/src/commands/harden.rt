@@ -4,20 +4,20 @@ ghost use Rattle.std.specs.Prelude.{◌≡◌, ◌<◌, IfOk, IfErr, IfSome, IsS
 ghost use Rattle.std.specs.String.{string_bytes};
 ghost use Rattle.bpf_insn.specs.Instruction.{slots};
 ghost use Rattle.bpf_insn.specs.Image.{IsProgram};
-ghost use Rattle.bpf_changes.specs.RefusalNumbers.{harden_slot};
+ghost use Rattle.bpf_infer_base.specs.HardenNumbers.{harden_slot};
 ghost use Rattle.bpf_kept.specs.Matching.{shown_turns};
-ghost use Rattle.bpf_harden_kept.specs.Evidence.{IsEvidence};
+ghost use Rattle.bpf_certify.specs.Evidence.{IsEvidence};
 ghost use Rattle.bpf_command.specs.Hardened.{AreLeft, HardenFails, HardenSays, IsLeftSaid, IsNoted, IsUnshown, NotAllMade, asked_bytes, attempt_answer, bounds_of, found_text, goes_out, texts_of};
 ghost use Rattle.bpf_command.specs.Texts.{TextsFail, TextsStand, named};
 ghost use Rattle.bpf_answers.specs.Made.{making};
 
 use crate::commands::texts::{SideTexts, changes_of, put_beside, put_if, text_of};
+use crate::request::Hardening;
 use bpf_answers::{Answer, DONE, Failure, Places, program_at, put};
+use bpf_certify::{Evidence, evidence_for, evidence_of};
 use bpf_harden::{HardenError, Hardened, Options, harden};
-use bpf_harden_kept::{Evidence, evidence_for, evidence_of};
 use bpf_insn::{Code, DecodeError, MAX_CONTEXT, Program};
 use bpf_kept::{Bounds, Mismatch, Turns, turns_shown};
-use bpf_request::Hardening;
 use std::alloc::{AllocError, Global};
 
 /// What is shown of a hardened program by its notes.

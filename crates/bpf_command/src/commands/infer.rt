@@ -5,11 +5,11 @@ ghost use Rattle.bpf_insn.specs.Limits.{max_context};
 ghost use Rattle.bpf_answers.specs.Made.{making};
 ghost use Rattle.bpf_command.specs.Inferred.{InferFails, InferSays, NotInferred, inference_answer};
 
+use crate::request::Inferring;
 use bpf_answers::{Answer, Failure, Places, program_at, put};
 use bpf_explain::may_be_found;
 use bpf_infer::{InferError, WantedCertificate, Watch, propose};
 use bpf_insn::{DecodeError, MAX_CONTEXT};
-use bpf_request::Inferring;
 use std::alloc::Global;
 
 /// What the search for a certificate came to.

@@ -2,16 +2,16 @@
 
 ghost use Rattle.std.specs.Prelude.{◌≡◌, IfOk, IfErr, IfSome};
 ghost use Rattle.std.specs.String.{string_bytes};
-ghost use Rattle.bpf_kept_notes.specs.NotesText.{notes_text};
+ghost use Rattle.bpf_follows.specs.NotesText.{notes_text};
 ghost use Rattle.bpf_answers.specs.Made.{making};
 ghost use Rattle.bpf_command.specs.Texts.{TextsFail, TextsStand, named, notes_and_changes};
 
 use crate::commands::changes::changes_text;
+use crate::request::Hardening;
 use bpf_answers::{Content, DONE, Failure, Places, put};
+use bpf_follows::write;
 use bpf_harden::Hardened;
 use bpf_kept::{Bounds, Note};
-use bpf_kept_notes::write;
-use bpf_request::Hardening;
 use std::alloc::{AllocError, Global};
 
 /// The text of notes and that of the changes, each empty where no name for it is given.

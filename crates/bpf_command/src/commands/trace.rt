@@ -5,16 +5,16 @@ ghost use Rattle.bpf_insn.specs.Limits.{max_context};
 ghost use Rattle.bpf_machine.specs.Answers.{IsRun};
 
 use crate::aside::Aside;
-use bpf_command_core::Tracer;
+use crate::commands::tracer::Tracer;
 use bpf_explain_program::{SpelledInsn, register, write_padded};
-use bpf_insn::{Code, Insn, Reg};
+use bpf_insn::{Code, Insn, REGISTERS, Reg};
 use bpf_machine::{Machine, Outcome, Region, Value};
 use bpf_streams::{Page, Tell};
 use std::fmt;
 use std::io::Write;
 
 /// What r0 to r10 hold.
-type TracedRegisters = [Option<Value>; 11];
+type TracedRegisters = [Option<Value>; REGISTERS];
 
 /// Where the last steps of runs are told, and at most how many lines of a run.
 #[derive(Drop)]
@@ -41,8 +41,8 @@ impl fmt::Display for RegisterText {
 }
 
 fn registers_of<C: Code>(machine: &Machine<'_, C>) -> TracedRegisters {
-    let mut held = [None; 11];
-    for k in 0..11 {
+    let mut held = [None; REGISTERS];
+    for k in 0..REGISTERS {
         held[k] = machine.register(Reg::numbered(k as u8));
     }
     held
@@ -62,7 +62,7 @@ fn write_step<W: Tell>(
         return;
     }
     write_padded(out, slot, &insn);
-    for k in 0..11 {
+    for k in 0..REGISTERS {
         if before[k] != after[k] {
             let (name, held) = (register(Reg::numbered(k as u8)), RegisterText(after[k]));
             write!(out, "; {name} becomes {held}");

@@ -10,8 +10,8 @@ use bpf_check::{Index, label_at};
 use bpf_insn::{Code, Insn, MAX_SLOTS, Reg};
 use bpf_streams::Tell;
 
-/// How far back an instruction is looked for that gave a register its value before the last label.
-const BACK: u32 = 4096;
+/// How many slots an instruction may lie back that gave a register its value before the last label.
+const LOOKED_BACK: u32 = 4096;
 
 // ---- tests of copies
 
@@ -87,7 +87,7 @@ pub fn tell_operand_tested<C: Code, W: Tell>(out: &mut W, sight: &Sight<'_, C>) 
 
 /// The slot in front of another one that gave a register its value, if it is a 64-bit 0.
 fn zero_before<C: Code>(program: &C, slot: u32, reg: Reg) -> Option<u32> {
-    for back in 1..=slot.min(BACK) {
+    for back in 1..=slot.min(LOOKED_BACK) {
         let at = slot.saturating_sub(back);
         if let Some(insn) = program.insn(at) {
             if insn.register_written() == Some(reg) {

@@ -70,12 +70,7 @@ unsafe extern "C" {
         image: *const u8,
         image_len: usize,
         order: u32,
-        size: u32,
-        turns: u32,
-        otherwise: u64,
-        padded: u32,
-        unproved: u32,
-        untouched: u32,
+        asked: &HardenAsked,
         text: *mut u8,
         text_len: usize,
         wanted: &mut usize,
@@ -84,9 +79,7 @@ unsafe extern "C" {
     fn bpf_host_certify(
         image: *const u8,
         image_len: usize,
-        order: u32,
-        size: u32,
-        wish: &Asked,
+        asked: &CertifyAsked,
         made: *mut u8,
         made_len: usize,
         text: *mut u8,
@@ -98,10 +91,7 @@ unsafe extern "C" {
     fn bpf_host_convert(
         filter: *const u8,
         filter_len: usize,
-        filter_order: u32,
-        form: u32,
-        size: u32,
-        order: u32,
+        asked: &ConvertAsked,
         made: *mut u8,
         made_len: usize,
         text: *mut u8,
@@ -130,7 +120,7 @@ unsafe extern "C" {
 }
 
 /// The version of the library that these functions are of, as BPF_HOST_VERSION of bpf.h.
-pub const VERSION: u32 = 303;
+pub const VERSION: u32 = 304;
 
 /// BPF_ANY_TURNS of bpf.h.
 const ANY_TURNS: u32 = u32::MAX;
@@ -143,6 +133,34 @@ struct Asked {
     otherwise: u64,
     padded: u32,
     unproved: u32,
+}
+
+/// `struct bpf_certify_asked` of bpf.h.
+#[repr(C)]
+struct CertifyAsked {
+    order: u32,
+    size: u32,
+    wish: Asked,
+}
+
+/// `struct bpf_harden_asked` of bpf.h.
+#[repr(C)]
+struct HardenAsked {
+    size: u32,
+    turns: u32,
+    otherwise: u64,
+    padded: u32,
+    unproved: u32,
+    untouched: u32,
+}
+
+/// `struct bpf_convert_asked` of bpf.h.
+#[repr(C)]
+struct ConvertAsked {
+    filter_order: u32,
+    form: u32,
+    size: u32,
+    order: u32,
 }
 
 /// `struct bpf_certified` of bpf.h.
@@ -416,6 +434,14 @@ impl Default for Hardening {
 
 /// What an image is hardened to, for contexts of `size` bytes.
 pub fn harden(image: &[u8], order: Order, size: u32, asked: &Hardening) -> Result<Vec<u8>, Error> {
+    let asked = HardenAsked {
+        size,
+        turns: asked.turns,
+        otherwise: asked.otherwise,
+        padded: u32::from(asked.padded),
+        unproved: u32::from(asked.unproved),
+        untouched: asked.untouched,
+    };
     written(IMAGE_MOST, |text, text_len, wanted, refusal| {
         // SAFETY: the pointers and lengths are those of a slice and of a vector's room.
         unsafe {
@@ -423,12 +449,7 @@ pub fn harden(image: &[u8], order: Order, size: u32, asked: &Hardening) -> Resul
                 image.as_ptr(),
                 image.len(),
                 order as u32,
-                size,
-                asked.turns,
-                asked.otherwise,
-                u32::from(asked.padded),
-                u32::from(asked.unproved),
-                asked.untouched,
+                &asked,
                 text,
                 text_len,
                 wanted,
@@ -494,20 +515,22 @@ pub fn certify(image: &[u8], order: Order, size: u32, wish: &Wish) -> Result<Cer
     let text_room = unsafe { bpf_host_infer_size(IMAGE_MOST) };
     let (mut made, mut text) = (room_for(IMAGE_MOST)?, room_for(text_room)?);
     let (mut told, mut refusal) = (Told::default(), Refusal::default());
-    let asked = Asked {
-        bound: wish.bound,
-        turns: wish.turns.map_or(0, NonZeroU32::get),
-        otherwise: wish.otherwise,
-        padded: u32::from(wish.padded),
-        unproved: u32::from(wish.unproved),
+    let asked = CertifyAsked {
+        order: order as u32,
+        size,
+        wish: Asked {
+            bound: wish.bound,
+            turns: wish.turns.map_or(0, NonZeroU32::get),
+            otherwise: wish.otherwise,
+            padded: u32::from(wish.padded),
+            unproved: u32::from(wish.unproved),
+        },
     };
     // SAFETY: the pointers and lengths are those of a slice and of vectors' room.
     let answer = unsafe {
         bpf_host_certify(
             image.as_ptr(),
             image.len(),
-            order as u32,
-            size,
             &asked,
             made.as_mut_ptr(),
             made.capacity(),
@@ -579,7 +602,12 @@ pub fn convert(
     order: Order,
 ) -> Result<Converted, Error> {
     same_version()?;
-    let here = u32::from(cfg!(target_endian = "big"));
+    let asked = ConvertAsked {
+        filter_order: u32::from(cfg!(target_endian = "big")),
+        form: form as u32,
+        size,
+        order: order as u32,
+    };
     // SAFETY: a number goes in and a number comes back.
     let text_room = unsafe { bpf_host_convert_size(filter.len()) };
     let (mut made, mut text) = (room_for(IMAGE_MOST)?, room_for(text_room)?);
@@ -589,10 +617,7 @@ pub fn convert(
         bpf_host_convert(
             filter.as_ptr().cast(),
             size_of_val(filter),
-            here,
-            form as u32,
-            size,
-            order as u32,
+            &asked,
             made.as_mut_ptr(),
             made.capacity(),
             text.as_mut_ptr(),

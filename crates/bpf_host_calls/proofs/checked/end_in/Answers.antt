@@ -6,14 +6,14 @@ use Rattle.bpf_host_calls.proofs.checked.end_in.Goals as goal
 
 pub run_fetched-requires-clause-short : goal.run_fetched-requires-clause-short
 run_fetched-requires-clause-short g c =
-    let high = c.requires.length_within.1 in
-    let few = c.requires.verified.short in
+    let high = c.requires.verified.length_within.1 in
+    let few = c.requires.verified.verified.short in
     omega (arith, high, few)
 
 pub run_fetched-requires-clause-ends : goal.run_fetched-requires-clause-ends
 run_fetched-requires-clause-ends g c =
     let known : Known (order_named g.row.ORDER) c.args.image.now c.of-program.result = record { order_is = c.of-program.ensures.order; list_is = c.of-program.ensures.list } in
-    ends known (λ i. omega (arith, c.type_inv.context i)) c.requires
+    ends known (λ i. omega (arith, c.type_inv.context i)) c.requires.verified
 
 pub returns : goal.returns
 returns g c =

@@ -1,8 +1,11 @@
 use Rattle.std.proofs.Common.{◌≡◌, negsuc, IfOk, sym, ap, subst, ◌∙◌, rules}
 use Rattle.bpf_check.specs.Verdicts.{Certifies, Promises}
 use Rattle.bpf_host_calls.specs.Told.{order_named}
-use Rattle.bpf_host_calls.proofs.VerdictLemmas.{certified, loads, tells_too_long}
+use Rattle.bpf_host_calls.proofs.VerdictLemmas.{certified, is_program, loads, tells_too_long}
 use Rattle.bpf_host_calls.proofs.running.load.Goals as goal
+
+pub kept-requires : goal.kept-requires
+kept-requires c = is_program c.in-Some.order c.args.image.now c.verify.result c.verify.ensures.ok
 
 pub returns-clause-accepts : goal.returns-clause-accepts
 returns-clause-accepts c = λ d few size certifies paid.

@@ -1,6 +1,5 @@
-use Rattle.std.proofs.Common.{◌≡◌, refl, sym, subst}
+use Rattle.std.proofs.Common.{refl, sym, subst}
 use Rattle.bpf_insn.specs.Laws.{IsImageOfProgram}
-use Rattle.bpf_insn.specs.declared.instruction.Insn.{Insn}
 use Rattle.bpf_check.specs.Verdicts.{program_in}
 use Rattle.bpf_machine.specs.Answers.{IsRun}
 use Rattle.bpf_host_calls.proofs.runs.outcome_of_prepared.Goals as goal

@@ -1,7 +1,7 @@
 use Rattle.std.proofs.Common.{rules, IfErr, inr}
 use Rattle.std.proofs.lemmas.Result.{err_from_is_err_and}
 use Rattle.std.specs.String.{string_bytes}
-use Rattle.bpf_request.specs.CommandLine.{hardening_of}
+use Rattle.bpf_command.specs.CommandLine.{hardening_of}
 use Rattle.bpf_answers.specs.Both.{putting}
 use Rattle.bpf_answers.specs.Loaded.{LoadsImage}
 use Rattle.bpf_command.specs.Certified.{NotAllPut, made_of, notes_of, told_of}

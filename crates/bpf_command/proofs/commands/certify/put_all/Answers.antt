@@ -1,6 +1,6 @@
 use Rattle.std.proofs.Common.{rules, ◌≡◌, IfOk, IfErr, subst}
 use Rattle.std.specs.String.{string_bytes}
-use Rattle.bpf_request.specs.CommandLine.{hardening_of}
+use Rattle.bpf_command.specs.CommandLine.{hardening_of}
 use Rattle.bpf_answers.specs.Both.{putting}
 use Rattle.bpf_command.specs.Certified.{NoPair}
 use Rattle.bpf_command.specs.Texts.{TextsFail, TextsStand, notes_and_changes}

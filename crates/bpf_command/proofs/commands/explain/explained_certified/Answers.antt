@@ -1,7 +1,7 @@
 use Rattle.std.proofs.Common.{◌≡◌, refl, false, inl, inr, rules}
 use Rattle.bpf_answers.specs.Loaded.{LoadsImage, NoSpaceFor}
 use Rattle.bpf_answers.specs.declared.answer.Answer.TheVariants.{NoImage}
-use Rattle.bpf_command_core.specs.Printed.{LoadedSays, YesSays}
+use Rattle.bpf_command.specs.Printed.{LoadedSays, YesSays}
 use Rattle.bpf_answers.proofs.LoadedLemmas.{read_of}
 use Rattle.bpf_command.proofs.ExplainedLemmas.{answered_so, loaded_so, printed_so}
 use Rattle.bpf_command.proofs.commands.explain.explained_certified.Goals as goal

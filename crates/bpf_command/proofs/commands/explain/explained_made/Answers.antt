@@ -2,7 +2,7 @@ use Rattle.std.proofs.Common.{◌≡◌, refl, inl, rules}
 use Rattle.bpf_insn.specs.declared.refusal.DecodeError.TheVariants.{Memory}
 use Rattle.bpf_answers.specs.Loaded.{ImageRefused, LoadsImage, NoSpaceFor}
 use Rattle.bpf_answers.specs.declared.answer.Answer.TheVariants.{NoImage}
-use Rattle.bpf_command_core.specs.Printed.{ImageSays}
+use Rattle.bpf_command.specs.Printed.{ImageSays}
 use Rattle.bpf_command.specs.Explained.{TaskSays}
 use Rattle.bpf_answers.proofs.LoadedLemmas.{decoded, read_of}
 use Rattle.bpf_command.proofs.ExplainedLemmas.{answered_so, printed_so, made_so}

@@ -1,7 +1,7 @@
 use Rattle.std.proofs.Common.{refl, false, rules}
 use Rattle.bpf_answers.specs.Loaded.{CertificateAt, CertificateRefused}
 use Rattle.bpf_answers.specs.declared.answer.Answer.TheVariants.{NoCertificate}
-use Rattle.bpf_command_core.specs.Printed.{JudgedSays, YesSays}
+use Rattle.bpf_command.specs.Printed.{JudgedSays, YesSays}
 use Rattle.bpf_cert.specs.declared.error.CertError.TheVariants.{Memory}
 use Rattle.bpf_command.proofs.ExplainedLemmas.{answered_so, judged_so, printed_so}
 use Rattle.bpf_command.proofs.commands.explain.explained_with.Goals as goal

@@ -3,8 +3,8 @@ use Rattle.bpf_insn.specs.Limits.{max_context}
 use Rattle.bpf_safety.specs.Certified.{IsLeastFlaw}
 use Rattle.bpf_check.specs.CheckedProgram.{IsCertifiedBy}
 use Rattle.bpf_check.specs.RefusalNumbers.{refusal_number, refusal_slot}
-use Rattle.bpf_explain_harden.specs.Hardened.{IsMade, IsUnhardened}
-use Rattle.bpf_explain_harden.specs.declared.hardened.HardeningAsked.{HardeningAsked}
+use Rattle.bpf_explain.specs.Hardened.{IsMade, IsUnhardened}
+use Rattle.bpf_explain.specs.declared.hardened.HardeningAsked.{HardeningAsked}
 use Rattle.bpf_command.proofs.ExplainedLemmas.{hardened_so, is_hardened, judges_by, unhardened_so}
 use Rattle.bpf_command.proofs.commands.explain.say_hardened.Goals as goal
 

@@ -1,6 +1,6 @@
 use Rattle.std.proofs.Common.{◌≡◌, IfSome, refl, rules, subst}
 use Rattle.bpf_kept.specs.Matching.{shown_turns}
-use Rattle.bpf_kept_notes.specs.NotesText.{notes_text}
+use Rattle.bpf_follows.specs.NotesText.{notes_text}
 use Rattle.bpf_command.proofs.HardenedLemmas.{kept_of}
 use Rattle.bpf_command.proofs.commands.harden.notes_for.Goals as goal
 

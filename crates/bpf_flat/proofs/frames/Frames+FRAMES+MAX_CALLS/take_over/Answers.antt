@@ -1,4 +1,3 @@
-use Rattle.std.proofs.Common.{refl}
 use Rattle.bpf_flat.proofs.FrameLemmas.{all_view, zeros_behind, none_waits}
 use Rattle.bpf_flat.proofs.frames.Frames+FRAMES+MAX_CALLS.take_over.Goals as goal
 

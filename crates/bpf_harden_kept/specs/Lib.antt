@@ -1,3 +1,0 @@
--- Definitions.
--- what notes of a hardened program show
-pub mod Evidence

@@ -1,7 +1,0 @@
-use Rattle.std.proofs.Common.{◌≡◌, ◌-◌}
-use Rattle.bpf_kept_notes.specs.NotesText.{always, counters_noted}
-use Rattle.bpf_kept_notes.specs.code.Reading.{listed_in, counter_at, counters_in}
-use Rattle.bpf_kept_notes.proofs.lists.counters_in.Given as goal
-
-abbrev pub invariant-loop-at : goal.invariant-loop-at
-invariant-loop-at l = listed_in counter_at always (counters_noted - l.at) tt l.at l.counters l.rest ≡ counters_in l.text

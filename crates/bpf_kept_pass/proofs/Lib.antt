@@ -1,5 +1,0 @@
-mod Course
-mod Noted
-mod EndLemmas
-mod ShownLemmas
-mod FaultLemmas

@@ -1,2 +1,0 @@
-mod CommandLemmas
-pub mod RowLemmas

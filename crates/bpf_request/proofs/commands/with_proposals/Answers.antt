@@ -1,4 +1,0 @@
-use Rattle.bpf_request.proofs.commands.with_proposals.Goals as goal
-
-pub returns : goal.returns
-returns c = c.over.ensures _ c.first_commands.ensures

@@ -1,3 +1,0 @@
-pub mod ExitLemmas
-pub mod TrapLaws
-pub mod StandLemmas

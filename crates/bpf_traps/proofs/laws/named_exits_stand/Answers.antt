@@ -1,5 +1,0 @@
-use Rattle.bpf_traps.proofs.StandLemmas.{named_exits_stand}
-use Rattle.bpf_traps.proofs.laws.named_exits_stand.Goals as goal
-
-pub returns : goal.returns
-returns c = named_exits_stand

@@ -1,5 +1,0 @@
-use Rattle.bpf_traps.proofs.TrapLaws.{traps_have_no_answer}
-use Rattle.bpf_traps.proofs.laws.traps_have_no_answer.Goals as goal
-
-pub returns : goal.returns
-returns c = traps_have_no_answer c.finish_is_last.ensures c.runs_are_one.ensures
