@@ -1,4 +1,5 @@
-//! Proposals as certificates.
+//! The entry points of the inferrer: the plain search for a certificate, or the better answer of it and the deep one. Each ends with a
+//! certificate, or with a refusal, I1 to I5, and its slot.
 
 ghost use Rattle.std.specs.Prelude.{◌≡◌, ◌<◌, ◌≤◌, IfOk, IfErr};
 ghost use Rattle.bpf_insn.specs.Instruction.{slots};
@@ -9,7 +10,7 @@ ghost use Rattle.bpf_cert.specs.Limits.{IsCertificate};
 use crate::deep::deep_proposal;
 use crate::plain::plain_proposal;
 use bpf_cert::Certificate;
-use bpf_infer_base::{InferError, Proposal, Quest, SearchStop, Unwatched, Watch};
+use bpf_infer_base::{InferError, Proposal, Quest, SearchStop, Sketch, Unwatched, Watch};
 use bpf_insn::{Code, Program};
 use std::alloc::Global;
 
@@ -71,8 +72,47 @@ pub fn infer(
     }
 }
 
+/// The better certificate of the plain search, whose answer is given, and of the deep one. Without any, what the deep one had when it
+/// stopped.
+fn beside_deep<W: Watch>(
+    alloc: Global,
+    quest: Quest<'_>,
+    plain: Result<Proposal, InferError>,
+    watch: &mut W,
+) -> Result<Certificate, SearchStop>
+    requires order { quest.least ≤ quest.most }
+    requires short { quest.most ≤ max_context }
+    ensures version { IfOk result (λ c. c.version ≡ 2) }
+    ensures least { IfOk result (λ c. c.least ≡ quest.entry.least) }
+    ensures most { IfOk result (λ c. c.most ≡ quest.entry.most) }
+    ensures certificate { IfOk result (λ c. IsCertificate c) }
+    ensures slot { IfErr result (λ s. infer_slot s.error < slots quest.entry.program.now.list) }
+{
+    let Quest {
+        program,
+        least,
+        most,
+    } = quest;
+    let deep = deep_proposal(alloc, quest, watch);
+    watch.end();
+    let plain = certificate_of(least, most, plain);
+    match certificate_of(least, most, deep) {
+        Ok(deep) => match plain {
+            Ok(plain) if plain.steps() < deep.steps() => Ok(plain),
+            _ => Ok(deep),
+        },
+        Err(stop) => match plain {
+            Ok(plain) => Ok(plain),
+            Err(_) => Err(SearchStop {
+                error: stop.error.within(Code::slots(program)),
+                sketch: stop.sketch,
+            }),
+        },
+    }
+}
+
 /// As `search`; where it finds no certificate, with what the deep search had when it stopped: the states at its labels, and
-/// what was in the way.
+/// what was in the way. I5 alone where memory runs out for the plain one, whose answer might have been another.
 pub fn search_or_stop<W: Watch>(
     alloc: Global,
     program: &Program,
@@ -94,22 +134,14 @@ pub fn search_or_stop<W: Watch>(
         most,
     };
     let plain = plain_proposal(alloc, quest, watch);
-    let deep = deep_proposal(alloc, quest, watch);
-    watch.end();
-    let plain = certificate_of(least, most, plain);
-    match certificate_of(least, most, deep) {
-        Ok(deep) => match plain {
-            Ok(plain) if plain.steps() < deep.steps() => Ok(plain),
-            _ => Ok(deep),
-        },
-        Err(stop) => match plain {
-            Ok(plain) => Ok(plain),
-            Err(_) => Err(SearchStop {
-                error: stop.error.within(Code::slots(program)),
-                sketch: stop.sketch,
-            }),
-        },
+    if matches!(&plain, Err(InferError::Memory)) {
+        watch.end();
+        return Err(SearchStop {
+            error: InferError::Memory.within(Code::slots(program)),
+            sketch: Sketch::nothing(),
+        });
     }
+    beside_deep(alloc, quest, plain, watch)
 }
 
 /// Proposes a certificate of version 2 for a program on contexts of `least` to `most` bytes, at most 4,096: nested loops,
