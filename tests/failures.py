@@ -85,6 +85,7 @@ COMMANDS = [
     ('explain checksum.img --infer 15', [E9, I5_TOLD]),
     ('explain checksum.img --infer 15 --deep', [E9, I5_TOLD]),
     ('explain nth.img --harden 16', [E9, H12_TOLD]),
+    ('explain checksum.img --harden 15', [E9, H12_TOLD]),
     ('explain nth.img --harden 16 --padded', [E9, H12_TOLD]),
 ]
 

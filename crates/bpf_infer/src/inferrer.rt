@@ -9,7 +9,7 @@ ghost use Rattle.bpf_cert.specs.Limits.{IsCertificate};
 use crate::deep::deep_proposal;
 use crate::plain::plain_proposal;
 use bpf_cert::Certificate;
-use bpf_infer_base::{InferError, Proposal, Quest, SearchStop, Unwatched, Watch};
+use bpf_infer_base::{InferError, Proposal, Quest, SearchStop, Sketch, Unwatched, Watch};
 use bpf_insn::{Code, Program};
 use std::alloc::Global;
 
@@ -72,7 +72,7 @@ pub fn infer(
 }
 
 /// As `search`; where it finds no certificate, with what the deep search had when it stopped: the states at its labels, and
-/// what was in the way.
+/// what was in the way. I5 alone where memory runs out for the plain one, whose answer might have been another.
 pub fn search_or_stop<W: Watch>(
     alloc: Global,
     program: &Program,
@@ -94,6 +94,13 @@ pub fn search_or_stop<W: Watch>(
         most,
     };
     let plain = plain_proposal(alloc, quest, watch);
+    if matches!(&plain, Err(InferError::Memory)) {
+        watch.end();
+        return Err(SearchStop {
+            error: InferError::Memory.within(Code::slots(program)),
+            sketch: Sketch::nothing(),
+        });
+    }
     let deep = deep_proposal(alloc, quest, watch);
     watch.end();
     let plain = certificate_of(least, most, plain);

@@ -93,14 +93,14 @@ impl<'a> Analysis<'a> {
         Ok(functions)
     }
 
-    /// A refusal with the states that it is seen in, those that are found by then.
+    /// A refusal with the states that it is seen in, those that are found by then. I5 where memory runs out for them.
     fn with_states(&mut self, stop: SearchStop) -> SearchStop {
         if matches!(stop.error, InferError::Memory) {
             return stop;
         }
         match self.functions() {
             Ok(functions) => stop.with_states(self.whole.least, self.whole.most, functions),
-            Err(_) => stop,
+            Err(error) => SearchStop::from(error),
         }
     }
 }
