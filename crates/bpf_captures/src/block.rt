@@ -3,7 +3,7 @@
 ghost use Rattle.std.specs.Prelude.{◌≡◌, ◌+◌, ◌-◌, ◌≤◌, ◌++◌, IfOk, IfErr, length, take, drop, min, replicate};
 ghost use Rattle.bpf_insn.specs.Order.{bytes_of};
 ghost use Rattle.bpf_semantics.specs.Blocks.{head_bytes};
-ghost use Rattle.bpf_captures.specs.Block.{BlockHolds};
+ghost use Rattle.bpf_captures.specs.Block.{BlockHolds, kept_in};
 ghost use Rattle.bpf_captures.specs.Taken.{IsRefusedRecord, TakesBlock};
 
 use crate::capture::next_packet;
@@ -19,8 +19,7 @@ const HEAD: usize = bpf_semantics::HEAD_BYTES as usize;
 /// Puts a length in front of a packet of which so many bytes as fit stand in a block, and zeros behind it.
 fn finish(order: Order, count: usize, block: &mut [u8])
     requires { head_bytes ≤ length block.old }
-    ensures { block.new ≡ bytes_of order head_bytes count ++ (take (min count (length block.old - head_bytes)) (drop head_bytes block.old)
-        ++ replicate (length block.old - head_bytes - min count (length block.old - head_bytes)) 0) }
+    ensures { block.new ≡ bytes_of order head_bytes count ++ kept_in (length block.old - head_bytes) count (drop head_bytes block.old) }
 {
     let kept = count.min(block.len() - HEAD);
     block[HEAD + kept..].fill(0);

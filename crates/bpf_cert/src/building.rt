@@ -2,7 +2,7 @@
 
 ghost use Rattle.std.specs.Prelude.{◌≡◌, ◌≤◌, ◌∷◌, [], List, length, get_or, true, false, IfOk, Some, Ok};
 ghost use Rattle.bpf_cert.specs.Line.{Line};
-ghost use Rattle.bpf_cert.specs.code.Standing.{IsValue, IsEntry, value_line, ruled};
+ghost use Rattle.bpf_cert.specs.code.Standing.{IsValue, IsEntry, value_line, IsRuled};
 ghost use Rattle.bpf_cert.specs.code.Building.{IsBuilt, IsRegisterContent, ClosesLabel, Closes, Puts, index_of, fault_at, Takes, AreLinesOf};
 ghost use Rattle.bpf_cert.specs.Spelling.{contents};
 ghost use Rattle.bpf_state.specs.declared.known.SlotState.TheVariants.{Bytes};
@@ -152,8 +152,8 @@ impl Builder {
     /// Takes what a line says. Nothing is said of the builder once memory ran out.
     fn push(&mut self, value: LineValue) -> Result<(), AllocError>
         requires value { IsValue value }
-        requires built { (lines : List Line) × IsBuilt lines self.old × (ruled lines (Some (value_line value)) ≡ Ok (value_line value)) }
-        ensures { (lines : List Line) → IsBuilt lines self.old → is_ended lines ≡ false → ruled lines (Some (value_line value)) ≡ Ok (value_line value) → IfOk result (λ u. IsBuilt (value_line value ∷ lines) self.new) }
+        requires built { (lines : List Line) × IsBuilt lines self.old × IsRuled lines (value_line value) }
+        ensures { (lines : List Line) → IsBuilt lines self.old → is_ended lines ≡ false → IsRuled lines (value_line value) → IfOk result (λ u. IsBuilt (value_line value ∷ lines) self.new) }
     {
         let standing = self.standing.after(&value);
         match value {

@@ -6,7 +6,7 @@ ghost use Rattle.bpf_cert.specs.Faults.{place_before, is_plain_place, is_limited
 ghost use Rattle.bpf_cert.specs.Line.{is_place};
 ghost use Rattle.bpf_cert.specs.Limits as limits;
 ghost use Rattle.bpf_cert.specs.Spelling.{spelled_place};
-ghost use Rattle.bpf_cert.specs.code.Seen.{place_seen};
+ghost use Rattle.bpf_cert.specs.code.Seen.{place_seen, PutsInOrder};
 
 use crate::decimal::{is_less, is_numeral, is_plain, number};
 use bpf_insn::Reg;
@@ -62,8 +62,7 @@ pub fn is_limited_place(place: PlaceForm<'_>) -> bool
 
 /// Whether the first comes before the second: registers rise, then slots.
 pub fn is_before(first: PlaceForm<'_>, second: PlaceForm<'_>) -> bool
-    ensures { is_place (place_seen first.entry) ≡ true → is_plain_place (place_seen first.entry) ≡ true → is_place (place_seen second.entry) ≡ true → is_plain_place (place_seen second.entry) ≡ true
-        → result ≡ place_before (place_seen first.entry) (place_seen second.entry) }
+    ensures { PutsInOrder (place_seen first.entry) (place_seen second.entry) result }
 {
     match (first, second) {
         (PlaceForm::Register(left), PlaceForm::Register(right)) => is_less(left, right),

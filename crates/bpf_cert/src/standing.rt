@@ -10,7 +10,7 @@ ghost use Rattle.bpf_cert.specs.Reading.{header_in, function_in, label_in, entry
 ghost use Rattle.bpf_cert.specs.code.Findings.{found, valued};
 ghost use Rattle.bpf_cert.specs.Spelling.{spelled_place};
 ghost use Rattle.bpf_cert.specs.code.Seen.{place_seen};
-ghost use Rattle.bpf_cert.specs.code.Standing.{Stands, IsValue, FunctionIs, LabelIs, EntryIs, value_line, value_place, stage_of, is_start, may_have_label, may_have_entry, ruled, fields_in};
+ghost use Rattle.bpf_cert.specs.code.Standing.{Stands, IsValue, FunctionIs, LabelIs, EntryIs, value_line, value_place, stage_of, is_start, may_have_label, may_have_entry, ruled, IsRuled, fields_in};
 
 use crate::certificate::Term;
 use crate::content::content;
@@ -300,7 +300,7 @@ impl Standing {
     pub fn after(self, value: &LineValue) -> Standing
         requires { IsValue value.now }
         ensures place { result.place ≡ value_place value.now }
-        ensures stands { (before : List Line) → Stands before self → ruled before (Some (value_line value.now)) ≡ Ok (value_line value.now) → Stands (value_line value.now ∷ before) result }
+        ensures stands { (before : List Line) → Stands before self → IsRuled before (value_line value.now) → Stands (value_line value.now ∷ before) result }
     {
         match *value {
             LineValue::Header(_) => Standing {

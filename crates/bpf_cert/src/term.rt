@@ -9,7 +9,7 @@ ghost use Rattle.bpf_cert.specs.Limits as limits;
 ghost use Rattle.bpf_cert.specs.code.Findings.{found, valued};
 ghost use Rattle.bpf_cert.specs.Spelling.{term_of};
 ghost use Rattle.bpf_cert.specs.code.Seen.{place_seen, measure_seen, term_seen};
-ghost use Rattle.bpf_cert.specs.code.TermSums.{IsTermSum, is_plain_term, IsPlainPlace, are_canonical_terms, are_limited_terms, terms_in};
+ghost use Rattle.bpf_cert.specs.code.TermSums.{IsTermSum, is_plain_term, IsPlainPlace, MayFollow, are_canonical_terms, are_limited_terms, terms_in};
 
 use crate::certificate::{Measure, Term};
 use crate::decimal::{HUGE, is_numeral, is_plain, number};
@@ -106,8 +106,7 @@ fn term_value(term: TermForm<'_>) -> Term
 
 // Whether the place comes after the last one, and all is spelled plainly.
 fn may_follow(last: Option<PlaceForm<'_>>, term: TermForm<'_>) -> bool
-    ensures { is_term (term_seen term.entry) ≡ true → IfSome (option_map place_seen last.entry) IsPlainPlace
-        → result ≡ (is_plain_term (term_seen term.entry) && comes_after place_before (option_map place_seen last.entry) (line_place (term_seen term.entry))) }
+    ensures { MayFollow (option_map place_seen last.entry) (term_seen term.entry) result }
 {
     if !is_plain_term(term) {
         return false;

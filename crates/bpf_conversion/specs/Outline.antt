@@ -1,10 +1,10 @@
 -- What is found out about a program before its labels are made.
-use Rattle.std.specs.Prelude.{◌≡◌, ℕ, suc, ◌<◌, ◌≤◌, List, length, map, get_or, slice_index, ℤ, pos, negsuc, ◌-◌, Bool, false, Option, Some, None}
+use Rattle.std.specs.Prelude.{◌≡◌, ℕ, suc, ◌<◌, ◌≤◌, List, length, map, get_or, slice_index, ℤ, pos, negsuc, ◌-◌, Bool, false, ◌||◌, Option, Some, None}
 use Rattle.bpf_insn.specs.Instruction.{layout}
 use Rattle.bpf_insn.specs.Limits.{max_slots}
 use Rattle.bpf_insn.specs.declared.instruction.Insn.{Insn}
 use Rattle.bpf_classic.specs.Longest.{longest_of, longest_ways, longest_back, turn}
-use Rattle.bpf_conversion.specs.Leaders.{is_led_to}
+use Rattle.bpf_conversion.specs.Leaders.{is_led_to, makes_leader}
 use Rattle.bpf_conversion.specs.declared.found.Outline.{Outline}
 
 -- each instruction has one slot, and a program has room for them
@@ -38,6 +38,10 @@ back_if ways slot (Some i) = longest_back ways slot i
 pub record AreLed (list : List Insn) (n : ℕ) (wanted : List Bool) : Type 0 where
   pub long : length wanted ≡ length list
   pub each : (slot : ℕ) → slot < length list → get_or wanted slot false ≡ is_led_to list n slot
+
+-- those that the instruction of a slot makes are marked besides
+abbrev pub AreMarkedFrom : ℕ → Option Insn → List Bool → List Bool → Type 0
+AreMarkedFrom slot insn old new = (to : ℕ) → to < length old → get_or new to false ≡ (makes_leader slot insn to || get_or old to false)
 
 -- ---- templates
 

@@ -4,7 +4,7 @@
 ghost use Rattle.std.specs.Prelude.{◌≡◌, ◌<◌, ◌≤◌, ◌||◌, ℕ, false, length, get_or, option_copied, IfOk};
 ghost use Rattle.bpf_insn.specs.Limits.{max_slots};
 ghost use Rattle.bpf_conversion.specs.Leaders.{jump_to, behind_end, is_slot, makes_leader};
-ghost use Rattle.bpf_conversion.specs.Outline.{IsNarrow, AreLed};
+ghost use Rattle.bpf_conversion.specs.Outline.{IsNarrow, AreLed, AreMarkedFrom};
 
 use bpf_insn::{Insn, Program, target};
 use std::alloc::{AllocError, Global};
@@ -53,7 +53,7 @@ fn mark(wanted: &mut Vec<bool>, slot: Option<u32>)
 fn mark_from(wanted: &mut Vec<bool>, slot: u32, insn: Option<&Insn>)
     requires { slot ≤ max_slots }
     ensures long { length wanted.new.items ≡ length wanted.old.items }
-    ensures each { (to : ℕ) → to < length wanted.old.items → get_or wanted.new.items to false ≡ (makes_leader slot (option_copied insn.entry) to || get_or wanted.old.items to false) }
+    ensures each { AreMarkedFrom slot (option_copied insn.entry) wanted.old.items wanted.new.items }
 {
     let Some(insn) = insn else {
         return;

@@ -4,7 +4,7 @@ ghost use Rattle.std.specs.Prelude.{◌≡◌, ◌+◌, ◌*◌, ◌<◌, ◌^�
 ghost use Rattle.bpf_insn.specs.Limits.{frame_bytes, max_frames};
 ghost use Rattle.bpf_insn.specs.Order.{number_of, bytes_of};
 ghost use Rattle.bpf_insn.specs.Instruction.{byte_count};
-ghost use Rattle.bpf_flat.specs.code.Frames.{return_of};
+ghost use Rattle.bpf_flat.specs.code.Frames.{return_of, with_number};
 ghost use Rattle.bpf_flat.specs.code.Parts.{frames_size, IsWritable};
 
 use arrayvec::ArrayVec;
@@ -101,7 +101,7 @@ impl<const BYTES: usize, const CALLS: usize> Frames<BYTES, CALLS> {
     #[inline(always)]
     pub(crate) fn put_number(&mut self, order: Order, size: Size, first: usize, x: u64)
         requires live { IsWritable (length self.old.returns) (byte_count size) first }
-        ensures { self.new ≡ record { bytes = take first self.old.bytes ++ (bytes_of order (byte_count size) x ++ drop (byte_count size) (drop first self.old.bytes)); returns = self.old.returns } }
+        ensures { self.new ≡ with_number order (byte_count size) x first self.old }
     {
         let bytes = &mut self.bytes[..];
         put_number(order, size, &mut bytes[first..], x);

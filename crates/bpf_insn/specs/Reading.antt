@@ -1,10 +1,10 @@
 -- What is read of an image (RFC 9669, section 3) from a reader, where its bytes are known.
-use Rattle.std.specs.Prelude.{◌≡◌, ℕ, ◌+◌, ◌*◌, ◌/◌, ◌<◌, ◌≤◌, List, length, take, Option, IfSome}
+use Rattle.std.specs.Prelude.{◌≡◌, ◌⊎◌, ℕ, ◌+◌, ◌*◌, ◌/◌, ◌<◌, ◌≤◌, List, length, take, Option, IfSome}
 use Rattle.std.specs.Io.{StartsWith}
 use Rattle.std.specs.Io.KnownBytes.{Consumes}
 use Rattle.bpf_insn.specs.Limits.{max_slots}
 use Rattle.bpf_insn.specs.declared.refusal.DecodeError.{DecodeError}
-use Rattle.bpf_insn.specs.declared.refusal.DecodeError.TheVariants.{Read}
+use Rattle.bpf_insn.specs.declared.refusal.DecodeError.TheVariants.{Memory, Read}
 
 -- one byte more than the largest image
 abbrev pub max_read : ℕ
@@ -20,6 +20,10 @@ pub record FailsAfter (known : Option (List ℕ)) (error : DecodeError) : Type 0
   pub begins : IfSome known (λ bytes. StartsWith bytes given)
   pub few : length given < max_read
   pub fault : error ≡ Read (length given / 8)
+
+-- why nothing is made of them, whatever they are: want of memory, or the reader
+abbrev pub IsUnreadBy : Option (List ℕ) → DecodeError → Type 0
+IsUnreadBy known error = (error ≡ Memory) ⊎ FailsAfter known error
 
 -- the same of a reader that is still there: what it gave is what it has no more
 pub record FailsAt (old new : Option (List ℕ)) (error : DecodeError) : Type 0 where

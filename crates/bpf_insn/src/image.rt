@@ -4,7 +4,7 @@ ghost use Rattle.std.specs.Prelude.{◌≡◌, ◌⊎◌, ◌≤◌, ◌/◌, Li
 ghost use Rattle.std.specs.Io.KnownBytes.{Consumes};
 ghost use Rattle.bpf_insn.specs.Image.{image, IsImage, IsProgram};
 ghost use Rattle.bpf_insn.specs.Refusal.{IsRefused};
-ghost use Rattle.bpf_insn.specs.Reading.{max_read, ReadsImage, FailsAfter, FailsAt, GivesAtMost};
+ghost use Rattle.bpf_insn.specs.Reading.{max_read, ReadsImage, IsUnreadBy, FailsAfter, FailsAt, GivesAtMost};
 ghost use Rattle.bpf_insn.specs.declared.instruction.Insn.{Insn};
 ghost use Rattle.bpf_insn.specs.declared.refusal.DecodeError.TheVariants.{Memory};
 
@@ -78,7 +78,7 @@ pub fn decode_from<R: Read + Drop>(
     ensures err { IfErr result (λ e. (e ≡ Memory) ⊎ FailsAfter (R.remaining reader) e
         ⊎ IfSome (R.remaining reader) (λ bytes. IsRefused order (take max_read bytes) e)) }
     ensures accepts { (is : List Insn) → IsProgram is → R.remaining reader ≡ Some (image order is) →
-        MatchResult result (λ p. p.list ≡ is) (λ e. (e ≡ Memory) ⊎ FailsAfter (R.remaining reader) e) }
+        MatchResult result (λ p. p.list ≡ is) (IsUnreadBy (R.remaining reader)) }
 {
     let mut reader = reader;
     match read_image(alloc, &mut reader) {

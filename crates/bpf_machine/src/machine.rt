@@ -307,7 +307,7 @@ impl<'a, C: Code> Machine<'a, C> {
     #[inline(always)]
     pub(crate) fn store_number(&mut self, size: Size, depth: usize, at: usize, x: u64)
         requires { IsInside self.old.state (byte_count size) (Location.Frame depth at) }
-        ensures { self.new ≡ moved_to self.old (with_stack self.old.state depth (with_bytes (bytes_of self.old.program.order (byte_count size) x) at (stack_of self.old.state depth))) }
+        ensures { self.new ≡ moved_to self.old (with_stored (bytes_of self.old.program.order (byte_count size) x) depth at self.old.state) }
     {
         let order = self.code.order();
         self.stacks.store_number(depth, order, at, size, x);

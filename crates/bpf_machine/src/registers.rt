@@ -7,7 +7,7 @@ ghost use Rattle.bpf_semantics.specs.Step.{alu_result};
 ghost use Rattle.bpf_semantics.specs.declared.value.Value.TheVariants.{Number, Pointer};
 ghost use Rattle.bpf_semantics.specs.declared.value.Region.TheVariants.{Frame as FrameAt};
 ghost use Rattle.std.specs.Int.{w64, cast_unsigned};
-ghost use Rattle.bpf_machine.specs.code.PackedRegisters.{value_of, word_value, kept_values};
+ghost use Rattle.bpf_machine.specs.code.PackedRegisters.{value_of, word_value, kept_values, registers_entered};
 
 use bpf_insn::{AluOp, Reg, Width};
 use bpf_semantics::{Region, Value};
@@ -213,7 +213,7 @@ impl Registers {
     /// The registers at the start of a function whose frame is at a depth: r1 to r5 stay, r10 is the frame's end.
     #[inline(always)]
     pub(crate) fn enter(&mut self, depth: u8)
-        ensures { self.new ≡ None ∷ get_or self.old 1 None ∷ get_or self.old 2 None ∷ get_or self.old 3 None ∷ get_or self.old 4 None ∷ get_or self.old 5 None ∷ None ∷ None ∷ None ∷ None ∷ Some (Pointer (FrameAt depth) (pos 0)) ∷ [] }
+        ensures { self.new ≡ registers_entered depth self.old }
     {
         self.kinds[0] = Kind::Unset;
         self.kinds[6] = Kind::Unset;

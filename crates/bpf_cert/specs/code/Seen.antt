@@ -2,9 +2,9 @@
 use Rattle.std.specs.Prelude.{◌≡◌, ℕ, Bool, true, not, ◌&&◌, List, codes, Option, Some, None, ℤ, pos, neg_ℤ, min, ◌^◌, if◌then◌else◌}
 use Rattle.bpf_streams.specs.Words.{behind}
 use Rattle.bpf_cert.specs.Numeral.{SignedDigits, number, is_numeral, is_plain}
-use Rattle.bpf_cert.specs.Line.{Part, PlaceText, Content, Measure, Term, Lengths, Line}
+use Rattle.bpf_cert.specs.Line.{Part, PlaceText, Content, Measure, Term, Lengths, Line, is_place}
 use Rattle.bpf_cert.specs.Reading.{◌>>=◌, cut}
-use Rattle.bpf_cert.specs.Faults.{is_plain_part, is_top}
+use Rattle.bpf_cert.specs.Faults.{is_plain_part, is_plain_place, is_top, place_before}
 use Rattle.bpf_cert.specs.Spelling.{bounds_in}
 use Rattle.bpf_cert.specs.declared.decimal.SignedForm.{SignedForm}
 use Rattle.bpf_cert.specs.declared.part.PartForm.{PartForm}
@@ -61,3 +61,8 @@ term_seen t = record { weight = t.weight.now; measure = measure_seen t.limit t.p
 abbrev pub header_seen : HeaderForm → Line
 header_seen (header.One len steps) = Line.header (Lengths.one len.now) steps.now
 header_seen (header.Range least most steps) = Line.header (Lengths.range least.now most.now) steps.now
+
+-- an answer whether one place comes before another, where both are spelled plainly
+abbrev pub PutsInOrder : PlaceText → PlaceText → Bool → Type 0
+PutsInOrder first second answer =
+    is_place first ≡ true → is_plain_place first ≡ true → is_place second ≡ true → is_plain_place second ≡ true → answer ≡ place_before first second

@@ -79,6 +79,10 @@ ruled before (Some l) =
     else if not (is_limited l && has_room before l) then Err Limit
     else Ok l
 
+-- a line may stand there
+abbrev pub IsRuled : List Line → Line → Type 0
+IsRuled before l = ruled before (Some l) ≡ Ok l
+
 -- the fields of what is left of a line
 abbrev pub fields_in : Option (List ℕ) → List (List ℕ)
 fields_in None = []

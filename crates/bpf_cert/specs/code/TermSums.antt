@@ -1,10 +1,10 @@
 -- What the terms of a budget so far say together.
-use Rattle.std.specs.Prelude.{◌≡◌, ℕ, ◌-◌, Bool, true, ◌&&◌, ◌==◌, nat_le, List, [], ◌∷◌, length, map, Option, Some, None, option_map, Ok}
+use Rattle.std.specs.Prelude.{◌≡◌, ℕ, ◌-◌, Bool, true, ◌&&◌, ◌==◌, nat_le, List, [], ◌∷◌, length, map, Option, Some, None, option_map, IfSome, Ok}
 use Rattle.std.specs.List.{list_all, slice_split}
 use Rattle.bpf_cert.specs.Reading.{all_there, term_in}
 use Rattle.bpf_cert.specs.Numeral.{is_plain}
 use Rattle.bpf_cert.specs.Line.{PlaceText, Term, is_place, is_term}
-use Rattle.bpf_cert.specs.Faults.{place_before, line_place, is_plain_place, is_plain_measure, is_limited_term}
+use Rattle.bpf_cert.specs.Faults.{comes_after, place_before, line_place, is_plain_place, is_plain_measure, is_limited_term}
 use Rattle.bpf_cert.specs.Limits.{is_rising}
 use Rattle.bpf_cert.specs.Limits as limits
 use Rattle.bpf_cert.specs.code.Findings.{tested}
@@ -22,6 +22,10 @@ IsPlainPlace p = (is_place p ≡ true) × (is_plain_place p ≡ true)
 
 abbrev pub is_plain_term : Term → Bool
 is_plain_term t = is_plain t.weight && is_plain_measure t.measure
+
+-- an answer whether a term is spelled plainly, and its place comes after the last one
+abbrev pub MayFollow : Option PlaceText → Term → Bool → Type 0
+MayFollow last t answer = is_term t ≡ true → IfSome last IsPlainPlace → answer ≡ (is_plain_term t && comes_after place_before last (line_place t))
 
 abbrev pub term_before : Term → Term → Bool
 term_before t u = place_before (line_place t) (line_place u)

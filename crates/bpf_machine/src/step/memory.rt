@@ -10,7 +10,7 @@ ghost use Rattle.bpf_semantics.specs.Step.{load};
 ghost use Rattle.bpf_semantics.specs.Stuck.{unreadable_at};
 ghost use Rattle.bpf_machine.specs.code.Locations.{location_is, IsInside, IsLocationFrom};
 ghost use Rattle.bpf_machine.specs.Answers.{Does, reason_before_access};
-ghost use Rattle.bpf_machine.specs.code.Stored.{may_be_stored};
+ghost use Rattle.bpf_machine.specs.code.Stored.{may_be_stored, IsUnreadableFor};
 
 use crate::machine::{Location, Machine, sum_of};
 use crate::outcome::Step;
@@ -93,7 +93,7 @@ impl<'a, C: Code> Machine<'a, C> {
     fn value_at(&self, size: Size, location: Location) -> Result<Value, Reason>
         requires { IsInside self.now.state (byte_count size) location }
         ensures ok { IfOk result (λ value. load self.now.program.order self.now.state size (location_is location) ≡ Some value) }
-        ensures err { IfErr result (λ reason. (unreadable_at self.now.state (byte_count size) (location_is location) ≡ Some reason) × (size ≡ Size.DW → pointer_at self.now.state (location_is location) ≡ None)) }
+        ensures err { IfErr result (IsUnreadableFor self.now.state size (location_is location)) }
     {
         if matches!(size, Size::DW) {
             if let Some(pointer) = self.pointer_at(location) {
