@@ -1,7 +1,7 @@
 -- Definitions, in the order in which they read best.
--- what a step and a run answer
-pub mod Answers
 -- a machine as its contracts see it
 pub mod Running
+-- what a step and a run answer
+pub mod Answers
 -- what mirrors code
 pub mod code

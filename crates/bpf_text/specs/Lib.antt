@@ -7,6 +7,8 @@ pub mod Numerals
 pub mod Spelling
 -- what a line may say
 pub mod Statements
+-- all parts of instructions
+pub mod Parts
 -- the tokens of a line, and the forms of instructions
 pub mod Grammar
 -- what a text says, line by line
@@ -23,8 +25,6 @@ pub mod Annotated
 pub mod RefusalNumbers
 -- laws above these definitions
 pub mod Laws
--- all parts of instructions
-pub mod Parts
 -- the parts by the word in front
 pub mod Lookup
 -- what mirrors code
