@@ -1,6 +1,6 @@
 //! Packets in blocks: eight bytes that tell a packet's length, the packet, and zeros.
 
-ghost use Rattle.std.specs.Prelude.{◌≡◌, ◌+◌, ◌-◌, ◌≤◌, ◌++◌, IfOk, IfErr, length, take, drop, min, replicate};
+ghost use Rattle.std.specs.Prelude.{◌≡◌, ◌+◌, ◌-◌, ◌≤◌, ◌++◌, IfOk, IfErr, length, drop, min};
 ghost use Rattle.bpf_insn.specs.Order.{bytes_of};
 ghost use Rattle.bpf_semantics.specs.Blocks.{head_bytes};
 ghost use Rattle.bpf_captures.specs.Block.{BlockHolds, kept_in};

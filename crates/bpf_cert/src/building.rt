@@ -1,6 +1,6 @@
 //! A certificate, as its lines come.
 
-ghost use Rattle.std.specs.Prelude.{◌≡◌, ◌≤◌, ◌∷◌, [], List, length, get_or, true, false, IfOk, Some, Ok};
+ghost use Rattle.std.specs.Prelude.{◌≡◌, ◌≤◌, ◌∷◌, [], List, length, get_or, true, false, IfOk, Ok};
 ghost use Rattle.bpf_cert.specs.Line.{Line};
 ghost use Rattle.bpf_cert.specs.code.Standing.{IsValue, IsEntry, value_line, IsRuled};
 ghost use Rattle.bpf_cert.specs.code.Building.{IsBuilt, IsRegisterContent, ClosesLabel, Closes, Puts, index_of, fault_at, Takes, AreLinesOf};

@@ -1,8 +1,8 @@
 //! Places, from their text.
 
-ghost use Rattle.std.specs.Prelude.{◌≡◌, ◌^◌, option_map, true};
+ghost use Rattle.std.specs.Prelude.{◌≡◌, option_map, true};
 ghost use Rattle.bpf_cert.specs.Reading.{place_in};
-ghost use Rattle.bpf_cert.specs.Faults.{place_before, is_plain_place, is_limited_place};
+ghost use Rattle.bpf_cert.specs.Faults.{is_plain_place, is_limited_place};
 ghost use Rattle.bpf_cert.specs.Line.{is_place};
 ghost use Rattle.bpf_cert.specs.Limits as limits;
 ghost use Rattle.bpf_cert.specs.Spelling.{spelled_place};

@@ -2,7 +2,7 @@
 
 ghost use Rattle.std.specs.Prelude.{◌≡◌, List, option_map, nat_lt, not, count_by, true, ◌&&◌, [], ◌∷◌, Some, Ok, IfOk};
 ghost use Rattle.bpf_cert.specs.Line.{Line};
-ghost use Rattle.bpf_cert.specs.Faults.{comes_after, place_before, is_canonical, is_limited, is_function, ends_bare};
+ghost use Rattle.bpf_cert.specs.Faults.{comes_after, place_before, is_function, ends_bare};
 ghost use Rattle.bpf_cert.specs.Limits.{max_functions};
 ghost use Rattle.bpf_cert.specs.Numeral.{is_numeral};
 ghost use Rattle.bpf_insn.specs.Instruction.{register_number};

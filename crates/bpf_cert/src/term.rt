@@ -1,15 +1,15 @@
 //! The terms of a budget, from their text.
 
-ghost use Rattle.std.specs.Prelude.{◌≡◌, ◌++◌, ◌∷◌, ◌&&◌, [], List, nat_lt, map, true, option_map, Some, IfSome, IfOk};
+ghost use Rattle.std.specs.Prelude.{◌≡◌, ◌++◌, ◌∷◌, ◌&&◌, [], List, nat_lt, map, true, option_map, Some, IfOk};
 ghost use Rattle.std.specs.List.{list_all};
 ghost use Rattle.bpf_cert.specs.Line.{Term as TermText, is_term};
 ghost use Rattle.bpf_cert.specs.Reading.{measure_in, term_in};
-ghost use Rattle.bpf_cert.specs.Faults.{is_limited_term, comes_after, place_before, line_place};
+ghost use Rattle.bpf_cert.specs.Faults.{is_limited_term};
 ghost use Rattle.bpf_cert.specs.Limits as limits;
 ghost use Rattle.bpf_cert.specs.code.Findings.{found, valued};
 ghost use Rattle.bpf_cert.specs.Spelling.{term_of};
 ghost use Rattle.bpf_cert.specs.code.Seen.{place_seen, measure_seen, term_seen};
-ghost use Rattle.bpf_cert.specs.code.TermSums.{IsTermSum, is_plain_term, IsPlainPlace, MayFollow, are_canonical_terms, are_limited_terms, terms_in};
+ghost use Rattle.bpf_cert.specs.code.TermSums.{IsTermSum, is_plain_term, MayFollow, are_canonical_terms, are_limited_terms, terms_in};
 
 use crate::certificate::{Measure, Term};
 use crate::decimal::{HUGE, is_numeral, is_plain, number};

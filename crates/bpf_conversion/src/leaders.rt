@@ -3,7 +3,7 @@
 
 ghost use Rattle.std.specs.Prelude.{◌≡◌, ◌<◌, ◌≤◌, ◌||◌, ℕ, false, length, get_or, option_copied, IfOk};
 ghost use Rattle.bpf_insn.specs.Limits.{max_slots};
-ghost use Rattle.bpf_conversion.specs.Leaders.{jump_to, behind_end, is_slot, makes_leader};
+ghost use Rattle.bpf_conversion.specs.Leaders.{jump_to, behind_end, is_slot};
 ghost use Rattle.bpf_conversion.specs.Outline.{IsNarrow, AreLed, AreMarkedFrom};
 
 use bpf_insn::{Insn, Program, target};

@@ -1,8 +1,8 @@
 //! The frames of a run: their bytes, and what each call keeps for its return.
 
-ghost use Rattle.std.specs.Prelude.{◌≡◌, ◌+◌, ◌*◌, ◌<◌, ◌^◌, ◌++◌, [], ◌∷◌, IfSome, IfNone, length, take, drop, replicate};
+ghost use Rattle.std.specs.Prelude.{◌≡◌, ◌+◌, ◌*◌, ◌<◌, ◌^◌, [], ◌∷◌, IfSome, IfNone, length, drop, replicate};
 ghost use Rattle.bpf_insn.specs.Limits.{frame_bytes, max_frames};
-ghost use Rattle.bpf_insn.specs.Order.{number_of, bytes_of};
+ghost use Rattle.bpf_insn.specs.Order.{number_of};
 ghost use Rattle.bpf_insn.specs.Instruction.{byte_count};
 ghost use Rattle.bpf_flat.specs.code.Frames.{return_of, with_number};
 ghost use Rattle.bpf_flat.specs.code.Parts.{frames_size, IsWritable};

@@ -1,15 +1,16 @@
 //! The machine: a program, the context that it runs on, and its frames.
 
-ghost use Rattle.std.specs.Prelude.{◌≡◌, ◌<◌, ◌≤◌, ◌+◌, ◌%◌, ◌^◌, [], IsTrue, false, nat_le, pos, ◌+ℤ◌, IfSome, IfNone, IfOk, IfErr, length, option_map, is_some, IsSome, Some, None};
+ghost use Rattle.std.specs.Prelude.{◌≡◌, ◌<◌, ◌≤◌, ◌+◌, ◌%◌, ◌^◌, [], IsTrue, false, nat_le, pos, ◌+ℤ◌, IfSome, IfOk, IfErr, length, option_map, is_some, IsSome, Some, None};
 ghost use Rattle.bpf_insn.specs.Limits.{max_context, max_slots};
 ghost use Rattle.bpf_insn.specs.Order.{bytes_of};
 ghost use Rattle.bpf_insn.specs.Instruction.{register_number, byte_count, insn_at, distance};
 ghost use Rattle.bpf_semantics.specs.declared.value.Value.TheVariants.{Number};
 ghost use Rattle.bpf_semantics.specs.State.{frame_bytes, max_frames, depth, start, register, with_register, at_slot, number_of_register};
-ghost use Rattle.bpf_semantics.specs.Memory.{inside, location_of, number_at, pointer_at, stack_of, with_stack, with_bytes, with_parts};
+ghost use Rattle.bpf_semantics.specs.Memory.{inside, location_of, number_at, pointer_at, stack_of, with_stack, with_parts};
 ghost use Rattle.bpf_semantics.specs.Step.{alu_result, operand, entered, left};
 ghost use Rattle.bpf_semantics.specs.Stuck.{unreadable_at};
 ghost use Rattle.bpf_machine.specs.code.Locations.{location_is, IsInside};
+ghost use Rattle.bpf_machine.specs.code.Stored.{with_stored};
 ghost use Rattle.bpf_semantics.specs.Targets.{LeadsToSlot};
 ghost use Rattle.bpf_machine.specs.Running.{running, moved_to};
 

@@ -1,11 +1,10 @@
 //! The registers: eleven numbers, and apart what each of them is.
 
-ghost use Rattle.std.specs.Prelude.{◌≡◌, ◌<◌, get_or, slice_set, replicate, [], ◌∷◌, Some, None, pos, is_some, option_and_then, IsSome};
+ghost use Rattle.std.specs.Prelude.{◌≡◌, ◌<◌, get_or, slice_set, replicate, [], ◌∷◌, Some, None, is_some, option_and_then, IsSome};
 ghost use Rattle.bpf_insn.specs.Instruction.{register_number};
 ghost use Rattle.bpf_semantics.specs.State.{number_in};
 ghost use Rattle.bpf_semantics.specs.Step.{alu_result};
 ghost use Rattle.bpf_semantics.specs.declared.value.Value.TheVariants.{Number, Pointer};
-ghost use Rattle.bpf_semantics.specs.declared.value.Region.TheVariants.{Frame as FrameAt};
 ghost use Rattle.std.specs.Int.{w64, cast_unsigned};
 ghost use Rattle.bpf_machine.specs.code.PackedRegisters.{value_of, word_value, kept_values, registers_entered};
 

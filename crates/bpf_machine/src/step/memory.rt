@@ -7,7 +7,6 @@ ghost use Rattle.bpf_insn.specs.Effects.{is_frame_pointer};
 ghost use Rattle.bpf_insn.specs.Instruction.{byte_count};
 ghost use Rattle.bpf_semantics.specs.Memory.{pointer_at};
 ghost use Rattle.bpf_semantics.specs.Step.{load};
-ghost use Rattle.bpf_semantics.specs.Stuck.{unreadable_at};
 ghost use Rattle.bpf_machine.specs.code.Locations.{location_is, IsInside, IsLocationFrom};
 ghost use Rattle.bpf_machine.specs.Answers.{Does, reason_before_access};
 ghost use Rattle.bpf_machine.specs.code.Stored.{may_be_stored, IsUnreadableFor};
