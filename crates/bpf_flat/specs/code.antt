@@ -4,3 +4,4 @@ pub mod Frames
 pub mod Stops
 pub mod Opcodes
 pub mod Pairs
+pub mod Ordered

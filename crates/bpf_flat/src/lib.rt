@@ -8,13 +8,14 @@ mod image;
 mod machine;
 mod op;
 mod opcodes;
+mod ordered;
 mod pairs;
+mod prepared;
 mod runs;
 mod seldom;
 mod standing;
 mod step;
 
-pub use fetch::Fetch;
-pub use image::{fetched_in, opcode_in, wide_in};
 pub use opcodes::put_opcodes;
-pub use runs::{run, run_fetched};
+pub use prepared::{Prepared, run_image};
+pub use runs::run;

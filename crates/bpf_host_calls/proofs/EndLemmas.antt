@@ -1,12 +1,12 @@
 -- How a run of a verified image ends.
-use Rattle.std.proofs.Common.{◌≡◌, ◌≤◌, ◌<◌, ◌^◌, ℕ, List, sym, ap, subst, ◌∙◌, arith}
+use Rattle.std.proofs.Common.{◌≡◌, ◌≤◌, ◌<◌, ◌^◌, ℕ, List, subst, arith}
 use Rattle.bpf_insn.specs.Instruction.{Instructions}
 use Rattle.bpf_insn.specs.Image.{IsProgram}
-use Rattle.bpf_insn.specs.Laws.{AreBytes, IsImageOfProgram}
+use Rattle.bpf_insn.specs.Laws.{AreBytes}
 use Rattle.bpf_insn.specs.declared.order.Order.{Order}
-use Rattle.bpf_insn.specs.declared.instruction.Insn.{Insn}
 use Rattle.bpf_semantics.specs.Run.{IsDone}
-use Rattle.bpf_flat.specs.Runs.{RunsTo, Ends}
+use Rattle.bpf_flat.specs.Runs.{Ends}
+use Rattle.bpf_flat.specs.code.Ordered.{ImageRunsTo}
 use Rattle.bpf_machine.specs.declared.outcome.Outcome.{Outcome}
 use Rattle.bpf_machine.specs.declared.outcome.Outcome.TheVariants.{Done, Fault, OutOfFuel}
 use Rattle.bpf_machine.proofs.RunLemmas.{StepLaws, one_outcome}
@@ -14,14 +14,6 @@ use Rattle.bpf_safety.specs.Describes.{LengthWithin}
 use Rattle.bpf_safety.specs.Theorems.{IsSafe, IsFlatSafe}
 use Rattle.bpf_check.specs.Verdicts.{program_in}
 use Rattle.bpf_host_calls.specs.Answers.{IsVerifiedFor, EndsAsVerified}
-
--- the program that is known to be an image's
-pub record Known (order : Order) (image : List ℕ) (p : Instructions) : Type 0 where
-  pub order_is : p.order ≡ order
-  pub list_is : (is : List Insn) → IsImageOfProgram order image is → p.list ≡ is
-
-program_is : {order : Order} {image : List ℕ} {p : Instructions} → Known order image p → (is : List Insn) → IsImageOfProgram order image is → p ≡ program_in order is
-program_is {order} {image} {p} known is h = ap (λ o. program_in o p.list) known.order_is ∙ ap (program_in order) (known.list_is is h)
 
 -- a verdict promises that the run ends, and that the flat machine follows it
 ends_within : (p : Instructions) (least most bound : ℕ) (context : List ℕ) → IsSafe p least most bound → IsFlatSafe p least most → AreBytes context → LengthWithin least most context → bound < 2 ^ 32 → Ends p 4294967295 context
@@ -37,11 +29,10 @@ ends_within p least most bound context safe flat bytes len fits =
       },
     )
 
-pub ends : {order : Order} {image context : List ℕ} {p : Instructions} → Known order image p → AreBytes context → IsVerifiedFor order image context → Ends p 4294967295 context
-ends {order} {image} {context} {p} known bytes for =
+pub ends : {order : Order} {image context : List ℕ} → AreBytes context → (for : IsVerifiedFor order image context) → Ends (program_in order for.verified.program) 4294967295 context
+ends {order} {image} {context} bytes for =
     let v = for.verified in
-    let same = program_is known v.program v.is_image in
-    ends_within p for.least for.most for.bound context (subst (λ q. IsSafe q for.least for.most for.bound) (sym same) v.safe) (subst (λ q. IsFlatSafe q for.least for.most) (sym same) v.flat) bytes for.length_within for.bound_fits
+    ends_within (program_in order v.program) for.least for.most for.bound context v.safe v.flat bytes for.length_within for.bound_fits
 
 abbrev steps_within : ℕ → Outcome → Type 0
 steps_within bound (Done v k) = k ≤ bound
@@ -57,17 +48,16 @@ in_each_time laws p least most bound context v k program safe bytes len fits don
     let same : Done e.value e.steps ≡ Done v k = one_outcome laws p context 4294967295 (Done e.value e.steps) (Done v k) program (e.done, fuel) (done, few) in
     subst (steps_within bound) same in_time
 
-pub as_verified : {order : Order} {image context : List ℕ} {p : Instructions} → StepLaws → Known order image p → AreBytes context → (v : ℕ) → RunsTo p 4294967295 context v → EndsAsVerified order image context v
-as_verified {order} {image} {context} {p} laws known bytes v run least most bound verified fits len =
-    let same = program_is known verified.program verified.is_image in
-    let safe = subst (λ q. IsSafe q least most bound) (sym same) verified.safe in
-    let program = subst IsProgram (sym (known.list_is verified.program verified.is_image)) verified.is_image.program in
+pub as_verified : {order : Order} {image context : List ℕ} → StepLaws → AreBytes context → (v : ℕ) → ImageRunsTo order image 4294967295 context v → EndsAsVerified order image context v
+as_verified {order} {image} {context} laws bytes v runs least most bound verified fits len =
+    let p = program_in order verified.program in
+    let run = runs verified.program verified.is_image in
     record {
       program = verified.program;
       is_image = verified.is_image;
       steps = run.steps;
-      in_time = in_each_time laws p least most bound context v run.steps program safe bytes len fits run.done run.in_time;
-      done = subst (λ q. IsDone q context v run.steps) same run.done;
+      in_time = in_each_time laws p least most bound context v run.steps verified.is_image.program verified.safe bytes len fits run.done run.in_time;
+      done = run.done;
     }
 
 -- ---- what is prepared

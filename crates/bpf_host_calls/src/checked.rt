@@ -3,29 +3,14 @@
 ghost use Rattle.std.specs.Prelude.{◌≤◌, ◌↔◌, IsSome, IfSome, length};
 ghost use Rattle.bpf_host_calls.specs.Answers.{IsVerifiedFor, MayRun, EndsAsVerified, EndsAsPrepared};
 ghost use Rattle.bpf_host_calls.specs.Prepared.{AreOpcodesOf, IsMarked, IsWhole, prepared_head};
-ghost use Rattle.bpf_host_calls.specs.Told.{order_named};
 
-use crate::ordered::Ordered;
 use crate::prepared::found_in;
-use bpf_flat::run_fetched;
+use bpf_flat::run_image;
 use bpf_insn::Order;
 use bpf_semantics::{finish_is_last, runs_are_one, stuck_has_reason};
 
 /// The greatest bound that a certificate says.
 const MAX_STEPS: u32 = u32::MAX;
-
-/// The number with which the program of a verified image in the byte order of a number ends on a context. Its opcodes stand beside it.
-fn end_in<const ORDER: u32>(image: &[u8], opcodes: &[u8], context: &[u8]) -> u64
-    requires verified { IsVerifiedFor (order_named ORDER) image.now context.now }
-    requires opcodes { AreOpcodesOf (order_named ORDER) image.now opcodes.now }
-    ensures { EndsAsVerified (order_named ORDER) image.now context.now result }
-{
-    finish_is_last();
-    stuck_has_reason();
-    runs_are_one();
-    let program: Ordered<'_, ORDER> = Ordered::of(image, opcodes);
-    run_fetched(&program, context, MAX_STEPS)
-}
 
 /// The number with which the program of a verified image ends on a context. Its opcodes stand beside it.
 pub(crate) fn end_of_image(image: &[u8], opcodes: &[u8], order: Order, context: &[u8]) -> u64
@@ -33,10 +18,10 @@ pub(crate) fn end_of_image(image: &[u8], opcodes: &[u8], order: Order, context: 
     requires opcodes { AreOpcodesOf order image.now opcodes.now }
     ensures { EndsAsVerified order image.now context.now result }
 {
-    match order {
-        Order::Little => end_in::<0>(image, opcodes, context),
-        Order::Big => end_in::<1>(image, opcodes, context),
-    }
+    finish_is_last();
+    stuck_has_reason();
+    runs_are_one();
+    run_image(image, opcodes, order, context, MAX_STEPS)
 }
 
 /// The number with which a prepared program ends on a context; None where another version prepared it, or words of it aren't there.

@@ -19,7 +19,6 @@ mod hardening;
 mod host_advice_asked;
 mod judged;
 mod loaded;
-mod ordered;
 mod outputs;
 mod prepared;
 mod proposal;

@@ -10,7 +10,7 @@ ghost use Rattle.bpf_command.specs.Given.{JudgedEachFails, JudgedEachLeaves, Jud
 use crate::commands::noted::is_trapped;
 use crate::request::CheckedRunning;
 use bpf_answers::{Answer, Counted, Failure, Places, Reply, Runner, answered, certificate_at};
-use bpf_check::{Checked, check};
+use bpf_check::{Checked, Runnable, check};
 use bpf_insn::Code;
 use bpf_kept::Note;
 use std::alloc::Global;
@@ -58,13 +58,14 @@ fn promise<C: Code>(checked: &Checked<'_, C>, counted: bool) -> Answer
 /// Runs a checked program on the context, if that has a length of which the certificate speaks.
 fn run_on<C: Code>(
     program: &C,
-    checked: &Checked<'_, C>,
+    runnable: &Runnable<'_, '_, C>,
     context: &[u8],
     notes: Option<&[Option<Note>]>,
 ) -> Answer
-    requires same { checked.now.program ≡ C.program program.now }
-    ensures { ResultSays (noted_in notes.entry) context.now checked.now result }
+    requires same { runnable.now.program ≡ C.program program.now }
+    ensures { ResultSays (noted_in notes.entry) context.now runnable.now result }
 {
+    let checked = runnable.checked();
     checked.valid();
     let least = checked.least();
     let most = checked.most();
@@ -72,7 +73,7 @@ fn run_on<C: Code>(
     if count < least as usize || count > most as usize {
         return Answer::NoContext { count, least, most };
     }
-    let value = checked.run(context);
+    let value = runnable.run(context);
     if is_trapped(program, checked, context, notes) {
         Answer::EndsAtTrap(value)
     } else {
@@ -81,13 +82,21 @@ fn run_on<C: Code>(
 }
 
 /// What is wanted of a checked program.
-fn grant<C: Code>(program: &C, checked: &Checked<'_, C>, wish: WantedOfChecked<'_>) -> Answer
+fn grant<C: Code>(
+    alloc: Global,
+    program: &C,
+    checked: &Checked<'_, C>,
+    wish: WantedOfChecked<'_>,
+) -> Answer
     requires same { checked.now.program ≡ C.program program.now }
     ensures { WishSays wish.entry checked.now result }
 {
     match wish {
         WantedOfChecked::Promise { counted } => promise(checked, counted),
-        WantedOfChecked::Run { context, notes } => run_on(program, checked, context, notes),
+        WantedOfChecked::Run { context, notes } => {
+            let runnable = Runnable::of(alloc, checked);
+            run_on(program, &runnable, context, notes)
+        }
     }
 }
 
@@ -95,7 +104,7 @@ fn grant<C: Code>(program: &C, checked: &Checked<'_, C>, wish: WantedOfChecked<'
 #[derive(Drop)]
 struct ContextAnswerer<'a, 'p, C: Code> {
     program: &'p C,
-    checked: &'a Checked<'p, C>,
+    runnable: &'a Runnable<'a, 'p, C>,
     notes: Option<&'a [Option<Note>]>,
 }
 
@@ -105,9 +114,9 @@ impl<'a, 'p, C: Code> Model for ContextAnswerer<'a, 'p, C> {
 
     ghost Value = { Answering };
 
-    ghost view = { λ r. record { checked = r.checked.now; noted = noted_in r.notes } };
+    ghost view = { λ r. record { checked = r.runnable.now; noted = noted_in r.notes } };
 
-    ghost invariant = { λ r. r.checked.now.program ≡ C.program r.program.now };
+    ghost invariant = { λ r. r.runnable.now.program ≡ C.program r.program.now };
 }
 
 impl<'a, 'p, C: Code> Runner for ContextAnswerer<'a, 'p, C> {
@@ -116,7 +125,7 @@ impl<'a, 'p, C: Code> Runner for ContextAnswerer<'a, 'p, C> {
     ghost says = { λ r context answer. ResultSays r.noted context r.checked answer };
 
     fn answer(&self, context: &[u8]) -> Answer {
-        run_on(self.program, self.checked, context, self.notes)
+        run_on(self.program, self.runnable, context, self.notes)
     }
 }
 
@@ -146,12 +155,12 @@ pub fn judged_each<'a, P: Places, C: Code, W: Write>(
         Ok(checked) => checked,
         Err(refusal) => return Ok(Reply::One(Answer::NotCertified(refusal))),
     };
-    let runner = ContextAnswerer {
+    let answerer = ContextAnswerer {
         program,
-        checked: &checked,
+        runnable: &Runnable::of(alloc, &checked),
         notes: running.notes,
     };
-    match answered(places, out, &runner, contexts) {
+    match answered(places, out, &answerer, contexts) {
         Ok(status) => Ok(Reply::Each(status)),
         Err(failure) => Err(failure),
     }
@@ -175,7 +184,7 @@ pub fn judged<'a, P: Places, C: Code>(
         Err(error) => return Ok(Answer::NoCertificate(error)),
     };
     match check(program, &certificate) {
-        Ok(checked) => Ok(grant(program, &checked, wish)),
+        Ok(checked) => Ok(grant(alloc, program, &checked, wish)),
         Err(refusal) => Ok(Answer::NotCertified(refusal)),
     }
 }

@@ -10,7 +10,7 @@ ghost use Rattle.bpf_command.specs.Replayed.{EndsBy, JudgedPacketsFail, JudgedPa
 use crate::request::{Contexts, Replaying};
 use bpf_answers::{Answer, DONE, Failure, PlaceError, Places, Reply, certificate_at, program_at};
 use bpf_captures::{Answerer, BlockLayout, CaptureEnd, ReplayFault, replay};
-use bpf_check::{Checked, check};
+use bpf_check::{Checked, Runnable, check};
 use bpf_insn::{Code, Order};
 use bpf_semantics::HEAD_BYTES;
 use std::alloc::Global;
@@ -37,19 +37,19 @@ pub struct Packets<'a> {
 /// A checked program, as what answers blocks.
 #[derive(Drop)]
 struct BlockAnswerer<'a, 'p, C: Code> {
-    checked: &'a Checked<'p, C>,
+    runnable: &'a Runnable<'a, 'p, C>,
 }
 
 impl<'a, 'p, C: Code> Answerer for BlockAnswerer<'a, 'p, C> {
     ghost use Rattle.std.specs.Prelude.{◌≤◌};
     ghost use Rattle.bpf_command.specs.Replayed.{Gives};
 
-    ghost takes = { λ r size. (r.checked.now.certificate.least ≤ size) × (size ≤ r.checked.now.certificate.most) };
+    ghost takes = { λ r size. (r.runnable.now.certificate.least ≤ size) × (size ≤ r.runnable.now.certificate.most) };
 
-    ghost gives = { λ r block value. Gives r.checked.now block value };
+    ghost gives = { λ r block value. Gives r.runnable.now block value };
 
     fn run(&self, block: &[u8]) -> u64 {
-        self.checked.run(block)
+        self.runnable.run(block)
     }
 }
 
@@ -83,7 +83,9 @@ fn replay_from<'a, R: Read, C: Code, W: Write>(
         order: packets.order,
         size: checked.most() as usize,
     };
-    let answerer = BlockAnswerer { checked };
+    let answerer = BlockAnswerer {
+        runnable: &Runnable::of(alloc, checked),
+    };
     match replay(alloc, reader, out, &answerer, blocks, packets.counts) {
         Ok(stop) => ended(stop, packets.name),
         Err(ReplayFault::Output) => Err(Failure::CannotWrite("standard output")),
