@@ -1,8 +1,8 @@
 //! The calls that convert filters of classic BPF.
 
-ghost use Rattle.std.specs.Prelude.{◌≡◌, ◌⊎◌, ◌↔◌, ◌<◌, false};
+ghost use Rattle.std.specs.Prelude.{◌≡◌, ◌⊎◌, ◌↔◌};
 ghost use Rattle.bpf_host_calls.specs.Told.{order_named};
-ghost use Rattle.bpf_host_calls.specs.Forms.{form_part, form_asked, may_have, wanted_as};
+ghost use Rattle.bpf_host_calls.specs.Forms.{form_asked, wanted_as, IsBadConvert};
 ghost use Rattle.bpf_host_calls.specs.Converted.{GivesConverted, IsNotConverted, WantsConvertedRoom};
 ghost use Rattle.bpf_host_calls.specs.ConvertSizes.{convert_size};
 ghost use Rattle.bpf_host_calls.specs.declared.answers.TheConstants.{YES, NO, NO_MEMORY, BAD_CALL, TOO_SMALL};
@@ -32,7 +32,7 @@ pub extern "C" fn bpf_host_convert(
     ensures given { result ≡ YES → GivesConverted (order_named asked.now.filter_order) filter.now (wanted_as asked.now) converted.new made.old made.new text.old text.new }
     ensures small { result ≡ TOO_SMALL → WantsConvertedRoom (order_named asked.now.filter_order) filter.now (wanted_as asked.now) converted.new made.old text.old }
     ensures refused { result ≡ NO → IsNotConverted (order_named asked.now.filter_order) filter.now (form_asked asked.now.form) refusal.new }
-    ensures call { (result ≡ BAD_CALL) ↔ ((1 < asked.now.filter_order) ⊎ ((1 < asked.now.order) ⊎ ((3 < form_part asked.now.form) ⊎ (may_have (form_asked asked.now.form) asked.now.size ≡ false)))) }
+    ensures call { (result ≡ BAD_CALL) ↔ IsBadConvert asked.now }
     ensures answers { (result ≡ YES) ⊎ (result ≡ NO) ⊎ (result ≡ NO_MEMORY) ⊎ (result ≡ BAD_CALL) ⊎ (result ≡ TOO_SMALL) }
     ensures made_kept { (result ≡ YES) ⊎ (made.new ≡ made.old) }
     ensures text_kept { (result ≡ YES) ⊎ (text.new ≡ text.old) }

@@ -3,7 +3,7 @@
 #![tactic(auto)]
 
 ghost use Rattle.std.specs.Prelude.{◌≡◌, ◌≢◌, ◌==◌, ◌++◌, ◌⊎◌, ◌↔◌, ◌<◌, ◌≤◌, ◌+◌, ◌*◌, ◌%◌, List, length, take, drop};
-ghost use Rattle.bpf_insn.specs.Limits.{max_context, max_slots, frame_bytes};
+ghost use Rattle.bpf_insn.specs.Limits.{max_context, max_slots};
 ghost use Rattle.bpf_insn.specs.Laws.{IsImageOfProgram};
 ghost use Rattle.bpf_insn.specs.declared.instruction.Insn.{Insn as Instruction};
 ghost use Rattle.bpf_cert.specs.View.{CertificateView};
@@ -16,7 +16,7 @@ ghost use Rattle.bpf_host_calls.specs.Explained.{IsSomeImage};
 ghost use Rattle.bpf_host_calls.specs.Sizes.{infer_size, explain_size};
 ghost use Rattle.bpf_host_calls.specs.Texts.{refusal_text, answer_text, IsNumbered};
 ghost use Rattle.bpf_host_calls.specs.Proposals.{GivesProposal, WantsRoom, IsNotProposed};
-ghost use Rattle.bpf_host_calls.specs.Hardened.{bounds_asked, GivesHardened, WantsHardenedRoom, IsNotHardened};
+ghost use Rattle.bpf_host_calls.specs.Hardened.{bounds_asked, IsBadHarden, GivesHardened, WantsHardenedRoom, IsNotHardened};
 ghost use Rattle.bpf_host_calls.specs.Followed.{IsFollowed, IsNotFollowed};
 ghost use Rattle.bpf_host_calls.specs.declared.answers.TheConstants.{YES, NO, NO_MEMORY, BAD_CALL, TOO_SMALL, TOO_LONG, BAD_LENGTH, BAD_WORDS};
 
@@ -259,7 +259,7 @@ pub extern "C" fn bpf_host_harden(
     ensures given { result ≡ YES → GivesHardened (order_named order) image.now (bounds_asked asked.now) (asked.now.unproved == 1) wanted.new text.old text.new }
     ensures small { result ≡ TOO_SMALL → WantsHardenedRoom (order_named order) image.now (bounds_asked asked.now) (asked.now.unproved == 1) wanted.new text.old }
     ensures refused { result ≡ NO → IsNotHardened (order_named order) image.now (bounds_asked asked.now) (asked.now.unproved == 1) refusal.new }
-    ensures call { (result ≡ BAD_CALL) ↔ ((1 < order) ⊎ ((max_context < asked.now.size) ⊎ ((1 < asked.now.padded) ⊎ ((1 < asked.now.unproved) ⊎ (frame_bytes < asked.now.untouched))))) }
+    ensures call { (result ≡ BAD_CALL) ↔ IsBadHarden order asked.now }
     ensures answers { (result ≡ YES) ⊎ (result ≡ NO) ⊎ (result ≡ NO_MEMORY) ⊎ (result ≡ BAD_CALL) ⊎ (result ≡ TOO_SMALL) }
     ensures text_kept { (result ≡ YES) ⊎ (text.new ≡ text.old) }
     ensures wanted_kept { (result ≡ YES) ⊎ (result ≡ TOO_SMALL) ⊎ (wanted.new ≡ wanted.old) }

@@ -28,6 +28,7 @@ use Rattle.bpf_host_calls.specs.declared.answers.BpfRefusal.{BpfRefusal}
 use Rattle.bpf_host_calls.specs.ToldAdvice.{TellsNewImage, TellsNotes, TellsMatch}
 use Rattle.bpf_host_calls.specs.declared.refusals.Unmade.TheVariants.{Refused}
 use Rattle.bpf_host_calls.specs.declared.host_advice_asked.BpfFollowing.{BpfFollowing}
+use Rattle.bpf_host_calls.specs.declared.host_advice_asked.FollowAsked.{FollowAsked}
 
 -- ---- what is shown
 
@@ -60,6 +61,10 @@ pub record IsFollowed (order : Order) (old new notes text : List ℕ) (told : Bp
   pub matches : MatchesBeside (program_in order judged.program) (program_in order judged.made) judged.noted judged.certificate judged.runs
   pub keeps : Keeps (program_in order judged.program) (program_in order judged.made) judged.noted judged.runs
   pub told_is : told ≡ following_of judged.runs (shown_turns judged.noted judged.runs.turns) judged.certificate.steps
+
+-- The notes and the certificate that are asked about show what is told of the two images.
+abbrev pub IsFollowedAs : Order → FollowAsked → BpfFollowing → Type 0
+IsFollowedAs order a told = IsFollowed order a.old.now a.new.now a.notes.now a.certificate.now told
 
 -- ---- what is refused: the first of both images, the notes, the certificate, what it certifies, and what the notes show
 
@@ -101,3 +106,7 @@ IsNotFollowed order old new notes text told =
     ⊎ IsNoCertificate order old new notes text told
     ⊎ IsFlawedNew order old new notes text told
     ⊎ IsMismatched order old new notes text told
+
+-- What is asked about is refused, as is told.
+abbrev pub IsNotFollowedAs : Order → FollowAsked → BpfRefusal → Type 0
+IsNotFollowedAs order a told = IsNotFollowed order a.old.now a.new.now a.notes.now a.certificate.now told

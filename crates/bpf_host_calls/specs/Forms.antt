@@ -1,5 +1,5 @@
 -- Which contexts are asked for, by numbers.
-use Rattle.std.specs.Prelude.{ℕ, zero, suc, ◌/◌, ◌%◌, ◌^◌, ◌==◌, ◌&&◌, nat_le, Bool, if◌then◌else◌}
+use Rattle.std.specs.Prelude.{◌≡◌, ◌⊎◌, ◌<◌, ℕ, zero, suc, ◌/◌, ◌%◌, ◌^◌, ◌==◌, ◌&&◌, nat_le, Bool, false, if◌then◌else◌}
 use Rattle.bpf_insn.specs.Limits.{max_context}
 use Rattle.bpf_insn.specs.declared.order.Order.{Order}
 use Rattle.bpf_classic.specs.Template.{usual_turns}
@@ -43,3 +43,7 @@ wanted_by asked size order = record { form = form_asked asked; length = size; or
 -- the same by what is asked of the call
 abbrev pub wanted_as : ConvertAsked → Wanted
 wanted_as a = wanted_by a.form a.size (order_named a.order)
+
+-- The call is refused: an order or a form has no such number, or no context of the form has so many bytes.
+abbrev pub IsBadConvert : ConvertAsked → Type 0
+IsBadConvert a = (1 < a.filter_order) ⊎ ((1 < a.order) ⊎ ((3 < form_part a.form) ⊎ (may_have (form_asked a.form) a.size ≡ false)))

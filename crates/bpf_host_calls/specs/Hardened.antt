@@ -1,5 +1,6 @@
 -- Images that are hardened.
 use Rattle.std.specs.Prelude.{◌≡◌, ◌≢◌, ◌<◌, ◌⊎◌, ◌++◌, ◌==◌, ℕ, Bool, false, List, Option, length, drop}
+use Rattle.bpf_insn.specs.Limits.{max_context, frame_bytes}
 use Rattle.bpf_insn.specs.Instruction.{Instructions, slots}
 use Rattle.bpf_insn.specs.Laws.{IsImageOfProgram}
 use Rattle.bpf_insn.specs.Refusal.{IsRefused}
@@ -29,6 +30,10 @@ bounds_of size padded turns untouched = record { length = size; padded = padded 
 -- the same by what is asked of a hardening
 abbrev pub bounds_asked : HardenAsked → Bounds
 bounds_asked a = bounds_of a.size a.padded a.turns a.untouched
+
+-- The call is refused: the order, the size, a yes or no, or how many bytes are left to r10 is out of its range.
+abbrev pub IsBadHarden : ℕ → HardenAsked → Type 0
+IsBadHarden order a = (1 < order) ⊎ ((max_context < a.size) ⊎ ((1 < a.padded) ⊎ ((1 < a.unproved) ⊎ (frame_bytes < a.untouched))))
 
 -- by notes a program keeps the meaning of another one on these, and runs in the same byte order
 pub record IsKeptBy (old made : Instructions) (bounds : Bounds) : Type 0 where

@@ -2,12 +2,12 @@
 //! hardened, certified and explained, refusals in words. `bpf_host` exports them under C's names.
 
 ghost use Rattle.std.specs.Prelude.{◌≡◌, ◌==◌, ◌++◌, ◌⊎◌, ◌↔◌, ◌<◌, length, take, drop};
-ghost use Rattle.bpf_insn.specs.Limits.{max_context, frame_bytes};
+ghost use Rattle.bpf_insn.specs.Limits.{max_context};
 ghost use Rattle.bpf_host_calls.specs.Told.{order_named};
 ghost use Rattle.bpf_host_calls.specs.Explained.{IsSomeImage};
 ghost use Rattle.bpf_host_calls.specs.Texts.{refusal_text, answer_text, IsNumbered};
 ghost use Rattle.bpf_host_calls.specs.Proposals.{GivesProposal, WantsRoom, IsNotProposed};
-ghost use Rattle.bpf_host_calls.specs.Hardened.{bounds_asked, GivesHardened, WantsHardenedRoom, IsNotHardened};
+ghost use Rattle.bpf_host_calls.specs.Hardened.{bounds_asked, IsBadHarden, GivesHardened, WantsHardenedRoom, IsNotHardened};
 ghost use Rattle.bpf_host_calls.specs.declared.answers.TheConstants.{YES, NO, NO_MEMORY, BAD_CALL, TOO_SMALL};
 
 use crate::answers::{BAD_CALL, BpfRefusal, NO, NO_MEMORY, order_of};
@@ -92,7 +92,7 @@ pub fn harden(
     ensures given { result ≡ YES → GivesHardened (order_named order) image.now (bounds_asked asked) (asked.unproved == 1) wanted.new text.old text.new }
     ensures small { result ≡ TOO_SMALL → WantsHardenedRoom (order_named order) image.now (bounds_asked asked) (asked.unproved == 1) wanted.new text.old }
     ensures refused { result ≡ NO → IsNotHardened (order_named order) image.now (bounds_asked asked) (asked.unproved == 1) refusal.new }
-    ensures call { (result ≡ BAD_CALL) ↔ ((1 < order) ⊎ ((max_context < asked.size) ⊎ ((1 < asked.padded) ⊎ ((1 < asked.unproved) ⊎ (frame_bytes < asked.untouched))))) }
+    ensures call { (result ≡ BAD_CALL) ↔ IsBadHarden order asked }
     ensures answers { (result ≡ YES) ⊎ (result ≡ NO) ⊎ (result ≡ NO_MEMORY) ⊎ (result ≡ BAD_CALL) ⊎ (result ≡ TOO_SMALL) }
     ensures text_kept { (result ≡ YES) ⊎ (text.new ≡ text.old) }
     ensures wanted_kept { (result ≡ YES) ⊎ (result ≡ TOO_SMALL) ⊎ (wanted.new ≡ wanted.old) }

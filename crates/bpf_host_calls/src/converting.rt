@@ -1,9 +1,9 @@
 //! The call for hosts that makes an image of a filter of classic BPF, on what C hands over. `bpf_host` exports it
 //! under C's name.
 
-ghost use Rattle.std.specs.Prelude.{◌≡◌, ◌⊎◌, ◌↔◌, ◌<◌, false};
+ghost use Rattle.std.specs.Prelude.{◌≡◌, ◌⊎◌, ◌↔◌};
 ghost use Rattle.bpf_host_calls.specs.Told.{order_named};
-ghost use Rattle.bpf_host_calls.specs.Forms.{form_part, form_asked, may_have, wanted_as};
+ghost use Rattle.bpf_host_calls.specs.Forms.{form_asked, wanted_as, IsBadConvert};
 ghost use Rattle.bpf_host_calls.specs.Converted.{GivesConverted, IsNotConverted, WantsConvertedRoom};
 ghost use Rattle.bpf_host_calls.specs.declared.answers.TheConstants.{YES, NO, NO_MEMORY, BAD_CALL, TOO_SMALL};
 
@@ -39,7 +39,7 @@ pub fn convert(
     ensures given { result ≡ YES → GivesConverted (order_named asked.filter_order) filter.now (wanted_as asked) converted.new made.old made.new text.old text.new }
     ensures small { result ≡ TOO_SMALL → WantsConvertedRoom (order_named asked.filter_order) filter.now (wanted_as asked) converted.new made.old text.old }
     ensures refused { result ≡ NO → IsNotConverted (order_named asked.filter_order) filter.now (form_asked asked.form) refusal.new }
-    ensures call { (result ≡ BAD_CALL) ↔ ((1 < asked.filter_order) ⊎ ((1 < asked.order) ⊎ ((3 < form_part asked.form) ⊎ (may_have (form_asked asked.form) asked.size ≡ false)))) }
+    ensures call { (result ≡ BAD_CALL) ↔ IsBadConvert asked }
     ensures answers { (result ≡ YES) ⊎ (result ≡ NO) ⊎ (result ≡ NO_MEMORY) ⊎ (result ≡ BAD_CALL) ⊎ (result ≡ TOO_SMALL) }
     ensures made_kept { (result ≡ YES) ⊎ (made.new ≡ made.old) }
     ensures text_kept { (result ≡ YES) ⊎ (text.new ≡ text.old) }

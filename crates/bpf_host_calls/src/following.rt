@@ -2,7 +2,7 @@
 
 ghost use Rattle.std.specs.Prelude.{◌≡◌, ◌↔◌, ◌⊎◌, ◌<◌, IfOk, IfErr};
 ghost use Rattle.bpf_host_calls.specs.Told.{order_named};
-ghost use Rattle.bpf_host_calls.specs.Followed.{IsFollowed, IsNotFollowed, following_of, long_turns};
+ghost use Rattle.bpf_host_calls.specs.Followed.{IsFollowedAs, IsNotFollowedAs, following_of, long_turns};
 ghost use Rattle.bpf_host_calls.specs.ToldAdvice.{IsTold, TellsNewImage, TellsNotes, TellsText};
 ghost use Rattle.bpf_host_calls.specs.declared.answers.TheConstants.{YES, NO, NO_MEMORY, BAD_CALL};
 
@@ -71,8 +71,8 @@ fn told_of(runs: Bounds, turns: Turns, bound: u32) -> BpfFollowing
 
 /// What the notes and the certificate of the texts show of the images.
 fn followed(alloc: Global, asked: FollowAsked<'_>, order: Order) -> Result<BpfFollowing, Unmade>
-    ensures ok { IfOk result (IsFollowed order asked.entry.old.now asked.entry.new.now asked.entry.notes.now asked.entry.certificate.now) }
-    ensures err { IfErr result (IsTold (IsNotFollowed order asked.entry.old.now asked.entry.new.now asked.entry.notes.now asked.entry.certificate.now)) }
+    ensures ok { IfOk result (IsFollowedAs order asked.entry) }
+    ensures err { IfErr result (IsTold (IsNotFollowedAs order asked.entry)) }
 {
     let old = match ProgramView::of(asked.old, order) {
         Ok(program) => program,
@@ -120,8 +120,8 @@ pub fn follows(
     following: &mut BpfFollowing,
     refusal: &mut BpfRefusal,
 ) -> i32
-    ensures yes { result ≡ YES → IsFollowed (order_named asked.entry.order) asked.entry.old.now asked.entry.new.now asked.entry.notes.now asked.entry.certificate.now following.new }
-    ensures no { result ≡ NO → IsNotFollowed (order_named asked.entry.order) asked.entry.old.now asked.entry.new.now asked.entry.notes.now asked.entry.certificate.now refusal.new }
+    ensures yes { result ≡ YES → IsFollowedAs (order_named asked.entry.order) asked.entry following.new }
+    ensures no { result ≡ NO → IsNotFollowedAs (order_named asked.entry.order) asked.entry refusal.new }
     ensures call { (result ≡ BAD_CALL) ↔ (1 < asked.entry.order) }
     ensures answers { (result ≡ YES) ⊎ (result ≡ NO) ⊎ (result ≡ NO_MEMORY) ⊎ (result ≡ BAD_CALL) }
     ensures following_kept { (result ≡ YES) ⊎ (following.new ≡ following.old) }

@@ -1,11 +1,10 @@
 //! Handles: a verdict's numbers in front of the prepared program that it is about, in memory that the caller gives.
 
-ghost use Rattle.std.specs.Prelude.{◌≡◌, ◌≤◌, ◌+◌, ◌*◌, ◌↔◌, IsTrue, IsSome, IfSome, List, ℕ, length, drop};
+ghost use Rattle.std.specs.Prelude.{◌≡◌, ◌≤◌, ◌+◌, ◌*◌, ◌↔◌, IsTrue, IsSome, IfSome, List, length, drop};
 ghost use Rattle.bpf_insn.specs.Limits.{max_slots};
 ghost use Rattle.bpf_insn.specs.Laws.{IsImageOfProgram};
-ghost use Rattle.bpf_insn.specs.declared.order.Order.{Order as ByteOrderOf};
 ghost use Rattle.bpf_insn.specs.declared.instruction.Insn.{Insn as Instruction};
-ghost use Rattle.bpf_host_calls.specs.Prepared.{AreOpcodesOf, IsPrepared, prepared_head};
+ghost use Rattle.bpf_host_calls.specs.Prepared.{IsFoundIn, prepared_head};
 ghost use Rattle.bpf_host_calls.specs.Loaded.{handle_head, handle_length, IsLoaded, IsMarkedHandle, IsWholeHandle, HasRange, loaded_least, loaded_most};
 
 use crate::answers::BpfVerdict;
@@ -64,7 +63,7 @@ pub(crate) fn takes(memory: &[u8], len: usize) -> bool
 /// What stands prepared in a handle; None where another version wrote it, or words of it aren't there.
 pub(crate) fn found_loaded(memory: &[u8]) -> Option<OrderedImage<'_>>
     requires { handle_head ≤ length memory.now }
-    ensures found { IfSome result (λ f. (order : ByteOrderOf) (image : List ℕ) → IsPrepared order image (drop 24 memory.now) → (f.image.now ≡ image) × (f.order ≡ order) × AreOpcodesOf order image f.opcodes.now) }
+    ensures found { IfSome result (IsFoundIn (drop 24 memory.now)) }
     ensures known { IsSome result ↔ (IsMarkedHandle memory.now × IsWholeHandle memory.now) }
 {
     found_in(&memory[RANGE..])
