@@ -1,5 +1,5 @@
-//! What the checker sees, in words: the listing of a program with what is known at each instruction, why an input is refused, and what
-//! hardening makes of a program. A function that writes that a program is accepted requires that the certificate certifies it.
+//! Diagnostics in words: why an input is refused or a search finds nothing, the listing of a program with what the checker knows at each
+//! instruction, and what hardening makes of a program. A function that writes that a program is accepted requires that the certificate certifies it.
 #![tactic(auto)]
 
 mod certificate;

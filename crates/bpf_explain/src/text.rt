@@ -1,4 +1,4 @@
-//! Why a text is no program, in words.
+//! Diagnostics of the assembler: why a text is no program, with the line, the column and the word at fault, and how the line may go on there.
 
 use crate::texts::{Excerpt, parted};
 use bpf_insn::{BuildError, Code};

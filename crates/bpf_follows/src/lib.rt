@@ -1,6 +1,6 @@
-//! Semantic preservation by notes beside a certificate of the new program. The text of notes says of which runs they speak, and what is
-//! noted of each slot. A pass over the new program holds them to what the certificate's check knows in front of each instruction. A run
-//! may end at a trap, an EXIT that stands for none of the old program's.
+//! Translation validation (Pnueli and others, Translation validation, 1998): one pass over a new program, with its notes and its certificate, checks
+//! that it keeps the meaning of an old one. The crate also reads and writes the text of notes, and tells whether a run ended at a trap, an EXIT that
+//! stands for none of the old program's.
 #![tactic(auto)]
 
 mod digits;

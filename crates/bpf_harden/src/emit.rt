@@ -1,4 +1,5 @@
-//! The text of a program under a plan: templates in place of old instructions, in one pass over these.
+//! Code generation from a plan (`plan.rt`): one pass over the old instructions puts a template in the place of each, with its guard and its counter
+//! of turns, and so writes the new program.
 
 use crate::access::AccessSite;
 use crate::draft::Draft;

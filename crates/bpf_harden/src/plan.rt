@@ -1,5 +1,5 @@
-//! The plan: what is done at each old instruction and in each function. It begins empty, mends of `bpf_harden` add to it,
-//! and `emit` writes the text that it asks for.
+//! The plan of a rewriting: what hardening changes at each old instruction, by a guard, a counter of turns or a wider operation, and in each
+//! function. It begins empty, the rounds and mends of this crate add to it, and `emit.rt` writes the program that it asks for.
 
 use crate::kinds::RegisterKind;
 use crate::old::Old;

@@ -1,5 +1,5 @@
-//! The checker, the machine and the inferrer for hosts in C and in Rust. `include/bpf.h` declares these calls, and hands
-//! over no pointer that is null. Each is one call of `bpf_host_calls`, and promises what that one does.
+//! The library's interface for hosts in C and in Rust: the calls that `include/bpf.h` declares, which hands over no pointer that is null. Each is one
+//! call of `bpf_host_calls`, and promises what that one does.
 #![tactic(auto)]
 
 ghost use Rattle.std.specs.Prelude.{◌≡◌, ◌≢◌, ◌==◌, ◌++◌, ◌⊎◌, ◌↔◌, ◌<◌, ◌≤◌, ◌+◌, ◌*◌, ◌%◌, List, length, take, drop};

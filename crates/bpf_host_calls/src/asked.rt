@@ -1,4 +1,4 @@
-//! What is asked of the call, in numbers as C hands them over.
+//! The struct of numbers by which C asks for the image of a filter: byte orders, and the form and the size of contexts.
 
 /// Which image is to be made of a filter, and how the filter's bytes are read, as C hands it over.
 #[repr(C)]

@@ -1,4 +1,5 @@
-//! A draft: the functions of a program with what is known at their labels; and what calls of them cost.
+//! Drafts: the functions of a program with the states at their labels, for which the deep search seeks budgets; and what a call of a function
+//! costs, the budget at its entry.
 
 use bpf_cert::{Function, MAX_TERMS};
 use bpf_infer_base::{Blocks, LinearTerm, NumberSpan, Task};

@@ -1,4 +1,5 @@
-//! Proposals as certificates.
+//! The entry points of the inferrer: the plain search for a certificate, or the better answer of it and the deep one. Each ends with a
+//! certificate, or with a refusal, I1 to I5, and its slot.
 
 ghost use Rattle.std.specs.Prelude.{◌≡◌, ◌<◌, ◌≤◌, IfOk, IfErr};
 ghost use Rattle.bpf_insn.specs.Instruction.{slots};

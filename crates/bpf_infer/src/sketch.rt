@@ -1,4 +1,5 @@
-//! What the inferrer has when it stops, for who explains it.
+//! Diagnosis where no certificate is found: the states at a program's labels, from one more run of the plain search's rounds, and what was in its
+//! way, as a loop without a counter.
 
 ghost use Rattle.std.specs.Prelude.{◌≤◌};
 ghost use Rattle.bpf_insn.specs.Limits.{max_context};

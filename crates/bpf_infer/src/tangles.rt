@@ -1,4 +1,5 @@
-//! Ways back that cross: a loop in a loop, or a way back into the middle of one.
+//! Diagnosis of loops that overlap, which the plain search doesn't count: whether a loop that begins in another one is nested there, or leads back
+//! into its middle, or the other one is no loop.
 
 use crate::loops::LoopBlocks;
 use crate::rounds::Rounds;

@@ -1,4 +1,5 @@
-//! Pointers that a loop moves.
+//! Diagnosis of accesses out of bounds by an induction variable: a pointer that the loop around the access moves by constants, and doesn't change
+//! otherwise.
 
 use crate::loops::{LoopBlocks, loop_from};
 use crate::rounds::Rounds;

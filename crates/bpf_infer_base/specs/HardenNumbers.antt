@@ -1,4 +1,4 @@
--- The numbers of refusals, what is told of them, and the slots that they name.
+-- Why a program isn't hardened, H1 to H12: the number of each refusal, what is told of it, and the slot that it names.
 use Rattle.std.specs.Prelude.{ℕ, ◌-◌, min, List, [], ◌∷◌, codes}
 use Rattle.bpf_infer_base.specs.declared.harden_error.HardenError.{HardenError}
 use Rattle.bpf_infer_base.specs.declared.harden_error.HardenError.TheVariants.{FramePointer, MixedKinds, FullFrame, TooLong, Recursion, FiveArguments, Fault, NoBudget, FarJump, Unstable, ShortBlock, Memory}

@@ -1,4 +1,4 @@
--- The numbers of refusals, what is told of them, and the slots that they name.
+-- Why no certificate is proposed, I1 to I5: the number of each refusal, what is told of it, and the slot that it names.
 use Rattle.std.specs.Prelude.{ℕ, ◌-◌, min, List, [], ◌∷◌, codes}
 use Rattle.bpf_state.specs.declared.condition.Condition.{Condition as CheckerCondition}
 use Rattle.bpf_state.specs.declared.condition.Condition.TheVariants.{State as OfState, FallsOff as PassesEnd, LeavesFunction as IsLeft}
