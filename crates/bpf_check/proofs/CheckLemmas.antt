@@ -17,8 +17,9 @@ use Rattle.bpf_safety.specs.Work.{transfers, comparisons, transferred_at, compar
 use Rattle.bpf_safety.specs.Theorems.{CertifiedWork, ComparisonsAreFew}
 use Rattle.bpf_check.specs.code.Least.{IsLeastIn}
 use Rattle.bpf_check.specs.CheckedProgram.{work_of}
-use Rattle.bpf_check.specs.code.Counting.{counted_times, compared, if_faultless, worked_at, worked_through}
-use Rattle.bpf_check.proofs.PassLemmas.{flaws_of, one_slot}
+use Rattle.bpf_check.specs.code.Counting.{counted_times, compared, if_faultless, worked_at, worked_through, worked_in_pass}
+use Rattle.bpf_check.specs.code.Visits.{visit_flaws}
+use Rattle.bpf_check.proofs.PassLemmas.{one_slot}
 use Rattle.bpf_check.proofs.CountLemmas.{times_more, counts_all}
 
 pub least_is_flaw : (p : Instructions) (c : CertificateView) (slot number : ℕ) → IsLeastIn (flaws p c) (Some (slot, number)) → IsLeastFlaw p c slot number
@@ -40,20 +41,20 @@ worked_by p c vs work = record {
   comparisons = counted_times (sum_by (compared_at p c) vs) work.comparisons;
 }
 
-faultless_work : (p : Instructions) (c : CertificateView) (vs : List Visit) (work : Counts) → ((a : ℕ × ℕ) → Contains (flat_map (flaws_of p c) vs) a → ⊥) → worked_through p c vs work ≡ worked_by p c vs work
+faultless_work : (p : Instructions) (c : CertificateView) (vs : List Visit) (work : Counts) → ((a : ℕ × ℕ) → Contains (flat_map (visit_flaws p c) vs) a → ⊥) → worked_through p c vs work ≡ worked_by p c vs work
 faultless_work p c [] work none = refl
 faultless_work p c (v ∷ vs) work none =
-    let empty : numbers_of_visit p c v ≡ [] = no_number v.slot (numbers_of_visit p c v) (λ a m. none a (Contains-append_left (flaws_of p c v) (flat_map (flaws_of p c) vs) a m)) in
-    let later = faultless_work p c vs (worked_at p c v work) (λ a m. none a (Contains-append_right (flaws_of p c v) (flat_map (flaws_of p c) vs) a m)) in
+    let empty : numbers_of_visit p c v ≡ [] = no_number v.slot (numbers_of_visit p c v) (λ a m. none a (Contains-append_left (visit_flaws p c v) (flat_map (visit_flaws p c) vs) a m)) in
+    let later = faultless_work p c vs (worked_at p c v work) (λ a m. none a (Contains-append_right (visit_flaws p c v) (flat_map (visit_flaws p c) vs) a m)) in
     let transferred : counted_times (sum_by transferred_at vs) (counted_times (transferred_at v) work.transfers) ≡ counted_times (sum_by transferred_at (v ∷ vs)) work.transfers = times_more (transferred_at v) (sum_by transferred_at vs) work.transfers ∙ ap (λ k. counted_times k work.transfers) (sym (sum_by-cons transferred_at v vs)) in
     let are_compared : counted_times (sum_by (compared_at p c) vs) (counted_times (compared_at p c v) work.comparisons) ≡ counted_times (sum_by (compared_at p c) (v ∷ vs)) work.comparisons = times_more (compared_at p c v) (sum_by (compared_at p c) vs) work.comparisons ∙ ap (λ k. counted_times k work.comparisons) (sym (sum_by-cons (compared_at p c) v vs)) in
     ap (λ ns. if_faultless ns (worked_through p c vs (worked_at p c v work)) (worked_at p c v work)) empty
     ∙ later
     ∙ ap₂ (λ m n. record { transfers = m; comparisons = n }) transferred are_compared
 
-pub visits_faultless : (p : Instructions) (c : CertificateView) → Certified p c → (a : ℕ × ℕ) → Contains (flat_map (flaws_of p c) (visits p c)) a → ⊥
+pub visits_faultless : (p : Instructions) (c : CertificateView) → Certified p c → (a : ℕ × ℕ) → Contains (flat_map (visit_flaws p c) (visits p c)) a → ⊥
 visits_faultless p c certified a m =
-    certified a.0 a.1 (Contains-append_left (of_start ++ flat_map (flaws_of p c) (visits p c)) (flat_map (function_flaws p c) c.functions) a (Contains-append_right of_start (flat_map (flaws_of p c) (visits p c)) a m))
+    certified a.0 a.1 (Contains-append_left (of_start ++ flat_map (visit_flaws p c) (visits p c)) (flat_map (function_flaws p c) c.functions) a (Contains-append_right of_start (flat_map (visit_flaws p c) (visits p c)) a m))
   where
     of_start : List (ℕ × ℕ)
     of_start = at 0 (number_if 13 (begins_wrongly c) ++ number_if 9 (starts_over_budget c))
@@ -71,7 +72,7 @@ few_instructions (i ∷ is) =
     let sum = slots_of_next i is in
     omega arith
 
-pub check_work : CertifiedWork → ComparisonsAreFew → (p : Instructions) (c : CertificateView) → IsProgram p.list → IsCertificate c → Certified p c → ((a : ℕ × ℕ) → Contains (flat_map (flaws_of p c) (visits p c)) a → ⊥) → (new started done : Counts) → new ≡ no_work → started ≡ compared (compared_at_start c) new → done ≡ worked_through p c (visits p c) started → done ≡ work_of p c
+pub check_work : CertifiedWork → ComparisonsAreFew → (p : Instructions) (c : CertificateView) → IsProgram p.list → IsCertificate c → Certified p c → ((a : ℕ × ℕ) → Contains (flat_map (visit_flaws p c) (visits p c)) a → ⊥) → (new started done : Counts) → new ≡ no_work → started ≡ compared (compared_at_start c) new → done ≡ worked_in_pass p c started → done ≡ work_of p c
 check_work work few p c program certificate certified none new started done e1 e2 e3 =
     let w = work p c certificate certified in
     let begins : started ≡ compared (compared_at_start c) no_work = e2 ∙ ap (compared (compared_at_start c)) e1 in
@@ -80,5 +81,5 @@ check_work work few p c program certificate certified none new started done e1 e
     let few_moves : transfers p ≤ 2 ^ 32 - 1 = omega arith in
     let moved : counted_times (sum_by transferred_at (visits p c)) 0 ≡ transfers p = ap (λ k. counted_times k 0) w.transferred ∙ counts_all (transfers p) few_moves in
     let are_compared : counted_times (sum_by (compared_at p c) (visits p c)) (counted_times (compared_at_start c) 0) ≡ comparisons p c = times_more (compared_at_start c) (sum_by (compared_at p c) (visits p c)) 0 ∙ ap (λ k. counted_times k 0) w.compared ∙ counts_all (comparisons p c) small in
-    e3 ∙ ap (worked_through p c (visits p c)) begins ∙ faultless_work p c (visits p c) (compared (compared_at_start c) no_work) none
+    e3 ∙ ap (worked_in_pass p c) begins ∙ faultless_work p c (visits p c) (compared (compared_at_start c) no_work) none
     ∙ ap₂ (λ m n. record { transfers = m; comparisons = n }) moved are_compared

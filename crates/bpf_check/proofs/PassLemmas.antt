@@ -8,22 +8,19 @@ use Rattle.bpf_insn.specs.declared.instruction.Insn.{Insn}
 use Rattle.bpf_insn.specs.declared.instruction.Insn.TheVariants.{Alu, Neg, MovSx, End, LoadImm64, Load, LoadSx, Store, StoreImm, Atomic, Ja, JaLong, JumpIf, CallLocal, Exit}
 use Rattle.bpf_insn.specs.Instruction.{Instructions, slots, slots_of, slot_count, layout, insn_at}
 use Rattle.bpf_cert.specs.View.{CertificateView}
-use Rattle.bpf_safety.specs.Flow.{Arrival, Visit, visits, visits_from, arrives}
+use Rattle.bpf_safety.specs.Flow.{Arrival, visits, visits_from}
 use Rattle.bpf_safety.specs.Flaw.{at, numbers_of_visit}
 use Rattle.std.proofs.lemmas.Grind.{flat_map-append}
 use Rattle.std.proofs.lemmas.List.{append-nil}
 use Rattle.bpf_check.specs.code.Least.{IsLeastIn}
-use Rattle.bpf_check.specs.code.Visits.{passed_with, visit_of}
-use Rattle.bpf_check.specs.code.Counting.{if_faultless, worked_at, worked_through}
+use Rattle.bpf_check.specs.code.Visits.{passed_after, visit_of, visit_flaws}
+use Rattle.bpf_check.specs.code.Counting.{if_faultless, worked_at, worked_through, worked_in_pass}
 use Rattle.bpf_state.specs.Work.{Counts}
 use Rattle.bpf_check.proofs.LeastLemmas.{least_right}
 
-abbrev pub flaws_of : Instructions → CertificateView → Visit → List (ℕ × ℕ)
-flaws_of p c v = at v.slot (numbers_of_visit p c v)
-
 -- the flaws of the visits that are still to come
 abbrev pub flaws_from : Instructions → CertificateView → ℕ → Option Arrival → List Insn → List (ℕ × ℕ)
-flaws_from p c slot o is = flat_map (flaws_of p c) (visits_from p c slot o is)
+flaws_from p c slot o is = flat_map (visit_flaws p c) (visits_from p c slot o is)
 
 at_slot : (slot : ℕ) (ns : List ℕ) (a : ℕ × ℕ) (k : ℕ) → k < length (at slot ns) → get_or (at slot ns) k a ≡ a → a.0 ≡ slot
 at_slot slot [] a k h e = absurd (omega arith)
@@ -40,8 +37,8 @@ from_slot : (p : Instructions) (c : CertificateView) (slot : ℕ) (o : Option Ar
 from_slot p c slot o [] a m = absurd (none_in_nil a m)
 from_slot p c slot o (i ∷ is) a m =
     ⊎_elim (λ l. let e = slot_of_flaw slot (numbers_of_visit p c (visit_of c slot i o)) a l in omega arith)
-    (λ r. let h = from_slot p c (slot + slot_count i) (passed_with p c slot i (arrives c slot o)) is a r in omega arith)
-    (Contains-append_cases (flaws_of p c (visit_of c slot i o)) (flaws_from p c (slot + slot_count i) (passed_with p c slot i (arrives c slot o)) is) a m)
+    (λ r. let h = from_slot p c (slot + slot_count i) (passed_after p c slot i o) is a r in omega arith)
+    (Contains-append_cases (visit_flaws p c (visit_of c slot i o)) (flaws_from p c (slot + slot_count i) (passed_after p c slot i o) is) a m)
 
 pub one_slot : (i : Insn) → 1 ≤ slot_count i
 one_slot (Alu op width dst src) = lit≤ tt
@@ -61,16 +58,16 @@ one_slot (CallLocal off) = lit≤ tt
 one_slot Exit = lit≤ tt
 
 -- the least flaw of an instruction is the least from there on
-least_first : (p : Instructions) (c : CertificateView) (slot : ℕ) (o : Option Arrival) (i : Insn) (is : List Insn) (a : ℕ × ℕ) → IsLeastIn (flaws_of p c (visit_of c slot i o)) (Some a) → IsLeastIn (flaws_from p c slot o (i ∷ is)) (Some a)
+least_first : (p : Instructions) (c : CertificateView) (slot : ℕ) (o : Option Arrival) (i : Insn) (is : List Insn) (a : ℕ × ℕ) → IsLeastIn (visit_flaws p c (visit_of c slot i o)) (Some a) → IsLeastIn (flaws_from p c slot o (i ∷ is)) (Some a)
 least_first p c slot o i is a h = (
-  Contains-append_left (flaws_of p c (visit_of c slot i o)) (flaws_from p c (slot + slot_count i) (passed_with p c slot i (arrives c slot o)) is) a h.0,
-  λ b m. ⊎_elim (λ l. h.1 b l) (λ r. inl (later b r)) (Contains-append_cases (flaws_of p c (visit_of c slot i o)) (flaws_from p c (slot + slot_count i) (passed_with p c slot i (arrives c slot o)) is) b m),
+  Contains-append_left (visit_flaws p c (visit_of c slot i o)) (flaws_from p c (slot + slot_count i) (passed_after p c slot i o) is) a h.0,
+  λ b m. ⊎_elim (λ l. h.1 b l) (λ r. inl (later b r)) (Contains-append_cases (visit_flaws p c (visit_of c slot i o)) (flaws_from p c (slot + slot_count i) (passed_after p c slot i o) is) b m),
 )
   where
-    later : (b : ℕ × ℕ) → Contains (flaws_from p c (slot + slot_count i) (passed_with p c slot i (arrives c slot o)) is) b → a.0 < b.0
+    later : (b : ℕ × ℕ) → Contains (flaws_from p c (slot + slot_count i) (passed_after p c slot i o) is) b → a.0 < b.0
     later b m =
         let e = slot_of_flaw slot (numbers_of_visit p c (visit_of c slot i o)) a h.0 in
-        let f = from_slot p c (slot + slot_count i) (passed_with p c slot i (arrives c slot o)) is b m in
+        let f = from_slot p c (slot + slot_count i) (passed_after p c slot i o) is b m in
         let one = one_slot i in
         omega arith
 
@@ -116,12 +113,12 @@ some_number slot (n ∷ ns) a onward here h = refl
 abbrev worked_from : Instructions → CertificateView → ℕ → Option Arrival → List Insn → Counts → Counts
 worked_from p c slot o is work = worked_through p c (visits_from p c slot o is) work
 
-goes_on : (p : Instructions) (c : CertificateView) (slot : ℕ) (o : Option Arrival) (i : Insn) (is : List Insn) (work : Counts) → IsLeastIn (flaws_of p c (visit_of c slot i o)) None → worked_from p c slot o (i ∷ is) work ≡ worked_from p c (slot + slot_count i) (passed_with p c slot i (arrives c slot o)) is (worked_at p c (visit_of c slot i o) work)
+goes_on : (p : Instructions) (c : CertificateView) (slot : ℕ) (o : Option Arrival) (i : Insn) (is : List Insn) (work : Counts) → IsLeastIn (visit_flaws p c (visit_of c slot i o)) None → worked_from p c slot o (i ∷ is) work ≡ worked_from p c (slot + slot_count i) (passed_after p c slot i o) is (worked_at p c (visit_of c slot i o) work)
 goes_on p c slot o i is work none =
-    ap (λ ns. if_faultless ns (worked_from p c (slot + slot_count i) (passed_with p c slot i (arrives c slot o)) is (worked_at p c (visit_of c slot i o) work)) (worked_at p c (visit_of c slot i o) work)) (no_numbers slot (numbers_of_visit p c (visit_of c slot i o)) none)
+    ap (λ ns. if_faultless ns (worked_from p c (slot + slot_count i) (passed_after p c slot i o) is (worked_at p c (visit_of c slot i o) work)) (worked_at p c (visit_of c slot i o) work)) (no_numbers slot (numbers_of_visit p c (visit_of c slot i o)) none)
 
-stops : (p : Instructions) (c : CertificateView) (slot : ℕ) (o : Option Arrival) (i : Insn) (is : List Insn) (work : Counts) (a : ℕ × ℕ) → IsLeastIn (flaws_of p c (visit_of c slot i o)) (Some a) → worked_from p c slot o (i ∷ is) work ≡ worked_at p c (visit_of c slot i o) work
-stops p c slot o i is work a h = some_number slot (numbers_of_visit p c (visit_of c slot i o)) a (worked_from p c (slot + slot_count i) (passed_with p c slot i (arrives c slot o)) is (worked_at p c (visit_of c slot i o) work)) (worked_at p c (visit_of c slot i o) work) h
+stops : (p : Instructions) (c : CertificateView) (slot : ℕ) (o : Option Arrival) (i : Insn) (is : List Insn) (work : Counts) (a : ℕ × ℕ) → IsLeastIn (visit_flaws p c (visit_of c slot i o)) (Some a) → worked_from p c slot o (i ∷ is) work ≡ worked_at p c (visit_of c slot i o) work
+stops p c slot o i is work a h = some_number slot (numbers_of_visit p c (visit_of c slot i o)) a (worked_from p c (slot + slot_count i) (passed_after p c slot i o) is (worked_at p c (visit_of c slot i o) work)) (worked_at p c (visit_of c slot i o) work) h
 
 -- ---- the pass at a slot: what was done, what is still to be visited, and that all flaws are there, and all work
 
@@ -130,8 +127,8 @@ pub record IsAt (p : Instructions) (c : CertificateView) (first : Counts) (slot 
   pub rest : List Insn
   pub split : p.list ≡ done ++ rest
   pub here : slot ≡ slots done
-  pub flaws : (r : Option (ℕ × ℕ)) → IsLeastIn (flaws_from p c slot o rest) r → IsLeastIn (flat_map (flaws_of p c) (visits p c)) r
-  pub worked : worked_through p c (visits p c) first ≡ worked_from p c slot o rest work
+  pub flaws : (r : Option (ℕ × ℕ)) → IsLeastIn (flaws_from p c slot o rest) r → IsLeastIn (flat_map (visit_flaws p c) (visits p c)) r
+  pub worked : worked_in_pass p c first ≡ worked_from p c slot o rest work
 
 pub at_start : (p : Instructions) (c : CertificateView) (first : Counts) → IsAt p c first 0 None first
 at_start p c first = record { done = []; rest = p.list; split = refl; here = refl; flaws = λ r h. h; worked = refl }
@@ -140,9 +137,9 @@ stands : (p : Instructions) (c : CertificateView) (first : Counts) (slot : ℕ) 
 stands p c first slot o work w = ap (λ l. insn_at l slot) w.split ∙ ap (insn_at (w.done ++ w.rest)) w.here ∙ insn_after w.done w.rest
 
 abbrev with_rest : (p : Instructions) (c : CertificateView) (slot : ℕ) (o : Option Arrival) → List Insn → Type 0
-with_rest p c slot o rest = (r : Option (ℕ × ℕ)) → IsLeastIn (flaws_from p c slot o rest) r → IsLeastIn (flat_map (flaws_of p c) (visits p c)) r
+with_rest p c slot o rest = (r : Option (ℕ × ℕ)) → IsLeastIn (flaws_from p c slot o rest) r → IsLeastIn (flat_map (visit_flaws p c) (visits p c)) r
 
-step_rest : (p : Instructions) (c : CertificateView) (first : Counts) (slot : ℕ) (o o' : Option Arrival) (work work' : Counts) (i : Insn) (done rest : List Insn) → Some i ≡ get_or (layout rest) 0 None → p.list ≡ done ++ rest → slot ≡ slots done → with_rest p c slot o rest → worked_through p c (visits p c) first ≡ worked_from p c slot o rest work → IsLeastIn (flaws_of p c (visit_of c slot i o)) None → o' ≡ passed_with p c slot i (arrives c slot o) → work' ≡ worked_at p c (visit_of c slot i o) work → IsAt p c first (slot + slot_count i) o' work'
+step_rest : (p : Instructions) (c : CertificateView) (first : Counts) (slot : ℕ) (o o' : Option Arrival) (work work' : Counts) (i : Insn) (done rest : List Insn) → Some i ≡ get_or (layout rest) 0 None → p.list ≡ done ++ rest → slot ≡ slots done → with_rest p c slot o rest → worked_in_pass p c first ≡ worked_from p c slot o rest work → IsLeastIn (visit_flaws p c (visit_of c slot i o)) None → o' ≡ passed_after p c slot i o → work' ≡ worked_at p c (visit_of c slot i o) work → IsAt p c first (slot + slot_count i) o' work'
 step_rest p c first slot o o' work work' i done [] stand split here flaws worked none passes counts = absurd (none-some i (sym stand))
 step_rest p c first slot o o' work work' i done (j ∷ js) stand split here flaws worked none passes counts =
     let same : i ≡ j = same_Some i j (stand ∙ first_insn j js) in
@@ -151,45 +148,45 @@ step_rest p c first slot o o' work work' i done (j ∷ js) stand split here flaw
       rest = js;
       split = split ∙ ap (λ k. done ++ k ∷ js) (sym same) ∙ sym (append_assoc done (i ∷ []) js);
       here = ap (λ n. n + slot_count i) here ∙ sym (slots_after done i);
-      flaws = λ r h. flaws r (subst (λ k. IsLeastIn (flaws_from p c slot o (k ∷ js)) r) same (least_right (flaws_of p c (visit_of c slot i o)) (flaws_from p c (slot + slot_count i) (passed_with p c slot i (arrives c slot o)) js) r none (subst (λ q. IsLeastIn (flaws_from p c (slot + slot_count i) q js) r) passes h)));
+      flaws = λ r h. flaws r (subst (λ k. IsLeastIn (flaws_from p c slot o (k ∷ js)) r) same (least_right (visit_flaws p c (visit_of c slot i o)) (flaws_from p c (slot + slot_count i) (passed_after p c slot i o) js) r none (subst (λ q. IsLeastIn (flaws_from p c (slot + slot_count i) q js) r) passes h)));
       worked = worked ∙ ap (λ k. worked_from p c slot o (k ∷ js) work) (sym same) ∙ goes_on p c slot o i js work none ∙ ap (λ q. worked_from p c (slot + slot_count i) q js (worked_at p c (visit_of c slot i o) work)) (sym passes) ∙ ap (worked_from p c (slot + slot_count i) o' js) (sym counts);
     }
 
-pub at_next : (p : Instructions) (c : CertificateView) (first : Counts) (slot : ℕ) (o o' : Option Arrival) (work work' : Counts) (i : Insn) → IsAt p c first slot o work → Some i ≡ insn_at p.list slot → IsLeastIn (flaws_of p c (visit_of c slot i o)) None → o' ≡ passed_with p c slot i (arrives c slot o) → work' ≡ worked_at p c (visit_of c slot i o) work → IsAt p c first (slot + slot_count i) o' work'
+pub at_next : (p : Instructions) (c : CertificateView) (first : Counts) (slot : ℕ) (o o' : Option Arrival) (work work' : Counts) (i : Insn) → IsAt p c first slot o work → Some i ≡ insn_at p.list slot → IsLeastIn (visit_flaws p c (visit_of c slot i o)) None → o' ≡ passed_after p c slot i o → work' ≡ worked_at p c (visit_of c slot i o) work → IsAt p c first (slot + slot_count i) o' work'
 at_next p c first slot o o' work work' i w stand none passes counts = step_rest p c first slot o o' work work' i w.done w.rest (stand ∙ stands p c first slot o work w) w.split w.here w.flaws w.worked none passes counts
 
 -- ---- a flaw is found
 
-stop_rest : (p : Instructions) (c : CertificateView) (slot : ℕ) (o : Option Arrival) (i : Insn) (rest : List Insn) (a : ℕ × ℕ) → Some i ≡ get_or (layout rest) 0 None → with_rest p c slot o rest → IsLeastIn (flaws_of p c (visit_of c slot i o)) (Some a) → IsLeastIn (flat_map (flaws_of p c) (visits p c)) (Some a)
+stop_rest : (p : Instructions) (c : CertificateView) (slot : ℕ) (o : Option Arrival) (i : Insn) (rest : List Insn) (a : ℕ × ℕ) → Some i ≡ get_or (layout rest) 0 None → with_rest p c slot o rest → IsLeastIn (visit_flaws p c (visit_of c slot i o)) (Some a) → IsLeastIn (flat_map (visit_flaws p c) (visits p c)) (Some a)
 stop_rest p c slot o i [] a stand flaws h = absurd (none-some i (sym stand))
 stop_rest p c slot o i (j ∷ js) a stand flaws h =
     let same : i ≡ j = same_Some i j (stand ∙ first_insn j js) in
     flaws (Some a) (subst (λ k. IsLeastIn (flaws_from p c slot o (k ∷ js)) (Some a)) same (least_first p c slot o i js a h))
 
-pub at_flaw : (p : Instructions) (c : CertificateView) (first : Counts) (slot : ℕ) (o : Option Arrival) (work : Counts) (i : Insn) (a : ℕ × ℕ) → IsAt p c first slot o work → Some i ≡ insn_at p.list slot → IsLeastIn (flaws_of p c (visit_of c slot i o)) (Some a) → IsLeastIn (flat_map (flaws_of p c) (visits p c)) (Some a)
+pub at_flaw : (p : Instructions) (c : CertificateView) (first : Counts) (slot : ℕ) (o : Option Arrival) (work : Counts) (i : Insn) (a : ℕ × ℕ) → IsAt p c first slot o work → Some i ≡ insn_at p.list slot → IsLeastIn (visit_flaws p c (visit_of c slot i o)) (Some a) → IsLeastIn (flat_map (visit_flaws p c) (visits p c)) (Some a)
 at_flaw p c first slot o work i a w stand h = stop_rest p c slot o i w.rest a (stand ∙ stands p c first slot o work w) w.flaws h
 
-stop_work : (p : Instructions) (c : CertificateView) (slot : ℕ) (o : Option Arrival) (work : Counts) (i : Insn) (rest : List Insn) (a : ℕ × ℕ) → Some i ≡ get_or (layout rest) 0 None → IsLeastIn (flaws_of p c (visit_of c slot i o)) (Some a) → worked_from p c slot o rest work ≡ worked_at p c (visit_of c slot i o) work
+stop_work : (p : Instructions) (c : CertificateView) (slot : ℕ) (o : Option Arrival) (work : Counts) (i : Insn) (rest : List Insn) (a : ℕ × ℕ) → Some i ≡ get_or (layout rest) 0 None → IsLeastIn (visit_flaws p c (visit_of c slot i o)) (Some a) → worked_from p c slot o rest work ≡ worked_at p c (visit_of c slot i o) work
 stop_work p c slot o work i [] a stand h = absurd (none-some i (sym stand))
 stop_work p c slot o work i (j ∷ js) a stand h = ap (λ k. worked_from p c slot o (k ∷ js) work) (sym (same_Some i j (stand ∙ first_insn j js))) ∙ stops p c slot o i js work a h
 
-pub work_at_flaw : (p : Instructions) (c : CertificateView) (first : Counts) (slot : ℕ) (o : Option Arrival) (work work' : Counts) (i : Insn) (a : ℕ × ℕ) → IsAt p c first slot o work → Some i ≡ insn_at p.list slot → IsLeastIn (flaws_of p c (visit_of c slot i o)) (Some a) → work' ≡ worked_at p c (visit_of c slot i o) work → work' ≡ worked_through p c (visits p c) first
+pub work_at_flaw : (p : Instructions) (c : CertificateView) (first : Counts) (slot : ℕ) (o : Option Arrival) (work work' : Counts) (i : Insn) (a : ℕ × ℕ) → IsAt p c first slot o work → Some i ≡ insn_at p.list slot → IsLeastIn (visit_flaws p c (visit_of c slot i o)) (Some a) → work' ≡ worked_at p c (visit_of c slot i o) work → work' ≡ worked_in_pass p c first
 work_at_flaw p c first slot o work work' i a w stand h counts = counts ∙ sym (w.worked ∙ stop_work p c slot o work i w.rest a (stand ∙ stands p c first slot o work w) h)
 
 -- ---- the end
 
-end_rest : (p : Instructions) (c : CertificateView) (slot : ℕ) (o : Option Arrival) (rest : List Insn) → None ≡ get_or (layout rest) 0 None → with_rest p c slot o rest → IsLeastIn (flat_map (flaws_of p c) (visits p c)) None
+end_rest : (p : Instructions) (c : CertificateView) (slot : ℕ) (o : Option Arrival) (rest : List Insn) → None ≡ get_or (layout rest) 0 None → with_rest p c slot o rest → IsLeastIn (flat_map (visit_flaws p c) (visits p c)) None
 end_rest p c slot o [] stand flaws = flaws None (λ a m. none_in_nil a m)
 end_rest p c slot o (j ∷ js) stand flaws = absurd (none-some j (stand ∙ first_insn j js))
 
-pub at_last : (p : Instructions) (c : CertificateView) (first : Counts) (slot : ℕ) (o : Option Arrival) (work : Counts) → IsAt p c first slot o work → None ≡ insn_at p.list slot → IsLeastIn (flat_map (flaws_of p c) (visits p c)) None
+pub at_last : (p : Instructions) (c : CertificateView) (first : Counts) (slot : ℕ) (o : Option Arrival) (work : Counts) → IsAt p c first slot o work → None ≡ insn_at p.list slot → IsLeastIn (flat_map (visit_flaws p c) (visits p c)) None
 at_last p c first slot o work w stand = end_rest p c slot o w.rest (stand ∙ stands p c first slot o work w) w.flaws
 
 end_work : (p : Instructions) (c : CertificateView) (slot : ℕ) (o : Option Arrival) (work : Counts) (rest : List Insn) → None ≡ get_or (layout rest) 0 None → worked_from p c slot o rest work ≡ work
 end_work p c slot o work [] stand = refl
 end_work p c slot o work (j ∷ js) stand = absurd (none-some j (stand ∙ first_insn j js))
 
-pub work_at_last : (p : Instructions) (c : CertificateView) (first : Counts) (slot : ℕ) (o : Option Arrival) (work : Counts) → IsAt p c first slot o work → None ≡ insn_at p.list slot → work ≡ worked_through p c (visits p c) first
+pub work_at_last : (p : Instructions) (c : CertificateView) (first : Counts) (slot : ℕ) (o : Option Arrival) (work : Counts) → IsAt p c first slot o work → None ≡ insn_at p.list slot → work ≡ worked_in_pass p c first
 work_at_last p c first slot o work w stand = sym (w.worked ∙ end_work p c slot o work w.rest (stand ∙ stands p c first slot o work w))
 
 -- what holds of a certificate, a slot and an instruction holds of those that they are

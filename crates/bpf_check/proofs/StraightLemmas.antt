@@ -17,7 +17,7 @@ use Rattle.bpf_cert.specs.View.{LabelView, FunctionView, CertificateView, label_
 use Rattle.bpf_safety.specs.Labels.{label_at, function_at}
 use Rattle.bpf_safety.specs.Budget.{budget, least_slack}
 use Rattle.bpf_safety.specs.Flow.{Arrival, arrives, arrives_at, passed_on, callee, jump_target, jump_state, cost_after}
-use Rattle.bpf_safety.specs.Flaw.{Edge, at, edge_to, is_negative_if, is_refused_by, numbers_of_visit, lacks_label, enters_wrongly, returns_wrongly, exits_unpaid, calls_no_deeper, leaves_function, leaves_for, next_slot, calls_nowhere, is_not}
+use Rattle.bpf_safety.specs.Flaw.{Edge, edge_to, is_negative_if, is_refused_by, lacks_label, enters_wrongly, returns_wrongly, exits_unpaid, calls_no_deeper, leaves_function, leaves_for, next_slot, calls_nowhere, is_not}
 use Rattle.bpf_safety.specs.Work.{leads_into_label, one_if, enters_label, returns_result}
 use Rattle.bpf_check.specs.declared.arrival.Here.{Here}
 use Rattle.bpf_check.specs.declared.arrival.Walk.{Walk}
@@ -30,7 +30,7 @@ use Rattle.bpf_check.specs.code.Least.{IsLeastIn}
 use Rattle.bpf_check.specs.code.Slack.{at_label}
 use Rattle.bpf_check.specs.code.Sites.{IsSpot}
 use Rattle.bpf_check.specs.code.Straight.{IsStep, IsStepFrom}
-use Rattle.bpf_check.specs.code.Visits.{IsJudgment, numbers_with, passed_with, never_reached, visit_of, visit_with}
+use Rattle.bpf_check.specs.code.Visits.{IsJudgment, flaws_with, passed_with, passed_after, never_reached, visit_of, visit_with, visit_flaws}
 use Rattle.bpf_check.proofs.LeastLemmas.{least_beside}
 use Rattle.bpf_check.proofs.PassLemmas.{one_slot}
 use Rattle.bpf_check.proofs.ArrivalLemmas.{sound_least, visit_refused}
@@ -174,11 +174,11 @@ module _ (p : Instructions) (s : Step) (w : IsStep (slots p.list) s) where
 
   -- ---- the refusal
 
-  pub straight_least : (o : Option Arrival) (a : Arrival) (r : Option (ℕ × ℕ)) → o ≡ Some a → IsLeastIn (at slot (numbers_with p c slot i (Some a))) r → IsLeastIn (at slot (numbers_of_visit p c (visit_of c slot i o))) r
+  pub straight_least : (o : Option Arrival) (a : Arrival) (r : Option (ℕ × ℕ)) → o ≡ Some a → IsLeastIn (flaws_with p c slot i (Some a)) r → IsLeastIn (visit_flaws p c (visit_of c slot i o)) r
   straight_least o a r e h =
-      subst (λ q. IsLeastIn (at slot (numbers_of_visit p c (visit_of c slot i q))) r) (sym e)
+      subst (λ q. IsLeastIn (visit_flaws p c (visit_of c slot i q)) r) (sym e)
       (visit_refused p c slot i (Some a) (Some a) false false false false r (sym lacks_none) (sym (arrives_so a)) (sym calls_none) (sym (is_reached a)) (sym stays)
-      (least_beside slot 1 10 11 12 false false false false (at slot (numbers_with p c slot i (Some a))) r refl h))
+      (least_beside slot 1 10 11 12 false false false false (flaws_with p c slot i (Some a)) r refl h))
 
   -- ---- the three ends
 
@@ -191,22 +191,22 @@ module _ (p : Instructions) (s : Step) (w : IsStep (slots p.list) s) where
       pass_judged p c slot i t h t' t' aside alive false false false false false true false cost live told (spent ∙ sym (g.cost (arrival_of t h))) (sym (enters_none (arrival_of t h))) (sym (g.returns (arrival_of t h))) (sym (g.exits (arrival_of t h) cost)) (sym (none_refused t')) (sym (none_unpaid (label_view h.label.now) cost t')) (sym (g.next t')) refl
       (sym (ne_eqb next (slots p.list) not_last)) valid
 
-  none_flawed : (a : Arrival) (walk : Walk) → IsJudgment p c slot i a walk (record { not_entailed = false; over_budget = false; past_end = false }) → IsLeastIn (at slot (numbers_with p c slot i (Some a))) None
+  none_flawed : (a : Arrival) (walk : Walk) → IsJudgment p c slot i a walk (record { not_entailed = false; over_budget = false; past_end = false }) → IsLeastIn (flaws_with p c slot i (Some a)) None
   none_flawed a walk j = sound_least p c slot i a false false false None j.no_fault j.not_entailed j.over_budget j.past_end none_of_none
 
-  pub straight_sound : (o : Option Arrival) (a : Arrival) (walk : Walk) → o ≡ Some a → IsJudgment p c slot i a walk (record { not_entailed = false; over_budget = false; past_end = false }) → IsLeastIn (at slot (numbers_of_visit p c (visit_of c slot i o))) None
+  pub straight_sound : (o : Option Arrival) (a : Arrival) (walk : Walk) → o ≡ Some a → IsJudgment p c slot i a walk (record { not_entailed = false; over_budget = false; past_end = false }) → IsLeastIn (visit_flaws p c (visit_of c slot i o)) None
   straight_sound o a walk e j = straight_least o a None e (none_flawed a walk j)
 
   -- ---- what goes on
 
-  passed_so : (o : Option Arrival) (a : Arrival) → o ≡ Some a → passed_with p c slot i (arrives c slot o) ≡ passed_with p c slot i (Some a)
-  passed_so o a e = ap (λ q. passed_with p c slot i (arrives c slot q)) e ∙ ap (passed_with p c slot i) (arrives_so a)
+  passed_so : (o : Option Arrival) (a : Arrival) → o ≡ Some a → passed_after p c slot i o ≡ passed_with p c slot i (Some a)
+  passed_so o a e = ap (passed_after p c slot i) e ∙ ap (passed_with p c slot i) (arrives_so a)
 
-  pub straight_passed : (o : Option Arrival) (a : Arrival) (walk : Walk) → o ≡ Some a → IsJudgment p c slot i a walk (record { not_entailed = false; over_budget = false; past_end = false }) → walk_of walk ≡ passed_with p c slot i (arrives c slot o)
+  pub straight_passed : (o : Option Arrival) (a : Arrival) (walk : Walk) → o ≡ Some a → IsJudgment p c slot i a walk (record { not_entailed = false; over_budget = false; past_end = false }) → walk_of walk ≡ passed_after p c slot i o
   straight_passed o a walk e j =
       j.passed ∙ sym (passed_so o a e ∙ ap (λ q. option_and_then (passed_on p c slot i) (if is_none q then Some a else None)) j.no_fault)
 
-  pub straight_stopped : (o : Option Arrival) (a : Arrival) (n : ℕ) → o ≡ Some a → fault_of c.least a.state i ≡ Some n → None ≡ passed_with p c slot i (arrives c slot o)
+  pub straight_stopped : (o : Option Arrival) (a : Arrival) (n : ℕ) → o ≡ Some a → fault_of c.least a.state i ≡ Some n → None ≡ passed_after p c slot i o
   straight_stopped o a n e fault =
       sym (passed_so o a e ∙ ap (λ q. option_and_then (passed_on p c slot i) (if is_none q then Some a else None)) fault)
 

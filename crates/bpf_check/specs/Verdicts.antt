@@ -13,6 +13,7 @@ use Rattle.bpf_safety.specs.Certified.{Certified, IsLeastFlaw}
 use Rattle.bpf_safety.specs.Theorems.{IsSafe, IsFlatSafe}
 use Rattle.bpf_check.specs.RefusalNumbers.{refusal_slot, refusal_number}
 use Rattle.bpf_check.specs.declared.refusal.Refusal.{Refusal}
+use Rattle.bpf_check.specs.declared.verifier.Verdict.{Verdict}
 use Rattle.bpf_check.specs.declared.verifier.VerifyError.{VerifyError}
 use Rattle.bpf_check.specs.declared.verifier.VerifyError.TheVariants.{Image as InImage, Cert as InCert, Check as InCheck}
 
@@ -44,6 +45,10 @@ pub record Promises (order : Order) (image text : List ℕ) (least most bound : 
   pub least_is : least ≡ certificate.least
   pub most_is : most ≡ certificate.most
   pub bound_is : bound ≡ certificate.steps
+
+-- a verdict tells a certificate's range and bound
+abbrev pub IsVerdictOf : CertificateView → Verdict → Type 0
+IsVerdictOf c v = (v.least ≡ c.least) × (v.most ≡ c.most) × (v.bound ≡ c.steps)
 
 -- the image's program isn't certified: this is its first flaw
 pub record HasFlaw (order : Order) (image text : List ℕ) (refusal : Refusal) : Type 0 where

@@ -1,14 +1,13 @@
 //! The judgement of a program by a certificate.
 
-ghost use Rattle.std.specs.Prelude.{◌≡◌, IfOk, IfErr, option_map};
+ghost use Rattle.std.specs.Prelude.{◌≡◌, IfOk, IfErr};
 ghost use Rattle.bpf_safety.specs.Certified.{IsLeastFlaw};
 ghost use Rattle.bpf_safety.specs.Flaw.{flaws};
-ghost use Rattle.bpf_safety.specs.Flow.{visits};
 ghost use Rattle.bpf_safety.specs.Work.{compared_at_start};
-ghost use Rattle.bpf_check.specs.code.Counting.{compared, worked_through};
-ghost use Rattle.bpf_check.specs.code.Least.{IsLeastIn};
+ghost use Rattle.bpf_check.specs.code.Counting.{compared, worked_in_pass};
+ghost use Rattle.bpf_check.specs.code.Least.{IsLeastRefusal};
 ghost use Rattle.bpf_check.specs.CheckedProgram.{IsCertifiedBy, checked};
-ghost use Rattle.bpf_check.specs.RefusalNumbers.{flaw_of, refusal_number, refusal_slot};
+ghost use Rattle.bpf_check.specs.RefusalNumbers.{refusal_number, refusal_slot};
 
 use crate::arrival::Walk;
 use crate::checked::Checked;
@@ -25,8 +24,8 @@ use bpf_state::Work;
 
 /// The least flaw of a program and a certificate. The states are large, so the start and the labels are judged with those of the walk.
 fn least_flaw<C: Code>(program: &C, certificate: &Index, work: &mut Work) -> Option<Refusal>
-    ensures flaw { IsLeastIn (flaws (C.program program.now) certificate.now) (option_map flaw_of result) }
-    ensures work { work.new ≡ worked_through (C.program program.now) certificate.now (visits (C.program program.now) certificate.now) (compared (compared_at_start certificate.now) work.old) }
+    ensures flaw { IsLeastRefusal (flaws (C.program program.now) certificate.now) result }
+    ensures work { work.new ≡ worked_in_pass (C.program program.now) certificate.now (compared (compared_at_start certificate.now) work.old) }
 {
     let mut walk = Walk::new();
     let start = start_flaw(certificate, &mut walk.state, work);

@@ -12,8 +12,8 @@ ghost use Rattle.bpf_safety.specs.Flaw.{is_negative_if, enters_wrongly, returns_
 ghost use Rattle.bpf_check.specs.code.Slack.{IsWithin};
 ghost use Rattle.bpf_check.specs.code.Arrivals.{arrival_of, IsReaching};
 ghost use Rattle.bpf_safety.specs.Work.{leads_into_label, one_if, enters_label, returns_result};
-ghost use Rattle.bpf_check.specs.code.Edges.{slack_to, left_at_exit, next_of, edges_of, is_unpaid, seen_of, edge_seen, jump_seen, next_seen};
-ghost use Rattle.bpf_check.specs.code.Sites.{IsSpot, IsSite, visit_at, jump_edge};
+ghost use Rattle.bpf_check.specs.code.Edges.{slack_to, left_at_exit, next_of, is_unpaid, seen_of, edge_seen};
+ghost use Rattle.bpf_check.specs.code.Sites.{IsSpot, IsSite, visit_at, jump_edge, edges_at, jump_seen_at, next_seen_at};
 ghost use Rattle.bpf_check.specs.code.Counting.{compared};
 
 use crate::arrival::Here;
@@ -177,7 +177,7 @@ pub fn judge_jump<'a>(
     requires old { IsTrue (is_limited_label (label_view old.now)) }
     requires alive { IsSome (label_state (label_view old.now)) }
     requires cost { IfSome cost (λ z. IsWithin (2 ^ 112) z) }
-    ensures seen { option_map seen_of result ≡ jump_seen site.now.certificate.now (label_view old.now) cost site.now.here.slot site.now.insn state.now }
+    ensures seen { option_map seen_of result ≡ jump_seen_at site.now (label_view old.now) cost state.now }
     ensures work { work.new ≡ compared (count_by (leads_into_label site.now.certificate.now) (jump_edge site.now state.now)) work.old }
 {
     let Some(to) = site.jump else {
@@ -237,10 +237,10 @@ pub fn judge_edges<'a>(
     requires old { IsTrue (is_limited_label (label_view old.now)) }
     requires alive { IsSome (label_state (label_view old.now)) }
     requires cost { IfSome cost (λ z. IsWithin (2 ^ 112) z) }
-    ensures jump { option_map seen_of result.0 ≡ jump_seen site.now.certificate.now (label_view old.now) cost site.now.here.slot site.now.insn state.old }
-    ensures next { seen_of result.1 ≡ next_seen site.now.certificate.now (label_view old.now) cost site.now.here.slot site.now.insn state.old }
+    ensures jump { option_map seen_of result.0 ≡ jump_seen_at site.now (label_view old.now) cost state.old }
+    ensures next { seen_of result.1 ≡ next_seen_at site.now (label_view old.now) cost state.old }
     ensures goes { edge_told result.1.is_live state.new ≡ next_of site.now.certificate.now site.now.here.slot site.now.insn state.old }
-    ensures work { work.new ≡ compared (count_by (leads_into_label site.now.certificate.now) (edges_of site.now.certificate.now site.now.here.slot site.now.insn state.old)) work.old }
+    ensures work { work.new ≡ compared (count_by (leads_into_label site.now.certificate.now) (edges_at site.now state.old)) work.old }
 {
     let jump = judge_jump(site, state, aside, old, cost, work);
     if !go_to_next(site, state) {

@@ -1,8 +1,8 @@
 //! The least of refusals.
 
-ghost use Rattle.std.specs.Prelude.{◌≡◌, ℕ, ◌⊎◌, List, ◌++◌, Option, option_map};
+ghost use Rattle.std.specs.Prelude.{◌≡◌, ℕ, ◌⊎◌, List, ◌++◌, Option};
 ghost use Rattle.bpf_safety.specs.Flaw.{at, fails};
-ghost use Rattle.bpf_check.specs.code.Least.{IsAtMost, IsLeastIn};
+ghost use Rattle.bpf_check.specs.code.Least.{IsAtMost, IsLeastRefusal};
 ghost use Rattle.bpf_check.specs.RefusalNumbers.{flaw_of};
 
 use crate::refusal::Refusal;
@@ -10,7 +10,7 @@ use bpf_state::Condition;
 
 /// The refusal for a condition at a slot, if it fails.
 pub fn refused_if(is_failed: bool, slot: u32, condition: Condition) -> Option<Refusal>
-    ensures { IsLeastIn (at slot (fails condition is_failed)) (option_map flaw_of result) }
+    ensures { IsLeastRefusal (at slot (fails condition is_failed)) result }
 {
     if is_failed {
         Some(Refusal { slot, condition })
@@ -34,7 +34,7 @@ fn lower(a: Refusal, b: Refusal) -> Refusal
 
 /// The least refusal of two lists of flaws, from the least of each.
 pub fn lesser(a: Option<Refusal>, b: Option<Refusal>) -> Option<Refusal>
-    ensures { (xs ys : List (ℕ × ℕ)) → IsLeastIn xs (option_map flaw_of a) → IsLeastIn ys (option_map flaw_of b) → IsLeastIn (xs ++ ys) (option_map flaw_of result) }
+    ensures { (xs ys : List (ℕ × ℕ)) → IsLeastRefusal xs a → IsLeastRefusal ys b → IsLeastRefusal (xs ++ ys) result }
 {
     match (a, b) {
         (Some(a), Some(b)) => Some(lower(a, b)),

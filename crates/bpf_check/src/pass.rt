@@ -1,17 +1,15 @@
 //! One pass over a program's instructions.
 
-ghost use Rattle.std.specs.Prelude.{◌≡◌, ◌+◌, ◌≤◌, None, option_map, IfSome};
+ghost use Rattle.std.specs.Prelude.{◌≡◌, ◌+◌, ◌≤◌, None, IfSome};
 ghost use Rattle.bpf_insn.specs.Instruction.{slot_count};
 ghost use Rattle.std.specs.List.{flat_map};
 ghost use Rattle.bpf_insn.specs.Limits.{greatest_slot};
-ghost use Rattle.bpf_safety.specs.Flow.{arrives, visits};
-ghost use Rattle.bpf_safety.specs.Flaw.{at, numbers_of_visit};
-ghost use Rattle.bpf_check.specs.code.Least.{IsLeastIn};
-ghost use Rattle.bpf_check.specs.RefusalNumbers.{flaw_of};
+ghost use Rattle.bpf_safety.specs.Flow.{visits};
+ghost use Rattle.bpf_check.specs.code.Least.{IsLeastRefusal};
 ghost use Rattle.bpf_check.specs.code.Arrivals.{walk_of, IsReaching};
-ghost use Rattle.bpf_check.specs.code.Counting.{worked_at, worked_through};
+ghost use Rattle.bpf_check.specs.code.Counting.{worked_at, worked_in_pass};
 ghost use Rattle.bpf_check.specs.code.Sites.{IsSpot};
-ghost use Rattle.bpf_check.specs.code.Visits.{passed_with, visit_of};
+ghost use Rattle.bpf_check.specs.code.Visits.{passed_after, visit_of, visit_flaws};
 
 use crate::arrival::Walk;
 use crate::index::Index;
@@ -35,8 +33,8 @@ fn visit_spot<'a, P: Code>(
     requires few { here.old.slot ≤ greatest_slot }
     requires here { IsSpot certificate.now here.old }
     requires valid { IfSome walk.old.here (λ h. IsReaching here.old.slot h) }
-    ensures refusal { IsLeastIn (at here.old.slot (numbers_of_visit (P.program program.now) certificate.now (visit_of certificate.now here.old.slot insn (walk_of walk.old)))) (option_map flaw_of result) }
-    ensures passed { walk_of walk.new ≡ passed_with (P.program program.now) certificate.now here.old.slot insn (arrives certificate.now here.old.slot (walk_of walk.old)) }
+    ensures refusal { IsLeastRefusal (visit_flaws (P.program program.now) certificate.now (visit_of certificate.now here.old.slot insn (walk_of walk.old))) result }
+    ensures passed { walk_of walk.new ≡ passed_after (P.program program.now) certificate.now here.old.slot insn (walk_of walk.old) }
     ensures work { work.new ≡ worked_at (P.program program.now) certificate.now (visit_of certificate.now here.old.slot insn (walk_of walk.old)) work.old }
     ensures valid { IfSome walk.new.here (λ h. IsReaching (here.old.slot + slot_count insn) h) }
     ensures slot { here.new.slot ≡ here.old.slot + slot_count insn }
@@ -62,8 +60,8 @@ fn pass_over<'a, P: Code>(
     requires few { here.old.slot ≤ greatest_slot }
     requires here { IsSpot certificate.now here.old }
     requires valid { IfSome walk.old.here (λ h. IsReaching here.old.slot h) }
-    ensures refusal { IsLeastIn (at here.old.slot (numbers_of_visit (P.program program.now) certificate.now (visit_of certificate.now here.old.slot insn (walk_of walk.old)))) (option_map flaw_of result) }
-    ensures passed { walk_of walk.new ≡ passed_with (P.program program.now) certificate.now here.old.slot insn (arrives certificate.now here.old.slot (walk_of walk.old)) }
+    ensures refusal { IsLeastRefusal (visit_flaws (P.program program.now) certificate.now (visit_of certificate.now here.old.slot insn (walk_of walk.old))) result }
+    ensures passed { walk_of walk.new ≡ passed_after (P.program program.now) certificate.now here.old.slot insn (walk_of walk.old) }
     ensures work { work.new ≡ worked_at (P.program program.now) certificate.now (visit_of certificate.now here.old.slot insn (walk_of walk.old)) work.old }
     ensures valid { IfSome walk.new.here (λ h. IsReaching (here.old.slot + slot_count insn) h) }
     ensures slot { here.new.slot ≡ here.old.slot + slot_count insn }
@@ -87,8 +85,8 @@ pub fn visit_flaw<'a, P: Code>(
     work: &mut Work,
 ) -> Option<Refusal>
     requires { walk.old.here ≡ None }
-    ensures refusal { IsLeastIn (flat_map (λ v. at v.slot (numbers_of_visit (P.program program.now) certificate.now v)) (visits (P.program program.now) certificate.now)) (option_map flaw_of result) }
-    ensures work { work.new ≡ worked_through (P.program program.now) certificate.now (visits (P.program program.now) certificate.now) work.old }
+    ensures refusal { IsLeastRefusal (flat_map (visit_flaws (P.program program.now) certificate.now) (visits (P.program program.now) certificate.now)) result }
+    ensures work { work.new ≡ worked_in_pass (P.program program.now) certificate.now work.old }
 {
     let _ = program.slots();
     let mut here = Spot::of(certificate, 0);

@@ -1,16 +1,14 @@
 //! Whether a certificate's functions and labels fit each other and the program.
 
-ghost use Rattle.std.specs.Prelude.{◌≡◌, ◌||◌, ◌++◌, find, flat_map, option_map, option_copied, is_none, is_some, IsTrue};
+ghost use Rattle.std.specs.Prelude.{◌≡◌, find, flat_map, option_copied, is_none, is_some, IsTrue};
 ghost use Rattle.std.specs.List.{list_any};
 ghost use Rattle.bpf_insn.specs.Instruction.{insn_at};
 ghost use Rattle.bpf_state.specs.State.{tightened};
-ghost use Rattle.bpf_state.specs.declared.condition.Condition.TheVariants.{MisplacedLabel, OverBudget, Misshapen};
 ghost use Rattle.bpf_cert.specs.View.{label_view, function_view};
 ghost use Rattle.bpf_cert.specs.Limits.{is_limited_label, is_limited_function, is_limited_term};
-ghost use Rattle.bpf_safety.specs.Flaw.{at, fails, is_bad_limit, is_bad_term, is_first_label, is_outside, numbers_of_label, function_flaws};
-ghost use Rattle.bpf_check.specs.code.Least.{IsLeastIn};
-ghost use Rattle.bpf_check.specs.code.Standing.{IsSeenLabel};
-ghost use Rattle.bpf_check.specs.RefusalNumbers.{flaw_of};
+ghost use Rattle.bpf_safety.specs.Flaw.{at, is_bad_limit, is_bad_term, is_first_label, is_outside, function_flaws};
+ghost use Rattle.bpf_check.specs.code.Least.{IsLeastRefusal};
+ghost use Rattle.bpf_check.specs.code.Standing.{IsSeenLabel, numbers_of_seen, label_flaws};
 
 use crate::budget::{bounds, bounds_said};
 use crate::index::Index;
@@ -152,7 +150,7 @@ pub fn is_first_label(function: &Function) -> bool
 
 /// The least flaw of a label, from what is seen of it: C2, C9 or C13 at its slot.
 fn flaw_of_label(seen: &SeenLabel) -> Option<Refusal>
-    ensures { IsLeastIn (at seen.now.label.now.slot (fails MisplacedLabel seen.now.is_misplaced ++ fails OverBudget (is_some seen.now.bad) ++ fails Misshapen (seen.now.is_outside || seen.now.is_empty))) (option_map flaw_of result) }
+    ensures { IsLeastRefusal (at seen.now.label.now.slot (numbers_of_seen seen.now)) result }
 {
     let slot = seen.label.slot;
     let is_misshapen = seen.is_outside | seen.is_empty;
@@ -171,7 +169,7 @@ fn judge_label<C: Code>(
     room: &mut State,
 ) -> Option<Refusal>
     requires { IsTrue (is_limited_label (label_view label.now)) }
-    ensures { IsLeastIn (at label.now.slot (numbers_of_label (C.program program.now) certificate.now (function_view function.now) (label_view label.now))) (option_map flaw_of result) }
+    ensures { IsLeastRefusal (label_flaws (C.program program.now) certificate.now (function_view function.now) (label_view label.now)) result }
 {
     let seen = see_label(program, certificate, function, label, room);
     flaw_of_label(&seen)
@@ -185,7 +183,7 @@ fn flaw_of_labels<C: Code>(
     room: &mut State,
 ) -> Option<Refusal>
     requires { IsTrue (is_limited_function (function_view function.now)) }
-    ensures { IsLeastIn (flat_map (λ l. at l.slot (numbers_of_label (C.program program.now) certificate.now (function_view function.now) l)) (function_view function.now).labels) (option_map flaw_of result) }
+    ensures { IsLeastRefusal (flat_map (label_flaws (C.program program.now) certificate.now (function_view function.now)) (function_view function.now).labels) result }
 {
     let mut least = None;
     let labels = function.labels.as_slice();
@@ -204,7 +202,7 @@ fn flaw_of_function<C: Code>(
     room: &mut State,
 ) -> Option<Refusal>
     requires { IsTrue (is_limited_function (function_view function.now)) }
-    ensures { IsLeastIn (function_flaws (C.program program.now) certificate.now (function_view function.now)) (option_map flaw_of result) }
+    ensures { IsLeastRefusal (function_flaws (C.program program.now) certificate.now (function_view function.now)) result }
 {
     let misshapen = refused_if(
         !is_first_label(function),
@@ -219,7 +217,7 @@ fn flaw_of_function<C: Code>(
 
 /// The least flaw of functions and labels, with room for a label's state tightened: C2, C9 or C13 at a label, or C13 where a function begins.
 pub fn label_flaw<C: Code>(program: &C, certificate: &Index, room: &mut State) -> Option<Refusal>
-    ensures { IsLeastIn (flat_map (function_flaws (C.program program.now) certificate.now) certificate.now.functions) (option_map flaw_of result) }
+    ensures { IsLeastRefusal (flat_map (function_flaws (C.program program.now) certificate.now) certificate.now.functions) result }
 {
     certificate.valid();
     let mut least = None;

@@ -1,6 +1,6 @@
 //! Whether a certificate fits the start of a program.
 
-ghost use Rattle.std.specs.Prelude.{◌≡◌, ◌++◌, map, not, is_some, Some, IfSome, option_map};
+ghost use Rattle.std.specs.Prelude.{◌≡◌, ◌++◌, map, not, is_some, Some, IfSome};
 ghost use Rattle.bpf_cert.specs.View.{function_view};
 ghost use Rattle.bpf_state.specs.State.{first_state};
 ghost use Rattle.bpf_state.specs.declared.condition.Condition.TheVariants.{Misshapen, OverBudget};
@@ -10,9 +10,8 @@ ghost use Rattle.bpf_safety.specs.Labels.{label_at};
 ghost use Rattle.bpf_safety.specs.Flaw.{at, fails, begins_elsewhere, begins_wrongly, starts_over_budget};
 ghost use Rattle.bpf_safety.specs.Work.{compared_at_start};
 ghost use Rattle.bpf_check.specs.code.Counting.{compared};
-ghost use Rattle.bpf_check.specs.code.Least.{IsLeastIn};
+ghost use Rattle.bpf_check.specs.code.Least.{IsLeastRefusal};
 ghost use Rattle.bpf_check.specs.code.Standing.{budget_at_start};
-ghost use Rattle.bpf_check.specs.RefusalNumbers.{flaw_of};
 
 use crate::budget::greatest_budget;
 use crate::index::Index;
@@ -101,7 +100,7 @@ pub fn see_start(certificate: &Index, room: &mut State, work: &mut Work) -> Seen
 
 /// The least flaw at the start, with room for the state there: C9 or C13 at slot 0.
 pub fn start_flaw(certificate: &Index, room: &mut State, work: &mut Work) -> Option<Refusal>
-    ensures refusal { IsLeastIn (at 0 (fails Misshapen (begins_wrongly certificate.now) ++ fails OverBudget (starts_over_budget certificate.now))) (option_map flaw_of result) }
+    ensures refusal { IsLeastRefusal (at 0 (fails Misshapen (begins_wrongly certificate.now) ++ fails OverBudget (starts_over_budget certificate.now))) result }
     ensures work { work.new ≡ compared (compared_at_start certificate.now) work.old }
 {
     let seen = see_start(certificate, room, work);

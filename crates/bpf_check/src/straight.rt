@@ -1,18 +1,15 @@
 //! Straight code: instructions that go on at the next one alone, and no label at either. Of all conditions on an instruction
 //! those on its registers and memory are left, so nothing is looked up.
 
-ghost use Rattle.std.specs.Prelude.{◌≡◌, ◌+◌, ◌≤◌, IfSome, Some, option_map};
+ghost use Rattle.std.specs.Prelude.{◌≡◌, ◌+◌, ◌≤◌, IfSome, Some};
 ghost use Rattle.bpf_insn.specs.Limits.{greatest_slot};
 ghost use Rattle.bpf_insn.specs.Instruction.{slots, slot_count};
-ghost use Rattle.bpf_safety.specs.Flaw.{at, numbers_of_visit};
-ghost use Rattle.bpf_safety.specs.Flow.{arrives};
 ghost use Rattle.bpf_check.specs.code.Arrivals.{walk_of, IsReaching};
 ghost use Rattle.bpf_check.specs.code.Counting.{worked_at};
-ghost use Rattle.bpf_check.specs.code.Least.{IsLeastIn};
+ghost use Rattle.bpf_check.specs.code.Least.{IsLeastRefusal};
 ghost use Rattle.bpf_check.specs.code.Sites.{IsSpot};
-ghost use Rattle.bpf_check.specs.code.Straight.{IsStep, IsStepFrom};
-ghost use Rattle.bpf_check.specs.code.Visits.{passed_with, visit_of};
-ghost use Rattle.bpf_check.specs.RefusalNumbers.{flaw_of};
+ghost use Rattle.bpf_check.specs.code.Straight.{IsStep, IsStepFrom, step_visit_of};
+ghost use Rattle.bpf_check.specs.code.Visits.{passed_after, visit_flaws};
 
 use crate::arrival::{Here, Walk, one_more};
 use crate::index::Index;
@@ -85,9 +82,9 @@ pub fn visit_straight<'a, P: Code>(
     requires step { IsStep (slots (P.program program.now).list) step.now }
     requires reached { walk.old.here ≡ Some step.now.reached }
     requires valid { IsReaching step.now.slot step.now.reached }
-    ensures refusal { IsLeastIn (at step.now.slot (numbers_of_visit (P.program program.now) step.now.certificate.now (visit_of step.now.certificate.now step.now.slot step.now.insn (walk_of walk.old)))) (option_map flaw_of result) }
-    ensures passed { walk_of walk.new ≡ passed_with (P.program program.now) step.now.certificate.now step.now.slot step.now.insn (arrives step.now.certificate.now step.now.slot (walk_of walk.old)) }
-    ensures work { work.new ≡ worked_at (P.program program.now) step.now.certificate.now (visit_of step.now.certificate.now step.now.slot step.now.insn (walk_of walk.old)) work.old }
+    ensures refusal { IsLeastRefusal (visit_flaws (P.program program.now) step.now.certificate.now (step_visit_of step.now (walk_of walk.old))) result }
+    ensures passed { walk_of walk.new ≡ passed_after (P.program program.now) step.now.certificate.now step.now.slot step.now.insn (walk_of walk.old) }
+    ensures work { work.new ≡ worked_at (P.program program.now) step.now.certificate.now (step_visit_of step.now (walk_of walk.old)) work.old }
     ensures valid { IfSome walk.new.here (λ h. IsReaching (step.now.slot + slot_count step.now.insn) h) }
 {
     let reached = step.reached;

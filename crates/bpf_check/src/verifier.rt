@@ -1,8 +1,8 @@
 //! Images and certificates from outside.
 
-ghost use Rattle.std.specs.Prelude.{◌≡◌, IfOk, IfErr, IfSome, MatchResult};
+ghost use Rattle.std.specs.Prelude.{IfOk, IfErr, IfSome, MatchResult};
 ghost use Rattle.bpf_cert.specs.View.{CertificateView};
-ghost use Rattle.bpf_check.specs.Verdicts.{Verified, Promises, IsImageJudged, IsRefusedBy, Certifies, IsUnread};
+ghost use Rattle.bpf_check.specs.Verdicts.{Verified, Promises, IsVerdictOf, IsImageJudged, IsRefusedBy, Certifies, IsUnread};
 
 use crate::checker::check;
 use crate::refusal::Refusal;
@@ -55,7 +55,7 @@ pub fn verify<R: Read + Drop>(
     ensures promised { IfOk result (λ v. IfSome (R.remaining certificate) (λ text. Promises order image.now text v.least v.most v.bound)) }
     ensures err_image { IfErr result (λ e. IsImageJudged order image.now e) }
     ensures err { IfErr result (λ e. IfSome (R.remaining certificate) (λ text. IsRefusedBy order image.now text e)) }
-    ensures accepts { IfSome (R.remaining certificate) (λ text. (c : CertificateView) → Certifies order image.now text c → MatchResult result (λ v. (v.least ≡ c.least) × (v.most ≡ c.most) × (v.bound ≡ c.steps)) IsUnread) }
+    ensures accepts { IfSome (R.remaining certificate) (λ text. (c : CertificateView) → Certifies order image.now text c → MatchResult result (IsVerdictOf c) IsUnread) }
 {
     image_is_injective();
     never_both();

@@ -1,22 +1,20 @@
 //! Visits: each instruction with what reaches it.
 
-ghost use Rattle.std.specs.Prelude.{◌≡◌, ℕ, ◌+◌, ◌≤◌, List, ◌++◌, option_map, is_some, IfSome, IfOk, IfErr, IsTrue, Some, None};
+ghost use Rattle.std.specs.Prelude.{◌≡◌, ℕ, ◌+◌, ◌≤◌, List, option_map, is_some, IfSome, IfOk, IfErr, IsTrue, Some, None};
 ghost use Rattle.bpf_cert.specs.View.{CertificateView, label_view};
 ghost use Rattle.bpf_cert.specs.Limits.{is_limited_label};
 ghost use Rattle.bpf_insn.specs.Instruction.{slot_count};
 ghost use Rattle.bpf_state.specs.Fault.{fault_of};
-ghost use Rattle.bpf_state.specs.declared.condition.Condition.TheVariants.{NoLabel, NotEntailed, OverBudget, NoDeeper, FallsOff, LeavesFunction};
 ghost use Rattle.bpf_state.specs.Condition.{fault_number};
 ghost use Rattle.bpf_state.specs.Transfer.{after};
-ghost use Rattle.bpf_safety.specs.Flow.{arrives, cost_after, next_state};
-ghost use Rattle.bpf_safety.specs.Flaw.{at, fails, is_negative_if, numbers_of_visit, enters_wrongly, returns_wrongly};
-ghost use Rattle.bpf_check.specs.code.Least.{IsLeastIn};
-ghost use Rattle.bpf_check.specs.RefusalNumbers.{flaw_of};
+ghost use Rattle.bpf_safety.specs.Flow.{arrives, cost_after};
+ghost use Rattle.bpf_safety.specs.Flaw.{is_negative_if, enters_wrongly, returns_wrongly};
+ghost use Rattle.bpf_check.specs.code.Least.{IsLeastRefusal};
 ghost use Rattle.bpf_check.specs.code.Arrivals.{arrival_of, walk_of, IsReaching};
-ghost use Rattle.bpf_check.specs.code.Edges.{left_at_exit, seen_of, edge_seen, jump_seen};
-ghost use Rattle.bpf_check.specs.code.Visits.{IsJudgment, judged_of, numbers_with, passed_with, never_reached, visit_of, visit_with};
+ghost use Rattle.bpf_check.specs.code.Edges.{left_at_exit, seen_of};
+ghost use Rattle.bpf_check.specs.code.Visits.{IsJudgmentAt, judged_of, flaws_with, passed_with, passed_after, never_reached, visit_flaws, judged_flaws, shape_flaws, site_visit_with, site_visit_of};
 ghost use Rattle.bpf_check.specs.code.Counting.{worked_at};
-ghost use Rattle.bpf_check.specs.code.Sites.{IsSpot, IsSite, visit_at};
+ghost use Rattle.bpf_check.specs.code.Sites.{IsSpot, IsSite, visit_at, jump_seen_at, next_seen_before};
 
 use crate::arrival::{Here, Walk, cost_after, start_at};
 use crate::edge::{calls_no_deeper, lacks_label, leaves_function};
@@ -98,17 +96,17 @@ pub fn judge<'a, P: Code>(
 ) -> Result<Seen<'a>, StateFault>
     requires site { IsSite site.now }
     requires valid { IsReaching site.now.here.slot here }
-    ensures ok { IfOk result (λ s. IsJudgment (P.program program.now) site.now.certificate.now site.now.here.slot site.now.insn (arrival_of walk.old.state here.entry) walk.new (judged_of s)) }
+    ensures ok { IfOk result (λ s. IsJudgmentAt (P.program program.now) site.now (arrival_of walk.old.state here.entry) walk.new (judged_of s)) }
     ensures cost { IfOk result (λ s. s.cost ≡ cost_after site.now.certificate.now site.now.here.slot site.now.insn (arrival_of walk.old.state here.entry)) }
     ensures left { IfOk result (λ s. s.left_at_exit ≡ left_at_exit (arrival_of walk.old.state here.entry) s.cost site.now.insn) }
     ensures alive { IfOk result (λ s. s.is_alive ≡ is_some (after (P.program program.now).order site.now.insn walk.old.state)) }
-    ensures jump { IfOk result (λ s. option_map seen_of s.jump ≡ jump_seen site.now.certificate.now (label_view here.entry.label.now) s.cost site.now.here.slot site.now.insn walk.old.state) }
-    ensures next { IfOk result (λ s. seen_of s.next ≡ edge_seen site.now.certificate.now (label_view here.entry.label.now) s.cost (site.now.here.slot + slot_count site.now.insn) (next_state (P.program program.now) site.now.certificate.now site.now.here.slot site.now.insn walk.old.state)) }
+    ensures jump { IfOk result (λ s. option_map seen_of s.jump ≡ jump_seen_at site.now (label_view here.entry.label.now) s.cost walk.old.state) }
+    ensures next { IfOk result (λ s. seen_of s.next ≡ next_seen_before (P.program program.now) site.now (label_view here.entry.label.now) s.cost walk.old.state) }
     ensures enters { IfOk result (λ s. s.enters_wrongly ≡ enters_wrongly site.now.certificate.now (visit_at site.now) (arrival_of walk.old.state here.entry)) }
     ensures returns { IfOk result (λ s. s.returns_wrongly ≡ returns_wrongly site.now.certificate.now (visit_at site.now) (arrival_of walk.old.state here.entry) site.now.insn) }
     ensures err { IfErr result (λ e. fault_of site.now.certificate.now.least walk.old.state site.now.insn ≡ Some (fault_number e)) }
     ensures stops { IfErr result (λ e. walk.new.here ≡ None) }
-    ensures work { work.new ≡ worked_at (P.program program.now) site.now.certificate.now (visit_with site.now.here.slot site.now.insn (Some (arrival_of walk.old.state here.entry))) work.old }
+    ensures work { work.new ≡ worked_at (P.program program.now) site.now.certificate.now (site_visit_with site.now (Some (arrival_of walk.old.state here.entry))) work.old }
 {
     let last = site.next.slot == program.slots();
     let cost = cost_after(site, &here, &walk.state);
@@ -175,9 +173,9 @@ fn visit_arrival<'a, P: Code>(
 ) -> Option<Refusal>
     requires site { IsSite site.now }
     requires valid { IfSome walk.old.here (λ h. IsReaching site.now.here.slot h) }
-    ensures refusal { IsLeastIn (at site.now.here.slot (numbers_with (P.program program.now) site.now.certificate.now site.now.here.slot site.now.insn (walk_of walk.old))) (option_map flaw_of result) }
+    ensures refusal { IsLeastRefusal (flaws_with (P.program program.now) site.now.certificate.now site.now.here.slot site.now.insn (walk_of walk.old)) result }
     ensures passed { walk_of walk.new ≡ passed_with (P.program program.now) site.now.certificate.now site.now.here.slot site.now.insn (walk_of walk.old) }
-    ensures work { work.new ≡ worked_at (P.program program.now) site.now.certificate.now (visit_with site.now.here.slot site.now.insn (walk_of walk.old)) work.old }
+    ensures work { work.new ≡ worked_at (P.program program.now) site.now.certificate.now (site_visit_with site.now (walk_of walk.old)) work.old }
     ensures valid { IfSome walk.new.here (λ h. IsReaching (site.now.here.slot + slot_count site.now.insn) h) }
 {
     let Some(here) = walk.here else {
@@ -191,7 +189,7 @@ fn visit_arrival<'a, P: Code>(
 
 /// The least refusal of what is found with a state. Mostly there is none, so that is looked at first.
 fn flaw_of_state(slot: u32, judged: Judged) -> Option<Refusal>
-    ensures { IsLeastIn (at slot (fails NotEntailed judged.not_entailed) ++ at slot (fails OverBudget judged.over_budget) ++ at slot (fails FallsOff judged.past_end)) (option_map flaw_of result) }
+    ensures { IsLeastRefusal (judged_flaws slot judged) result }
 {
     let is_flawed = judged.not_entailed | judged.over_budget | judged.past_end;
     if !is_flawed {
@@ -219,7 +217,7 @@ struct Shape {
 /// The least refusal of an instruction, from the least of what is found with a state. Mostly no other condition fails, so
 /// that is looked at first.
 fn flaw_with(slot: u32, shape: Shape, refusal: Option<Refusal>) -> Option<Refusal>
-    ensures { (xs : List (ℕ × ℕ)) → IsLeastIn xs (option_map flaw_of refusal) → IsLeastIn (at slot (fails NoLabel shape.lacks_label) ++ xs ++ at slot (fails NoDeeper shape.no_deeper) ++ at slot (fails FallsOff shape.never) ++ at slot (fails LeavesFunction shape.leaves)) (option_map flaw_of result) }
+    ensures { (xs : List (ℕ × ℕ)) → IsLeastRefusal xs refusal → IsLeastRefusal (shape_flaws slot shape xs) result }
 {
     let is_flawed = shape.lacks_label | shape.no_deeper | shape.never | shape.leaves;
     if !is_flawed {
@@ -262,9 +260,9 @@ pub fn visit<'a, P: Code>(
 ) -> Option<Refusal>
     requires site { IsSite site.now }
     requires valid { IfSome walk.old.here (λ h. IsReaching site.now.here.slot h) }
-    ensures refusal { IsLeastIn (at site.now.here.slot (numbers_of_visit (P.program program.now) site.now.certificate.now (visit_of site.now.certificate.now site.now.here.slot site.now.insn (walk_of walk.old)))) (option_map flaw_of result) }
-    ensures passed { walk_of walk.new ≡ passed_with (P.program program.now) site.now.certificate.now site.now.here.slot site.now.insn (arrives site.now.certificate.now site.now.here.slot (walk_of walk.old)) }
-    ensures work { work.new ≡ worked_at (P.program program.now) site.now.certificate.now (visit_of site.now.certificate.now site.now.here.slot site.now.insn (walk_of walk.old)) work.old }
+    ensures refusal { IsLeastRefusal (visit_flaws (P.program program.now) site.now.certificate.now (site_visit_of site.now (walk_of walk.old))) result }
+    ensures passed { walk_of walk.new ≡ passed_after (P.program program.now) site.now.certificate.now site.now.here.slot site.now.insn (walk_of walk.old) }
+    ensures work { work.new ≡ worked_at (P.program program.now) site.now.certificate.now (site_visit_of site.now (walk_of walk.old)) work.old }
     ensures valid { IfSome walk.new.here (λ h. IsReaching (site.now.here.slot + slot_count site.now.insn) h) }
 {
     let never = arrive(&site.here, walk);

@@ -1,8 +1,9 @@
 -- Why a text is none of notes: the first line that isn't one.
-use Rattle.std.specs.Prelude.{◌≡◌, ◌≢◌, ◌⊎◌, ℕ, ◌+◌, List, [], ◌++◌, length as count, Option}
+use Rattle.std.specs.Prelude.{◌≡◌, ◌≢◌, ◌⊎◌, ℕ, ◌+◌, List, [], ◌++◌, length as count, Option, Result, MatchResult}
 use Rattle.bpf_insn.specs.Limits.{max_slots}
 use Rattle.bpf_follows.specs.declared.error.NotesError.{NotesError}
 use Rattle.bpf_follows.specs.declared.error.NotesError.TheVariants.{Form, Memory}
+use Rattle.bpf_follows.specs.declared.reading.NotesOfRuns.{NotesOfRuns}
 use Rattle.bpf_kept.specs.declared.bounds.Bounds.{Bounds}
 use Rattle.bpf_kept.specs.declared.notes.Note.{Note}
 use Rattle.bpf_follows.specs.NotesText.{NoteFits, RunsFit, note_line, note_lines, head_line}
@@ -40,3 +41,7 @@ refusal_number Memory = 2
 abbrev pub refusal_line : NotesError → ℕ
 refusal_line (Form line) = line
 refusal_line Memory = 0
+
+-- the notes of these runs are read, unless memory runs out
+abbrev pub AreRead : Bounds → List (Option Note) → Result NotesOfRuns NotesError → Type 0
+AreRead runs notes read = MatchResult read (λ r. (r.runs ≡ runs) × (r.notes.items ≡ notes)) (λ error. error ≡ Memory)

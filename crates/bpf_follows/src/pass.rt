@@ -10,7 +10,7 @@ ghost use Rattle.bpf_kept.specs.Matching.{left_alone, HoldsAt, StandsForExit, Ma
 ghost use Rattle.bpf_kept.specs.Mismatches.{IsFor, MatchesBeside, IsMismatch, IsLowest, IsAt};
 ghost use Rattle.bpf_kept.specs.Shown.{Keeps};
 ghost use Rattle.bpf_kept.specs.States.{States, states_of};
-ghost use Rattle.bpf_follows.specs.Stretch.{HoldFrom, FailsFrom};
+ghost use Rattle.bpf_follows.specs.Stretch.{HasStateOf, HoldHere, FailsHere};
 
 use crate::walk::{go_on, stated};
 use bpf_cert::Certificate;
@@ -35,8 +35,8 @@ fn hold_here<O: Code, N: Code>(
     requires few { count ≤ 2 }
     requires below { at.slot < max_slots }
     requires second { (n : ℕ) → 0 < n → n < count → insn_at (N.program new.now).list (at.slot + n) ≡ None }
-    ensures ok { (states : States) → states at.entry.slot ≡ option_copied at.entry.state → IsOk result → HoldFrom (O.program old.now) (N.program new.now) notes.now at.entry.bounds states at.entry.slot count }
-    ensures err { (states : States) → states at.entry.slot ≡ option_copied at.entry.state → IfErr result (FailsFrom (O.program old.now) (N.program new.now) notes.now at.entry.bounds states at.entry.slot count) }
+    ensures ok { (states : States) → HasStateOf at.entry states → IsOk result → HoldHere (O.program old.now) (N.program new.now) notes.now at.entry states count }
+    ensures err { (states : States) → HasStateOf at.entry states → IfErr result (FailsHere (O.program old.now) (N.program new.now) notes.now at.entry states count) }
 {
     judged_at(old, new, notes, at)?;
     if count == 1 {

@@ -1,13 +1,13 @@
 //! Reading notes: each line is looked at, spelled again and compared.
 
-ghost use Rattle.std.specs.Prelude.{◌≡◌, ◌⊎◌, ◌++◌, List, Option, Ok, Err, option_map, IfOk, IfErr, MatchResult};
+ghost use Rattle.std.specs.Prelude.{◌≡◌, ◌⊎◌, ◌++◌, List, Option, Ok, Err, option_map, IfOk, IfErr};
 ghost use Rattle.std.specs.List.{AllByRecursion};
 ghost use Rattle.bpf_insn.specs.Limits.{max_slots};
 ghost use Rattle.bpf_follows.specs.declared.error.NotesError.TheVariants.{Memory};
 ghost use Rattle.bpf_kept.specs.declared.bounds.Bounds.{Bounds};
 ghost use Rattle.bpf_kept.specs.declared.notes.Note.{Note};
 ghost use Rattle.bpf_follows.specs.NotesText.{AreNotes, RunsFit, WholeIfAny, notes_text};
-ghost use Rattle.bpf_follows.specs.Refused.{IsRefused};
+ghost use Rattle.bpf_follows.specs.Refused.{AreRead, IsRefused};
 ghost use Rattle.bpf_follows.specs.code.Reading.{taken_at, lines_in, head_in};
 
 use crate::error::NotesError;
@@ -102,7 +102,7 @@ pub fn read(alloc: Global, text: &[u8]) -> Result<NotesOfRuns, NotesError>
     ensures found { IfOk result (λ r. text.now ≡ notes_text r.runs r.notes.items) }
     ensures whole { IfOk result (λ r. AllByRecursion WholeIfAny r.notes.items) }
     // What is spelled so is read, unless memory runs out.
-    ensures only { (runs : Bounds) (notes : List (Option Note)) → RunsFit runs → AreNotes notes → text.now ≡ notes_text runs notes → MatchResult result (λ r. (r.runs ≡ runs) × (r.notes.items ≡ notes)) (λ error. error ≡ Memory) }
+    ensures only { (runs : Bounds) (notes : List (Option Note)) → RunsFit runs → AreNotes notes → text.now ≡ notes_text runs notes → AreRead runs notes result }
     ensures err { IfErr result (IsRefused text.now) }
 {
     let mut line = Vec::new(alloc);

@@ -3,7 +3,7 @@ use Rattle.std.specs.Prelude.{ℕ, zero, suc, List, [], ◌∷◌}
 use Rattle.bpf_insn.specs.Instruction.{Instructions}
 use Rattle.bpf_state.specs.Work.{Counts, counted}
 use Rattle.bpf_cert.specs.View.{CertificateView}
-use Rattle.bpf_safety.specs.Flow.{Visit}
+use Rattle.bpf_safety.specs.Flow.{Visit, visits}
 use Rattle.bpf_safety.specs.Flaw.{numbers_of_visit}
 use Rattle.bpf_safety.specs.Work.{compared_at, transferred_at}
 
@@ -32,3 +32,7 @@ abbrev pub worked_through : Instructions → CertificateView → List Visit → 
 worked_through p c [] work = work
 worked_through p c (v ∷ vs) work =
     if_faultless (numbers_of_visit p c v) (worked_through p c vs (worked_at p c v work)) (worked_at p c v work)
+
+-- the work of a pass over a program, up to its first visit that has a flaw
+abbrev pub worked_in_pass : Instructions → CertificateView → Counts → Counts
+worked_in_pass p c work = worked_through p c (visits p c) work

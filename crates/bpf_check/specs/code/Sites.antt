@@ -1,14 +1,14 @@
 -- An instruction in its place, with what is looked up there.
-use Rattle.std.specs.Prelude.{◌≡◌, ℕ, ◌+◌, ◌<◌, ◌≤◌, List, None, option_map, option_copied, IfSome, IsTrue}
-use Rattle.bpf_insn.specs.Instruction.{slot_count}
+use Rattle.std.specs.Prelude.{◌≡◌, ℕ, ◌+◌, ◌<◌, ◌≤◌, ℤ, List, Option, None, option_map, option_copied, IfSome, IsTrue}
+use Rattle.bpf_insn.specs.Instruction.{Instructions, slot_count}
 use Rattle.bpf_insn.specs.Limits.{greatest_slot}
-use Rattle.bpf_cert.specs.View.{CertificateView, label_view, function_view}
+use Rattle.bpf_cert.specs.View.{LabelView, CertificateView, label_view, function_view}
 use Rattle.bpf_cert.specs.Limits.{is_limited_label}
 use Rattle.bpf_safety.specs.Labels.{label_at, function_at}
 use Rattle.bpf_state.specs.State.{AbstractState}
-use Rattle.bpf_safety.specs.Flow.{Visit, callee, jump_target, jump_state}
+use Rattle.bpf_safety.specs.Flow.{Visit, callee, jump_target, jump_state, next_state}
 use Rattle.bpf_safety.specs.Flaw.{Edge, edge_to}
-use Rattle.bpf_check.specs.code.Edges.{visit}
+use Rattle.bpf_check.specs.code.Edges.{EdgeSeen, visit, edge_seen, edges_of, jump_seen, next_seen}
 use Rattle.bpf_check.specs.declared.site.Spot.{Spot}
 use Rattle.bpf_check.specs.declared.site.Callee.{Callee}
 use Rattle.bpf_check.specs.declared.site.Site.{Site}
@@ -47,3 +47,20 @@ visit_at s = visit s.here.slot s.insn
 -- the live edge of its jump, from the state after it
 abbrev pub jump_edge : Site → AbstractState → List Edge
 jump_edge s t = edge_to (jump_target s.here.slot s.insn) (jump_state s.here.slot s.insn t)
+
+-- the live edges of a site's instruction, from the state after it
+abbrev pub edges_at : Site → AbstractState → List Edge
+edges_at s t = edges_of s.certificate.now s.here.slot s.insn t
+
+-- what is seen of the edge of a site's jump, if it is one, from the state after it
+abbrev pub jump_seen_at : Site → LabelView → Option ℤ → AbstractState → Option EdgeSeen
+jump_seen_at s old cost t = jump_seen s.certificate.now old cost s.here.slot s.insn t
+
+-- what is seen of a site's edge to the next instruction, from the state after it
+abbrev pub next_seen_at : Site → LabelView → Option ℤ → AbstractState → EdgeSeen
+next_seen_at s old cost t = next_seen s.certificate.now old cost s.here.slot s.insn t
+
+-- what is seen of a site's edge to the next instruction, from the state before it
+abbrev pub next_seen_before : Instructions → Site → LabelView → Option ℤ → AbstractState → EdgeSeen
+next_seen_before p s old cost t =
+    edge_seen s.certificate.now old cost (s.here.slot + slot_count s.insn) (next_state p s.certificate.now s.here.slot s.insn t)

@@ -1,12 +1,13 @@
 -- What is seen of labels, and of the budget at the start.
-use Rattle.std.specs.Prelude.{◌≡◌, ℕ, ◌==◌, ℤ, Bool, not, ◌&&◌, ◌||◌, List, find, option_to_list, is_none, is_some, Option, option_map, option_and_then, IfSome, if◌then◌else◌}
+use Rattle.std.specs.Prelude.{◌≡◌, ℕ, ◌==◌, ℤ, Bool, not, ◌&&◌, ◌||◌, List, ◌++◌, find, option_to_list, is_none, is_some, Option, option_map, option_and_then, IfSome, if◌then◌else◌}
 use Rattle.std.specs.List.{list_any}
 use Rattle.bpf_insn.specs.Instruction.{Instructions, insn_at}
 use Rattle.bpf_state.specs.State.{tightened, first_state}
-use Rattle.bpf_cert.specs.View.{FunctionView, CertificateView, label_view, function_view}
+use Rattle.bpf_state.specs.declared.condition.Condition.TheVariants.{MisplacedLabel, OverBudget, Misshapen}
+use Rattle.bpf_cert.specs.View.{LabelView, FunctionView, CertificateView, label_view, function_view}
 use Rattle.bpf_safety.specs.Labels.{first_with, function_at, label_at}
 use Rattle.bpf_safety.specs.Budget.{budget, greatest_budget}
-use Rattle.bpf_safety.specs.Flaw.{is_bad_term, is_first_label, is_outside}
+use Rattle.bpf_safety.specs.Flaw.{at, fails, is_bad_term, is_first_label, is_outside, numbers_of_label}
 use Rattle.bpf_check.specs.LabelIndex.{are_in_place}
 use Rattle.bpf_check.specs.declared.shape.SeenLabel.{SeenLabel}
 use Rattle.bpf_check.specs.declared.standing.Standing.{Standing}
@@ -18,6 +19,15 @@ pub record IsSeenLabel (p : Instructions) (c : CertificateView) (f : FunctionVie
   pub first : s.bad ≡ find (is_bad_term (label_view s.label.now)) (label_view s.label.now).terms
   pub outside : s.is_outside ≡ is_outside c f (label_view s.label.now)
   pub empty : s.is_empty ≡ is_none (tightened s.label.now.state)
+
+-- the numbers that a label is refused by, from what is seen of it
+abbrev pub numbers_of_seen : SeenLabel → List ℕ
+numbers_of_seen s =
+    fails MisplacedLabel s.is_misplaced ++ fails OverBudget (is_some s.bad) ++ fails Misshapen (s.is_outside || s.is_empty)
+
+-- the flaws of a label of a function
+abbrev pub label_flaws : Instructions → CertificateView → FunctionView → LabelView → List (ℕ × ℕ)
+label_flaws p c f l = at l.slot (numbers_of_label p c f l)
 
 -- what a function has at a slot
 pub record IsStanding (p : Instructions) (c : CertificateView) (slot : ℕ) (s : Standing) : Type 0 where

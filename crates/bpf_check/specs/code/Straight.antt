@@ -4,7 +4,9 @@ use Rattle.bpf_insn.specs.declared.instruction.Insn.{Insn}
 use Rattle.bpf_insn.specs.Instruction.{slot_count, is_straight}
 use Rattle.bpf_insn.specs.Limits.{greatest_slot}
 use Rattle.bpf_cert.specs.View.{CertificateView}
+use Rattle.bpf_safety.specs.Flow.{Arrival, Visit}
 use Rattle.bpf_safety.specs.Labels.{label_at, function_at}
+use Rattle.bpf_check.specs.code.Visits.{visit_of}
 use Rattle.bpf_check.specs.declared.arrival.Here.{Here}
 use Rattle.bpf_check.specs.declared.straight.Step.{Step}
 
@@ -24,3 +26,7 @@ pub record IsStepFrom (c : CertificateView) (slot : ℕ) (i : Insn) (reached : O
   pub slot_is : s.slot ≡ slot
   pub insn : s.insn ≡ i
   pub here : reached ≡ Some s.reached
+
+-- the visit of a step's instruction that is reached by what was passed on
+abbrev pub step_visit_of : Step → Option Arrival → Visit
+step_visit_of s passed = visit_of s.certificate.now s.slot s.insn passed

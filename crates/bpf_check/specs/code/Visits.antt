@@ -3,17 +3,20 @@ use Rattle.std.specs.Prelude.{◌≡◌, ℕ, ◌+◌, option_and_then, List, �
 use Rattle.std.specs.Option.{option_to_list}
 use Rattle.bpf_insn.specs.declared.instruction.Insn.{Insn}
 use Rattle.bpf_insn.specs.Instruction.{Instructions, slot_count}
+use Rattle.bpf_state.specs.declared.condition.Condition.TheVariants.{NoLabel, NotEntailed, OverBudget, NoDeeper, FallsOff, LeavesFunction}
 use Rattle.bpf_state.specs.Fault.{fault_of, some_passes}
 use Rattle.bpf_state.specs.State.{tightened}
 use Rattle.bpf_safety.specs.Labels.{label_at}
 use Rattle.bpf_cert.specs.View.{CertificateView}
 use Rattle.bpf_safety.specs.Flow.{Arrival, Visit, arrives, passed_on, sound_arrival}
-use Rattle.bpf_safety.specs.Flaw.{is_negative_if, numbers_of_arrival, is_not_entailed, is_over_budget, falls_past_end}
+use Rattle.bpf_safety.specs.Flaw.{at, fails, is_negative_if, numbers_of_arrival, numbers_of_visit, is_not_entailed, is_over_budget, falls_past_end}
 use Rattle.bpf_check.specs.code.Arrivals.{walk_of, IsReaching}
 use Rattle.bpf_check.specs.code.Edges.{visit, is_unpaid, has_refused, has_unpaid}
 use Rattle.bpf_check.specs.declared.arrival.Walk.{Walk}
+use Rattle.bpf_check.specs.declared.site.Site.{Site}
 use Rattle.bpf_check.specs.declared.visit.Judged.{Judged}
 use Rattle.bpf_check.specs.declared.visit.Seen.{Seen}
+use Rattle.bpf_check.specs.declared.visit.Shape.{Shape}
 
 -- which conditions fail, from what is seen
 abbrev pub judged_of : Seen → Judged
@@ -45,9 +48,48 @@ abbrev pub numbers_with : Instructions → CertificateView → ℕ → Insn → 
 numbers_with p c slot i o =
     option_to_list (option_and_then (λ a. fault_of c.least a.state i) o) ++ numbers_of_arrival p c (visit slot i) (sound_arrival c i o)
 
+-- the flaws of an instruction that need a state
+abbrev pub flaws_with : Instructions → CertificateView → ℕ → Insn → Option Arrival → List (ℕ × ℕ)
+flaws_with p c slot i o = at slot (numbers_with p c slot i o)
+
+-- what goes on from an instruction with what reaches it
 abbrev pub passed_with : Instructions → CertificateView → ℕ → Insn → Option Arrival → Option Arrival
 passed_with p c slot i o = option_and_then (passed_on p c slot i) (sound_arrival c i o)
+
+-- what goes on from an instruction that is reached by what was passed on
+abbrev pub passed_after : Instructions → CertificateView → ℕ → Insn → Option Arrival → Option Arrival
+passed_after p c slot i passed = passed_with p c slot i (arrives c slot passed)
 
 -- no state reaches the slot, and no label there is refused for itself
 abbrev pub never_reached : CertificateView → ℕ → Option Arrival → Bool
 never_reached c slot o = is_none (arrives c slot o) && not (some_passes (λ l. is_none (tightened l.state)) (label_at c slot))
+
+-- ---- flaws
+
+-- the flaws of a visit
+abbrev pub visit_flaws : Instructions → CertificateView → Visit → List (ℕ × ℕ)
+visit_flaws p c v = at v.slot (numbers_of_visit p c v)
+
+-- the flaws at a slot, from the conditions on the state that fail
+abbrev pub judged_flaws : ℕ → Judged → List (ℕ × ℕ)
+judged_flaws slot j = at slot (fails NotEntailed j.not_entailed) ++ at slot (fails OverBudget j.over_budget) ++ at slot (fails FallsOff j.past_end)
+
+-- the flaws at a slot that need no state, with those that need one in their place
+abbrev pub shape_flaws : ℕ → Shape → List (ℕ × ℕ) → List (ℕ × ℕ)
+shape_flaws slot s judged =
+    at slot (fails NoLabel s.lacks_label) ++ judged ++ at slot (fails NoDeeper s.no_deeper) ++ at slot (fails FallsOff s.never)
+    ++ at slot (fails LeavesFunction s.leaves)
+
+-- ---- at a site
+
+-- the visit of a site's instruction with what reaches it
+abbrev pub site_visit_with : Site → Option Arrival → Visit
+site_visit_with s here = visit_with s.here.slot s.insn here
+
+-- the visit of a site's instruction that is reached by what was passed on
+abbrev pub site_visit_of : Site → Option Arrival → Visit
+site_visit_of s passed = visit_of s.certificate.now s.here.slot s.insn passed
+
+-- a site's instruction is judged so
+abbrev pub IsJudgmentAt : Instructions → Site → Arrival → Walk → Judged → Type 0
+IsJudgmentAt p s a w j = IsJudgment p s.certificate.now s.here.slot s.insn a w j

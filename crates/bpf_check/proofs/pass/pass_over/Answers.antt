@@ -1,22 +1,19 @@
 use Rattle.std.proofs.Common.{◌≡◌, ◌+◌, refl, sym, ◌∙◌}
-use Rattle.std.specs.Prelude.{option_map, IfSome}
+use Rattle.std.specs.Prelude.{IfSome}
 use Rattle.bpf_insn.specs.Instruction.{slot_count}
-use Rattle.bpf_safety.specs.Flow.{arrives}
-use Rattle.bpf_safety.specs.Flaw.{at, numbers_of_visit}
 use Rattle.bpf_check.specs.code.Arrivals.{walk_of, IsReaching}
 use Rattle.bpf_check.specs.code.Counting.{worked_at}
-use Rattle.bpf_check.specs.code.Least.{IsLeastIn}
-use Rattle.bpf_check.specs.code.Visits.{passed_with, visit_of}
-use Rattle.bpf_check.specs.RefusalNumbers.{flaw_of}
+use Rattle.bpf_check.specs.code.Least.{IsLeastRefusal}
+use Rattle.bpf_check.specs.code.Visits.{passed_after, visit_of, visit_flaws}
 use Rattle.bpf_check.proofs.PassLemmas.{along}
 use Rattle.bpf_check.proofs.StraightLemmas.{reached_so, step_spot}
 use Rattle.bpf_check.proofs.pass.pass_over.Goals as goal
 
 pub returns-in-Some-clause-refusal : goal.returns-in-Some-clause-refusal
-returns-in-Some-clause-refusal g c = along (λ k n i. IsLeastIn (at n (numbers_of_visit (g.P.Code.program c.args.program.now) k (visit_of k n i (walk_of c.args.walk.now)))) (option_map flaw_of c.visit_straight-refusal.result)) c.in-Some.step.certificate.now c.args.certificate.now c.in-Some.step.slot c.args.here.now.slot c.in-Some.step.insn c.args.insn c.in-Some.ensures.from.certificate c.in-Some.ensures.from.slot_is c.in-Some.ensures.from.insn c.visit_straight-refusal.ensures.refusal
+returns-in-Some-clause-refusal g c = along (λ k n i. IsLeastRefusal (visit_flaws (g.P.Code.program c.args.program.now) k (visit_of k n i (walk_of c.args.walk.now))) c.visit_straight-refusal.result) c.in-Some.step.certificate.now c.args.certificate.now c.in-Some.step.slot c.args.here.now.slot c.in-Some.step.insn c.args.insn c.in-Some.ensures.from.certificate c.in-Some.ensures.from.slot_is c.in-Some.ensures.from.insn c.visit_straight-refusal.ensures.refusal
 
 pub returns-in-Some-clause-passed : goal.returns-in-Some-clause-passed
-returns-in-Some-clause-passed g c = along (λ k n i. walk_of c.visit_straight-refusal.new.walk ≡ passed_with (g.P.Code.program c.args.program.now) k n i (arrives k n (walk_of c.args.walk.now))) c.in-Some.step.certificate.now c.args.certificate.now c.in-Some.step.slot c.args.here.now.slot c.in-Some.step.insn c.args.insn c.in-Some.ensures.from.certificate c.in-Some.ensures.from.slot_is c.in-Some.ensures.from.insn c.visit_straight-refusal.ensures.passed
+returns-in-Some-clause-passed g c = along (λ k n i. walk_of c.visit_straight-refusal.new.walk ≡ passed_after (g.P.Code.program c.args.program.now) k n i (walk_of c.args.walk.now)) c.in-Some.step.certificate.now c.args.certificate.now c.in-Some.step.slot c.args.here.now.slot c.in-Some.step.insn c.args.insn c.in-Some.ensures.from.certificate c.in-Some.ensures.from.slot_is c.in-Some.ensures.from.insn c.visit_straight-refusal.ensures.passed
 
 pub returns-in-Some-clause-work : goal.returns-in-Some-clause-work
 returns-in-Some-clause-work g c = along (λ k n i. c.visit_straight-refusal.new.work ≡ worked_at (g.P.Code.program c.args.program.now) k (visit_of k n i (walk_of c.args.walk.now)) c.args.work.now) c.in-Some.step.certificate.now c.args.certificate.now c.in-Some.step.slot c.args.here.now.slot c.in-Some.step.insn c.args.insn c.in-Some.ensures.from.certificate c.in-Some.ensures.from.slot_is c.in-Some.ensures.from.insn c.visit_straight-refusal.ensures.work

@@ -1,6 +1,6 @@
 use Rattle.std.proofs.Common.{◌≡◌, ℕ, true, false, List, Option, Some, None, sym, subst, rules}
 use Rattle.std.proofs.lemmas.Bool.{true≢false, false≢true}
-use Rattle.std.specs.Prelude.{option_map, is_some, IfSome}
+use Rattle.std.specs.Prelude.{is_some, IfSome}
 use Rattle.bpf_insn.specs.declared.instruction.Insn.{Insn}
 use Rattle.bpf_insn.specs.Instruction.{Instructions, insn_at}
 use Rattle.bpf_cert.specs.View.{CertificateView}
@@ -8,23 +8,23 @@ use Rattle.bpf_safety.specs.Flow.{Arrival, visits}
 use Rattle.std.specs.List.{flat_map}
 use Rattle.bpf_check.specs.declared.refusal.Refusal.{Refusal}
 use Rattle.bpf_check.specs.code.Arrivals.{walk_of, IsReaching}
-use Rattle.bpf_check.specs.code.Least.{IsLeastIn}
+use Rattle.bpf_check.specs.code.Least.{IsLeastIn, IsLeastRefusal}
 use Rattle.bpf_check.specs.RefusalNumbers.{flaw_of}
 use Rattle.bpf_state.specs.Work.{Counts}
-use Rattle.bpf_check.specs.code.Counting.{worked_at, worked_through}
-use Rattle.bpf_check.specs.code.Visits.{visit_of}
-use Rattle.bpf_check.proofs.PassLemmas.{IsAt, flaws_of, at_next, at_flaw, work_at_flaw, at_last, work_at_last}
+use Rattle.bpf_check.specs.code.Counting.{worked_at, worked_in_pass}
+use Rattle.bpf_check.specs.code.Visits.{visit_of, visit_flaws}
+use Rattle.bpf_check.proofs.PassLemmas.{IsAt, at_next, at_flaw, work_at_flaw, at_last, work_at_last}
 use Rattle.bpf_check.proofs.pass.visit_flaw.Goals as goal
 
-refused_here : (p : Instructions) (c : CertificateView) (first : Counts) (slot : ℕ) (o : Option Arrival) (work : Counts) (i : Insn) (r : Option Refusal) → IsAt p c first slot o work → Some i ≡ insn_at p.list slot → is_some r ≡ true → IsLeastIn (flaws_of p c (visit_of c slot i o)) (option_map flaw_of r) → IsLeastIn (flat_map (flaws_of p c) (visits p c)) (option_map flaw_of r)
+refused_here : (p : Instructions) (c : CertificateView) (first : Counts) (slot : ℕ) (o : Option Arrival) (work : Counts) (i : Insn) (r : Option Refusal) → IsAt p c first slot o work → Some i ≡ insn_at p.list slot → is_some r ≡ true → IsLeastRefusal (visit_flaws p c (visit_of c slot i o)) r → IsLeastRefusal (flat_map (visit_flaws p c) (visits p c)) r
 refused_here p c first slot o work i None w stand some h = absurd (false≢true some)
 refused_here p c first slot o work i (Some r) w stand some h = at_flaw p c first slot o work i (flaw_of r) w stand h
 
-worked_here : (p : Instructions) (c : CertificateView) (first : Counts) (slot : ℕ) (o : Option Arrival) (work work' : Counts) (i : Insn) (r : Option Refusal) → IsAt p c first slot o work → Some i ≡ insn_at p.list slot → is_some r ≡ true → IsLeastIn (flaws_of p c (visit_of c slot i o)) (option_map flaw_of r) → work' ≡ worked_at p c (visit_of c slot i o) work → work' ≡ worked_through p c (visits p c) first
+worked_here : (p : Instructions) (c : CertificateView) (first : Counts) (slot : ℕ) (o : Option Arrival) (work work' : Counts) (i : Insn) (r : Option Refusal) → IsAt p c first slot o work → Some i ≡ insn_at p.list slot → is_some r ≡ true → IsLeastRefusal (visit_flaws p c (visit_of c slot i o)) r → work' ≡ worked_at p c (visit_of c slot i o) work → work' ≡ worked_in_pass p c first
 worked_here p c first slot o work work' i None w stand some h counts = absurd (false≢true some)
 worked_here p c first slot o work work' i (Some r) w stand some h counts = work_at_flaw p c first slot o work work' i (flaw_of r) w stand h counts
 
-not_refused : (xs : List (ℕ × ℕ)) (r : Option Refusal) → is_some r ≡ false → IsLeastIn xs (option_map flaw_of r) → IsLeastIn xs None
+not_refused : (xs : List (ℕ × ℕ)) (r : Option Refusal) → is_some r ≡ false → IsLeastRefusal xs r → IsLeastIn xs None
 not_refused xs None none h = h
 not_refused xs (Some r) none h = absurd (true≢false none)
 
