@@ -23,18 +23,19 @@ use Rattle.bpf_command.specs.declared.request.certifying.Certifying.{Certifying}
 use Rattle.bpf_answers.specs.Opened.{Opening}
 use Rattle.bpf_answers.specs.declared.answer.Answer.{Answer}
 use Rattle.bpf_answers.specs.declared.answer.Answer.TheVariants.{NoImage as ImageAnswer, NotHardened, NotShown, TooDear, Uncertified, Certified as IsCertified}
+use Rattle.bpf_command.specs.declared.commands.texts.SideTexts.{SideTexts}
 use Rattle.bpf_command.specs.declared.commands.certify.Assessed.{Assessed}
 use Rattle.bpf_command.specs.declared.commands.certify.Assessment.{Assessment}
 use Rattle.bpf_command.specs.declared.commands.certify.Assessment.TheVariants.{NoImage, Refused, Passed}
 use Rattle.bpf_answers.specs.Both.{NotPutBoth, Pairing, Putting}
-use Rattle.bpf_answers.specs.Both.Put.{Both, Neither, FirstAlone}
+use Rattle.bpf_answers.specs.Both.Put.{Both}
 use Rattle.bpf_answers.specs.Loaded.{ImageFails, ImageRefused, LoadsImage, OpensFirst, Tried}
 use Rattle.bpf_answers.specs.declared.certified.Certification.{Certification}
 use Rattle.bpf_answers.specs.declared.certified.Rewriting.{Rewriting}
 use Rattle.bpf_answers.specs.declared.failure.Failure.{Failure}
 use Rattle.bpf_answers.specs.declared.failure.Failure.TheVariants.{CannotRead, CannotWrite, NoMemory}
 use Rattle.bpf_command.specs.Explained.{LinesAt, LinesFail}
-use Rattle.bpf_command.specs.Texts.{NamedTexts, TextsFail, TextsStand, notes_and_changes}
+use Rattle.bpf_command.specs.Texts.{NamedTexts, TextsFail, TextsStand, beside_texts, notes_and_changes}
 use Rattle.bpf_command.specs.Names.{behind_lines}
 
 -- ---- what is asked for
@@ -116,6 +117,10 @@ noted_for length (Some r) notes = notes_text (runs_told length r) notes
 abbrev pub noted_text : Certification → Notes → List ℕ
 noted_text told notes = noted_for told.length told.rewriting notes
 
+-- the text of the notes of what was certified, for contexts of this length
+abbrev pub notes_told : Certifying → ℕ → Certified → List ℕ
+notes_told c length d = noted_text (told_of c length d) (notes_of d.rewritten)
+
 -- OUT holds the image and CERT the certificate's text, and then the texts stand at their names
 abbrev pub AllPut : {S : Type 0} → Putting S → S → Certifying → Instructions → CertificateView → NamedTexts → S → Type 0
 AllPut {S} w old c made certificate texts new =
@@ -136,6 +141,14 @@ NotAllPut {S} w old c made certificate texts new failure =
     NoPair w.pairs old c made certificate new failure
     ⊎ ((between : S) × w.pairs old c.output.now (image made.order made.list) c.certificate.now (certificate_text certificate) Both between
     × TextsFail w.makes between texts new failure)
+
+-- image, certificate and the texts beside them stand at their names, and the status is 0
+abbrev pub IsPutBeside : {S : Type 0} → Putting S → S → Certifying → Instructions → CertificateView → SideTexts → S → ℕ → Type 0
+IsPutBeside w old c made certificate beside new = IsAllPut w old c made certificate (beside_texts (hardening_of c) beside) new
+
+-- not all of them stand there, for this reason
+abbrev pub NotPutBeside : {S : Type 0} → Putting S → S → Certifying → Instructions → CertificateView → SideTexts → S → Failure → Type 0
+NotPutBeside w old c made certificate beside new = NotAllPut w old c made certificate (beside_texts (hardening_of c) beside) new
 
 -- ---- the answers
 

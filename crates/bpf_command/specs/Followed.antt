@@ -7,6 +7,7 @@ use Rattle.bpf_kept.specs.Shown.{Keeps}
 use Rattle.bpf_kept.specs.declared.bounds.Bounds.{Bounds}
 use Rattle.bpf_check.specs.CheckedProgram.{CheckedProgram}
 use Rattle.bpf_command.specs.declared.request.following.Following.{Following}
+use Rattle.bpf_command.specs.declared.commands.follows.NotedPair.{NotedPair}
 use Rattle.bpf_answers.specs.Opened.{Opening}
 use Rattle.bpf_answers.specs.Loaded.{CertificateFails, ImageFails, ImageRefused, LoadsImage}
 use Rattle.bpf_answers.specs.Notes.{LoadsNotes, NotesFail, NotesRefused}
@@ -24,6 +25,10 @@ ShownSays p runs notes k (NotFollowed m) = IsMismatch p k.program notes k.certif
 ShownSays p runs notes k (Follows bounds turns bound) =
     (bounds ≡ runs) × (turns ≡ shown_turns notes runs.turns) × (bound ≡ k.certificate.steps) × Keeps p k.program notes runs × MatchesBeside p k.program notes k.certificate runs
 ShownSays p runs notes k answer = ⊥
+
+-- what the notes that were read for some runs say of a pair of programs
+abbrev pub PairSays : NotedPair → CheckedProgram → Answer → Type 0
+PairSays pair = ShownSays pair.old.now pair.noted.now.runs pair.noted.now.notes.items
 
 -- Of two programs: why the text of notes is refused, or what is said of the notes and the certificate. The notes are judged before the certificate's name
 -- is opened.

@@ -1,5 +1,6 @@
 -- What is hardened, and what is put at the names of the answer.
 use Rattle.std.specs.Prelude.{◌≡◌, ◌⊎◌, ◌<◌, ◌&&◌, ◌++◌, ℕ, List, [], Bool, true, false, Option, Some, None, IfSome, IfNone, IsSome, is_none, unwrap_or, ⊤}
+use Rattle.std.specs.String.{string_bytes}
 use Rattle.bpf_insn.specs.Instruction.{Instructions, slots}
 use Rattle.bpf_insn.specs.Image.{IsProgram, image}
 use Rattle.bpf_cert.specs.View.{CertificateView}
@@ -11,6 +12,8 @@ use Rattle.bpf_kept.specs.declared.mismatch.Mismatch.{Mismatch}
 use Rattle.bpf_kept.specs.declared.mismatch.Mismatch.TheVariants.{Order, Start, At, TooMany, Length, NoExit}
 use Rattle.bpf_follows.specs.NotesText.{notes_text}
 use Rattle.bpf_certify.specs.Evidence.{Fails, IsEvidence}
+use Rattle.bpf_certify.specs.declared.evidence.Evidence.{Evidence}
+use Rattle.bpf_infer_base.specs.declared.hardened.Hardened.{Hardened as HardenedProgram}
 use Rattle.bpf_infer_base.specs.HardenNumbers.{harden_slot}
 use Rattle.bpf_command.specs.declared.request.hardening.Hardening.{Hardening}
 use Rattle.bpf_answers.specs.Opened.{Opening}
@@ -22,6 +25,7 @@ use Rattle.bpf_command.specs.declared.commands.harden.Attempt.{Attempt}
 use Rattle.bpf_command.specs.declared.commands.harden.Attempt.TheVariants.{NoImage, NotHardened, NotShown, Hardened}
 use Rattle.bpf_command.specs.declared.commands.harden.KeptMeaning.{KeptMeaning}
 use Rattle.bpf_command.specs.declared.commands.harden.UnshownMeaning.{UnshownMeaning}
+use Rattle.bpf_command.specs.declared.commands.texts.SideTexts.{SideTexts}
 use Rattle.bpf_command.specs.declared.commands.harden.UnshownMeaning.TheVariants.{Memory as NoSpace, Differs}
 use Rattle.bpf_answers.specs.declared.failure.Failure.{Failure}
 use Rattle.bpf_answers.specs.declared.failure.Failure.TheVariants.{CannotRead, CannotWrite, NoMemory}
@@ -38,11 +42,19 @@ found_text (Some c) = certificate_text c
 abbrev pub texts_of : Hardening → Option CertificateView → (notes changes : List ℕ) → NamedTexts
 texts_of h found notes changes = named h.certificate (found_text found) ++ notes_and_changes h notes changes
 
+-- the certificate's text, and then the texts that go beside an image
+abbrev pub texts_behind : Hardening → Option CertificateView → SideTexts → NamedTexts
+texts_behind h found beside = texts_of h found beside.notes.items (string_bytes beside.changes)
+
 -- ---- what is shown
 
 -- the contexts and the turns for which it is hardened, and how many of the lowest bytes of each frame the old program leaves to r10
 abbrev pub bounds_of : Hardening → ℕ → Bounds
 bounds_of h untouched = record { length = h.length; padded = h.padded; turns = h.turns; untouched = untouched }
+
+-- the notes that were found show that a hardened program keeps the meaning on the runs that are asked for, or this fails of them
+abbrev pub IsEvidenceFor : Instructions → HardenedProgram → Hardening → Evidence → Type 0
+IsEvidenceFor program made h found = IsEvidence program made.program made.certificate found.notes.items (bounds_of h found.untouched) found.mismatch
 
 -- how many are asked for: none, unless it is said
 abbrev pub asked_bytes : Hardening → ℕ

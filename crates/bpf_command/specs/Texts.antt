@@ -1,10 +1,12 @@
 -- Texts that are put at names, one after the other.
 use Rattle.std.specs.Prelude.{◌≡◌, ◌⊎◌, ℕ, List, [], ◌∷◌, ◌++◌, true, Option, Some, None}
 use Rattle.std.specs.Borrow.{Bor}
+use Rattle.std.specs.String.{string_bytes}
 use Rattle.bpf_answers.specs.Made.{Making}
 use Rattle.bpf_answers.specs.Both.{NotPut}
 use Rattle.bpf_answers.specs.declared.failure.Failure.{Failure}
 use Rattle.bpf_command.specs.declared.request.hardening.Hardening.{Hardening}
+use Rattle.bpf_command.specs.declared.commands.texts.SideTexts.{SideTexts}
 
 -- names, each with the text that is to stand there
 abbrev pub NamedTexts : Type 0
@@ -19,10 +21,18 @@ named (Some name) text = (name, text) ∷ []
 abbrev pub notes_and_changes : Hardening → (notes changes : List ℕ) → NamedTexts
 notes_and_changes h notes changes = named h.notes notes ++ named h.changes changes
 
+-- the texts of notes and changes that go beside an image
+abbrev pub beside_texts : Hardening → SideTexts → NamedTexts
+beside_texts h beside = notes_and_changes h beside.notes.items (string_bytes beside.changes)
+
 -- each came to stand at its name
 abbrev pub TextsStand : {S : Type 0} → Making S → S → NamedTexts → S → Type 0
 TextsStand making old [] new = new ≡ old
 TextsStand {S} making old (t ∷ texts) new = (between : S) × making old t.0.now t.1 true between × TextsStand making between texts new
+
+-- each came to stand at its name, and the status is 0
+abbrev pub PutTexts : {S : Type 0} → Making S → S → NamedTexts → S → ℕ → Type 0
+PutTexts making old texts new = λ status. (status ≡ 0) × TextsStand making old texts new
 
 -- one couldn't be put at its name, and those in front of it stand
 abbrev pub TextsFail : {S : Type 0} → Making S → S → NamedTexts → S → Failure → Type 0

@@ -4,10 +4,7 @@ ghost use Rattle.std.specs.Prelude.{◌≡◌, ◌≤◌, IfOk, IfErr, IfSome, f
 ghost use Rattle.bpf_insn.specs.Limits.{max_context};
 ghost use Rattle.bpf_certify.specs.Certified.{Answers as IsAnswer, IsRefused};
 ghost use Rattle.bpf_answers.specs.Both.{putting};
-ghost use Rattle.bpf_command.specs.CommandLine.{hardening_of};
-ghost use Rattle.std.specs.String.{string_bytes};
-ghost use Rattle.bpf_command.specs.Certified.{CertifyFails, CertifySays, CertifyWithFails, CertifyWithSays, IsAllPut, NotAllPut, NotCertified, NotCertifiedWith, assessment_answer, made_of, noted_text, notes_of, refused_as, retold, rewriting_of, runs_told, told_of, wish_of};
-ghost use Rattle.bpf_command.specs.Texts.{notes_and_changes};
+ghost use Rattle.bpf_command.specs.Certified.{CertifyFails, CertifySays, CertifyWithFails, CertifyWithSays, IsPutBeside, NotCertified, NotCertifiedWith, NotPutBeside, assessment_answer, made_of, notes_told, refused_as, retold, rewriting_of, runs_told, told_of, wish_of};
 
 use crate::commands::explain::lines_at;
 use crate::commands::texts::{SideTexts, changes_of, put_beside, text_of};
@@ -148,7 +145,7 @@ fn beside_of(
     length: u32,
     certified: &Certified,
 ) -> Result<SideTexts, AllocError>
-    ensures { IfOk result (λ beside. IfSome asked.entry.notes (λ _. beside.notes.items ≡ noted_text (told_of asked.entry length certified.now) (notes_of certified.now.rewritten))) }
+    ensures { IfOk result (λ beside. IfSome asked.entry.notes (λ _. beside.notes.items ≡ notes_told asked.entry length certified.now)) }
 {
     let Some(rewritten) = &certified.rewritten else {
         return Ok(SideTexts {
@@ -170,10 +167,8 @@ fn put_all<'a, P: Places>(
     certificate: &Certificate,
     beside: &SideTexts,
 ) -> Result<u8, Failure<'a>>
-    ensures ok { IfOk result (IsAllPut (putting P.creates P.ends P.Writer.contents) places.old asked.entry made.now certificate.now
-        (notes_and_changes (hardening_of asked.entry) beside.now.notes.items (string_bytes beside.now.changes)) places.new) }
-    ensures err { IfErr result (NotAllPut (putting P.creates P.ends P.Writer.contents) places.old asked.entry made.now certificate.now
-        (notes_and_changes (hardening_of asked.entry) beside.now.notes.items (string_bytes beside.now.changes)) places.new) }
+    ensures ok { IfOk result (IsPutBeside (putting P.creates P.ends P.Writer.contents) places.old asked.entry made.now certificate.now beside.now places.new) }
+    ensures err { IfErr result (NotPutBeside (putting P.creates P.ends P.Writer.contents) places.old asked.entry made.now certificate.now beside.now places.new) }
 {
     put_both(places, asked.output, made, asked.certificate, certificate)?;
     put_beside(places, asked.hardening(), beside)
@@ -196,7 +191,7 @@ fn found_for(
     requires { length ≤ max_context }
     ensures ok { IfOk result (λ f. IsAnswer program.now length (wish_of asked.entry) f.certified) }
     ensures shown { asked.entry.unproved ≡ false → IfOk result (λ f. IfSome f.certified.rewritten (λ r. IsTrue r.is_shown)) }
-    ensures notes { IfOk result (λ f. IfSome asked.entry.notes (λ _. f.beside.notes.items ≡ noted_text (told_of asked.entry length f.certified) (notes_of f.certified.rewritten))) }
+    ensures notes { IfOk result (λ f. IfSome asked.entry.notes (λ _. f.beside.notes.items ≡ notes_told asked.entry length f.certified)) }
     ensures err { IfErr result (IsRefused program.now length (wish_of asked.entry)) }
 {
     let _slots = Code::slots(program);

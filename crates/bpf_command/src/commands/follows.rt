@@ -4,7 +4,7 @@ ghost use Rattle.std.specs.Prelude.{IfOk, IfErr, ◌∷◌, []};
 ghost use Rattle.bpf_check.specs.CheckedProgram.{IsCertifiedBy, checked};
 ghost use Rattle.bpf_answers.specs.Loaded.{CertificateFails, OpensFirst};
 ghost use Rattle.bpf_answers.specs.Told.{IsQuiet};
-ghost use Rattle.bpf_command.specs.Followed.{FollowsFails, FollowsSays, NotedFails, NotedSays, RewrittenFails, RewrittenSays, ShownSays};
+ghost use Rattle.bpf_command.specs.Followed.{FollowsFails, FollowsSays, NotedFails, NotedSays, PairSays, RewrittenFails, RewrittenSays};
 ghost use Rattle.bpf_command.specs.Printed.{JudgedSays};
 
 use crate::request::Following;
@@ -27,8 +27,7 @@ struct NotedPair<'a> {
 /// Whether the notes beside a certificate of the new program show that it keeps the meaning of the old one.
 fn shown(pair: NotedPair<'_>, certificate: &Certificate) -> Answer
     requires { IsCertifiedBy pair.new.now certificate.now }
-    ensures { ShownSays pair.entry.old.now pair.entry.noted.now.runs pair.entry.noted.now.notes.items
-        (checked pair.entry.new.now certificate.now) result }
+    ensures { PairSays pair.entry (checked pair.entry.new.now certificate.now) result }
 {
     let noted = pair.noted;
     match follows(pair.old, pair.new, &noted.notes, certificate, noted.runs) {
@@ -49,8 +48,7 @@ fn beside<'a, P: Places>(
     certificate: &'a str,
     pair: NotedPair<'_>,
 ) -> Result<Answer, Failure<'a>>
-    ensures ok { IfOk result (JudgedSays P.opens places.old certificate.entry.now places.new pair.entry.new.now
-        (ShownSays pair.entry.old.now pair.entry.noted.now.runs pair.entry.noted.now.notes.items)) }
+    ensures ok { IfOk result (JudgedSays P.opens places.old certificate.entry.now places.new pair.entry.new.now (PairSays pair.entry)) }
     ensures err { IfErr result (CertificateFails P.opens places.old certificate.entry.now places.new) }
     ensures quiet { IfErr result IsQuiet }
     ensures opened { OpensFirst P.opens (certificate.entry.now ∷ []) places.old places.new }

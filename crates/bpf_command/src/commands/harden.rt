@@ -1,14 +1,12 @@
 //! `bpf harden IN LEN OUT`.
 
 ghost use Rattle.std.specs.Prelude.{◌≡◌, ◌<◌, IfOk, IfErr, IfSome, IsSome, None, false};
-ghost use Rattle.std.specs.String.{string_bytes};
 ghost use Rattle.bpf_insn.specs.Instruction.{slots};
 ghost use Rattle.bpf_insn.specs.Image.{IsProgram};
 ghost use Rattle.bpf_infer_base.specs.HardenNumbers.{harden_slot};
 ghost use Rattle.bpf_kept.specs.Matching.{shown_turns};
-ghost use Rattle.bpf_certify.specs.Evidence.{IsEvidence};
-ghost use Rattle.bpf_command.specs.Hardened.{AreLeft, HardenFails, HardenSays, IsLeftSaid, IsNoted, IsUnshown, NotAllMade, asked_bytes, attempt_answer, bounds_of, found_text, goes_out, texts_of};
-ghost use Rattle.bpf_command.specs.Texts.{TextsFail, TextsStand, named};
+ghost use Rattle.bpf_command.specs.Hardened.{AreLeft, HardenFails, HardenSays, IsEvidenceFor, IsLeftSaid, IsNoted, IsUnshown, NotAllMade, asked_bytes, attempt_answer, bounds_of, found_text, goes_out, texts_behind};
+ghost use Rattle.bpf_command.specs.Texts.{PutTexts, TextsFail, named};
 ghost use Rattle.bpf_answers.specs.Made.{making};
 
 use crate::commands::texts::{SideTexts, changes_of, put_beside, put_if, text_of};
@@ -157,7 +155,7 @@ fn evidence(
 ) -> Result<Evidence, AllocError>
     ensures left { IfOk result (λ found. AreLeft asked.entry found.untouched) }
     ensures all { IfOk result (λ found. IfSome found.mismatch (λ _. found.untouched ≡ asked_bytes asked.entry)) }
-    ensures exact { IfOk result (λ found. IsEvidence program.now hardened.now.program hardened.now.certificate found.notes.items (bounds_of asked.entry found.untouched) found.mismatch) }
+    ensures exact { IfOk result (IsEvidenceFor program.now hardened.now asked.entry) }
 {
     match asked.untouched {
         None if is_free(asked) => evidence_of(alloc, program, hardened, bounds_of(asked, 0)),
@@ -206,7 +204,7 @@ fn shown(
     asked: Hardening<'_>,
 ) -> Result<Evidence, UnshownMeaning>
     ensures left { IfOk result (λ found. AreLeft asked.entry found.untouched) }
-    ensures kept { IfOk result (λ found. IsEvidence program.now hardened.now.program hardened.now.certificate found.notes.items (bounds_of asked.entry found.untouched) found.mismatch) }
+    ensures kept { IfOk result (IsEvidenceFor program.now hardened.now asked.entry) }
     ensures proved { IfOk result (λ found. asked.entry.unproved ≡ false → found.mismatch ≡ None) }
     ensures there { IfOk result (λ _. IfSome asked.entry.certificate (λ _. IsSome hardened.now.certificate)) }
     ensures err { IfErr result (IsUnshown program.now hardened.now.program asked.entry) }
@@ -264,7 +262,7 @@ fn put_found<'a, P: Places>(
     hardened: &Hardened,
 ) -> Result<u8, Failure<'a>>
     requires { IfSome name (λ _. IsSome hardened.now.certificate) }
-    ensures ok { IfOk result (λ status. (status ≡ 0) × TextsStand (making P.creates P.ends P.Writer.contents) places.old
+    ensures ok { IfOk result (PutTexts (making P.creates P.ends P.Writer.contents) places.old
         (named name.entry (found_text hardened.now.certificate)) places.new) }
     ensures err { IfErr result (TextsFail (making P.creates P.ends P.Writer.contents) places.old
         (named name.entry (found_text hardened.now.certificate)) places.new) }
@@ -283,10 +281,10 @@ fn put_texts<'a, P: Places>(
     beside: &SideTexts,
 ) -> Result<u8, Failure<'a>>
     requires { IfSome asked.certificate (λ _. IsSome hardened.now.certificate) }
-    ensures ok { IfOk result (λ status. (status ≡ 0) × TextsStand (making P.creates P.ends P.Writer.contents) places.old
-        (texts_of asked.entry hardened.now.certificate beside.now.notes.items (string_bytes beside.now.changes)) places.new) }
+    ensures ok { IfOk result (PutTexts (making P.creates P.ends P.Writer.contents) places.old
+        (texts_behind asked.entry hardened.now.certificate beside.now) places.new) }
     ensures err { IfErr result (TextsFail (making P.creates P.ends P.Writer.contents) places.old
-        (texts_of asked.entry hardened.now.certificate beside.now.notes.items (string_bytes beside.now.changes)) places.new) }
+        (texts_behind asked.entry hardened.now.certificate beside.now) places.new) }
 {
     put_found(places, asked.certificate, hardened)?;
     put_beside(places, asked, beside)

@@ -5,7 +5,7 @@ ghost use Rattle.bpf_answers.specs.Loaded.{CertificateFails, OpensFirst};
 ghost use Rattle.bpf_answers.specs.Told.{IsQuiet};
 ghost use Rattle.bpf_command.specs.Printed.{JudgedSays, ResultSays, WishSays, YesSays};
 ghost use Rattle.bpf_command.specs.Noted.{noted_in};
-ghost use Rattle.bpf_command.specs.Given.{JudgedEachFails, JudgedEachLeaves, JudgedEachSays};
+ghost use Rattle.bpf_command.specs.Given.{NotedLinesFail, NotedLinesLeave, NotedLinesSay};
 
 use crate::commands::noted::is_trapped;
 use crate::request::CheckedRunning;
@@ -139,11 +139,9 @@ pub fn judged_each<'a, P: Places, C: Code, W: Write>(
     running: NotedRunning<'a, '_>,
     contexts: &'a str,
 ) -> Result<Reply, Failure<'a>>
-    ensures ok { IfOk result (JudgedEachSays P.opens places.old running.entry.asked (noted_in running.entry.notes) contexts.entry places.new (C.program program.now)
-        (W.contents out.old) (W.contents out.new)) }
-    ensures err { IfErr result (JudgedEachFails P.opens places.old running.entry.asked (noted_in running.entry.notes) contexts.entry places.new (C.program program.now)
-        (W.contents out.old) (W.contents out.new)) }
-    ensures begun { IfErr result (λ _. JudgedEachLeaves P.opens places.old running.entry.asked (noted_in running.entry.notes) contexts.entry places.new (C.program program.now)
+    ensures ok { IfOk result (NotedLinesSay P.opens places.old running.entry contexts.entry places.new (C.program program.now) (W.contents out.old) (W.contents out.new)) }
+    ensures err { IfErr result (NotedLinesFail P.opens places.old running.entry contexts.entry places.new (C.program program.now) (W.contents out.old) (W.contents out.new)) }
+    ensures begun { IfErr result (λ _. NotedLinesLeave P.opens places.old running.entry contexts.entry places.new (C.program program.now)
         (W.contents out.old) (W.contents out.new)) }
     ensures opened { OpensFirst P.opens (running.entry.asked.certificate.now ∷ contexts.entry.now ∷ []) places.old places.new }
 {

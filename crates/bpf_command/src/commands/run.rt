@@ -7,7 +7,7 @@ ghost use Rattle.bpf_answers.specs.Loaded.{ImageFails, OpensFirst};
 ghost use Rattle.bpf_command.specs.RunNames.{names_run, names_run_on};
 ghost use Rattle.bpf_command.specs.Noted.{noted_in};
 ghost use Rattle.bpf_command.specs.Printed.{FailsWith, OutcomeSays};
-ghost use Rattle.bpf_command.specs.Given.{FailsBehind, OnNamed, OnWord, OneRunSays, RunEachFails, RunEachLeaves, RunEachSays, RunFails, RunLeaves, RunOnFails, RunOnLeaves, RunOnSays, RunSays, BesideNotes, FailsBesideNotes, LeavesBesideNotes};
+ghost use Rattle.bpf_command.specs.Given.{FailsBehind, OnNamed, OnWord, OneRunSays, RunBesideFails, RunBesideLeaves, RunBesideSays, RunEachFails, RunEachLeaves, RunEachSays, RunFails, RunGivenFails, RunGivenLeaves, RunGivenSays, RunLeaves, RunSays};
 
 use crate::commands::tracer::Tracer;
 use crate::request::{Contexts, Running};
@@ -163,10 +163,9 @@ fn ran_each<'a, P: Places, W: Write, T: Tracer>(
     asked: Running<'a>,
     contexts: &'a str,
 ) -> Result<Reply, Failure<'a>>
-    ensures ok { IfOk result (RunEachSays P.opens places.old asked.entry (noted_in teller.now.notes) contexts.entry.now places.new (W.contents out.old) (W.contents out.new)) }
-    ensures err { IfErr result (RunEachFails P.opens places.old asked.entry (noted_in teller.now.notes) contexts.entry.now places.new (W.contents out.old) (W.contents out.new)) }
-    ensures begun { IfErr result (λ _. RunEachLeaves P.opens places.old asked.entry (noted_in teller.now.notes) contexts.entry.now places.new
-        (W.contents out.old) (W.contents out.new)) }
+    ensures ok { IfOk result (RunEachSays P.opens places.old asked.entry (noted_in teller.now.notes) contexts.entry places.new (W.contents out.old) (W.contents out.new)) }
+    ensures err { IfErr result (RunEachFails P.opens places.old asked.entry (noted_in teller.now.notes) contexts.entry places.new (W.contents out.old) (W.contents out.new)) }
+    ensures begun { IfErr result (λ _. RunEachLeaves P.opens places.old asked.entry (noted_in teller.now.notes) contexts.entry places.new (W.contents out.old) (W.contents out.new)) }
     ensures opened { OpensFirst P.opens (asked.entry.input.now ∷ contexts.entry.now ∷ []) places.old places.new }
 {
     let program = match program_at(alloc, places, asked.input, asked.order)? {
@@ -192,12 +191,9 @@ fn ran_given<'a, P: Places, W: Write, T: Tracer>(
     teller: &TrapTeller<'_, '_, T>,
     asked: Running<'a>,
 ) -> Result<Reply, Failure<'a>>
-    ensures ok { IfOk result (RunOnSays P.opens places.old asked.entry (noted_in teller.now.notes) asked.entry.contexts places.new
-        (W.contents out.old) (W.contents out.new)) }
-    ensures err { IfErr result (RunOnFails P.opens places.old asked.entry (noted_in teller.now.notes) asked.entry.contexts places.new
-        (W.contents out.old) (W.contents out.new)) }
-    ensures begun { IfErr result (λ _. RunOnLeaves P.opens places.old asked.entry (noted_in teller.now.notes) asked.entry.contexts places.new
-        (W.contents out.old) (W.contents out.new)) }
+    ensures ok { IfOk result (RunGivenSays P.opens places.old asked.entry (noted_in teller.now.notes) places.new (W.contents out.old) (W.contents out.new)) }
+    ensures err { IfErr result (RunGivenFails P.opens places.old asked.entry (noted_in teller.now.notes) places.new (W.contents out.old) (W.contents out.new)) }
+    ensures begun { IfErr result (λ _. RunGivenLeaves P.opens places.old asked.entry (noted_in teller.now.notes) places.new (W.contents out.old) (W.contents out.new)) }
     ensures opened { OpensFirst P.opens (names_run_on asked.entry.input.now asked.entry.contexts) places.old places.new }
 {
     match asked.contexts {
@@ -224,12 +220,9 @@ fn ran_noted<'a, P: Places, W: Write, T: Tracer>(
     asked: Running<'a>,
     notes: &'a str,
 ) -> Result<Reply, Failure<'a>>
-    ensures ok { IfOk result (BesideNotes P.opens places.old (Some notes.entry) places.new (λ between noted. RunOnSays P.opens between asked.entry noted asked.entry.contexts places.new)
-        (W.contents out.old) (W.contents out.new)) }
-    ensures err { IfErr result (FailsBesideNotes P.opens places.old (Some notes.entry) places.new
-        (λ between noted. RunOnFails P.opens between asked.entry noted asked.entry.contexts places.new (W.contents out.old) (W.contents out.new))) }
-    ensures begun { IfErr result (λ _. LeavesBesideNotes P.opens places.old (Some notes.entry) places.new
-        (λ between noted. RunOnLeaves P.opens between asked.entry noted asked.entry.contexts places.new) (W.contents out.old) (W.contents out.new)) }
+    ensures ok { IfOk result (RunBesideSays P.opens places.old asked.entry (Some notes.entry) places.new (W.contents out.old) (W.contents out.new)) }
+    ensures err { IfErr result (RunBesideFails P.opens places.old asked.entry (Some notes.entry) places.new (W.contents out.old) (W.contents out.new)) }
+    ensures begun { IfErr result (λ _. RunBesideLeaves P.opens places.old asked.entry (Some notes.entry) places.new (W.contents out.old) (W.contents out.new)) }
     ensures opened { OpensFirst P.opens (notes.entry.now ∷ names_run_on asked.entry.input.now asked.entry.contexts) places.old places.new }
 {
     let noted = match notes_at(alloc, places, notes)? {

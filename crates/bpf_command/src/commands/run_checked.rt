@@ -4,8 +4,7 @@
 ghost use Rattle.std.specs.Prelude.{Some, IfOk, IfErr, ◌∷◌, []};
 ghost use Rattle.bpf_answers.specs.Loaded.{OpensFirst};
 ghost use Rattle.bpf_command.specs.RunNames.{names_checked, names_checked_on};
-ghost use Rattle.bpf_command.specs.Noted.{noted_in};
-ghost use Rattle.bpf_command.specs.Given.{BesideNotes, CheckedEachFails, CheckedEachLeaves, CheckedEachSays, CheckedFails, CheckedLeaves, CheckedOnFails, CheckedOnLeaves, CheckedOnSays, CheckedSays, FailsBehind, FailsBesideNotes, LeavesBesideNotes, OnNamed, OnWord, OneCheckedFails, OneCheckedSays};
+ghost use Rattle.bpf_command.specs.Given.{CheckedBesideFails, CheckedBesideLeaves, CheckedBesideSays, CheckedFails, CheckedLeaves, CheckedSays, FailsBehind, NotedEachFails, NotedEachLeaves, NotedEachSays, NotedGivenFails, NotedGivenLeaves, NotedGivenSays, NotedOneSays, OnNamed, OnWord, OneCheckedFails};
 ghost use Rattle.bpf_command.specs.Printed.{FailsWith};
 
 use crate::commands::judged::{NotedRunning, WantedOfChecked, judged, judged_each};
@@ -21,7 +20,7 @@ fn run_certified<'a, P: Places>(
     running: NotedRunning<'a, '_>,
     context: &[u8],
 ) -> Result<Answer, Failure<'a>>
-    ensures ok { IfOk result (OneCheckedSays P.opens places.old running.entry.asked (noted_in running.entry.notes) places.new context.now) }
+    ensures ok { IfOk result (NotedOneSays P.opens places.old running.entry places.new context.now) }
     ensures err { IfErr result (OneCheckedFails P.opens places.old running.entry.asked places.new) }
     ensures opened { OpensFirst P.opens (running.entry.asked.input.now ∷ running.entry.asked.certificate.now ∷ []) places.old places.new }
 {
@@ -46,7 +45,7 @@ fn ran_checked<'a, P: Places>(
     running: NotedRunning<'a, '_>,
     hex: &'a str,
 ) -> Result<Answer, Failure<'a>>
-    ensures ok { IfOk result (OnWord hex.entry.now (OneCheckedSays P.opens places.old running.entry.asked (noted_in running.entry.notes) places.new)) }
+    ensures ok { IfOk result (OnWord hex.entry.now (NotedOneSays P.opens places.old running.entry places.new)) }
     ensures err { IfErr result (FailsWith places.old places.new hex.entry.now (OneCheckedFails P.opens places.old running.entry.asked places.new)) }
     ensures opened { OpensFirst P.opens (running.entry.asked.input.now ∷ running.entry.asked.certificate.now ∷ []) places.old places.new }
 {
@@ -64,7 +63,7 @@ fn ran_checked_at<'a, P: Places>(
     running: NotedRunning<'a, '_>,
     context: &'a str,
 ) -> Result<Answer, Failure<'a>>
-    ensures ok { IfOk result (OnNamed P.opens places.old context.entry.now (λ between. OneCheckedSays P.opens between running.entry.asked (noted_in running.entry.notes) places.new)) }
+    ensures ok { IfOk result (OnNamed P.opens places.old context.entry.now (λ between. NotedOneSays P.opens between running.entry places.new)) }
     ensures err { IfErr result (FailsBehind P.opens places.old context.entry.now places.new
         (λ between. OneCheckedFails P.opens between running.entry.asked places.new)) }
     ensures opened { OpensFirst P.opens (context.entry.now ∷ running.entry.asked.input.now ∷ running.entry.asked.certificate.now ∷ []) places.old places.new }
@@ -82,10 +81,9 @@ fn ran_checked_each<'a, P: Places, W: Write>(
     running: NotedRunning<'a, '_>,
     contexts: &'a str,
 ) -> Result<Reply, Failure<'a>>
-    ensures ok { IfOk result (CheckedEachSays P.opens places.old running.entry.asked (noted_in running.entry.notes) contexts.entry places.new (W.contents out.old) (W.contents out.new)) }
-    ensures err { IfErr result (CheckedEachFails P.opens places.old running.entry.asked (noted_in running.entry.notes) contexts.entry places.new (W.contents out.old) (W.contents out.new)) }
-    ensures begun { IfErr result (λ _. CheckedEachLeaves P.opens places.old running.entry.asked (noted_in running.entry.notes) contexts.entry places.new
-        (W.contents out.old) (W.contents out.new)) }
+    ensures ok { IfOk result (NotedEachSays P.opens places.old running.entry contexts.entry places.new (W.contents out.old) (W.contents out.new)) }
+    ensures err { IfErr result (NotedEachFails P.opens places.old running.entry contexts.entry places.new (W.contents out.old) (W.contents out.new)) }
+    ensures begun { IfErr result (λ _. NotedEachLeaves P.opens places.old running.entry contexts.entry places.new (W.contents out.old) (W.contents out.new)) }
     ensures opened { OpensFirst P.opens (running.entry.asked.input.now ∷ running.entry.asked.certificate.now ∷ contexts.entry.now ∷ []) places.old places.new }
 {
     let asked = running.asked;
@@ -102,12 +100,9 @@ fn ran_checked_given<'a, P: Places, W: Write>(
     out: &mut W,
     running: NotedRunning<'a, '_>,
 ) -> Result<Reply, Failure<'a>>
-    ensures ok { IfOk result (CheckedOnSays P.opens places.old running.entry.asked (noted_in running.entry.notes) running.entry.asked.contexts places.new
-        (W.contents out.old) (W.contents out.new)) }
-    ensures err { IfErr result (CheckedOnFails P.opens places.old running.entry.asked (noted_in running.entry.notes) running.entry.asked.contexts places.new
-        (W.contents out.old) (W.contents out.new)) }
-    ensures begun { IfErr result (λ _. CheckedOnLeaves P.opens places.old running.entry.asked (noted_in running.entry.notes) running.entry.asked.contexts places.new
-        (W.contents out.old) (W.contents out.new)) }
+    ensures ok { IfOk result (NotedGivenSays P.opens places.old running.entry places.new (W.contents out.old) (W.contents out.new)) }
+    ensures err { IfErr result (NotedGivenFails P.opens places.old running.entry places.new (W.contents out.old) (W.contents out.new)) }
+    ensures begun { IfErr result (λ _. NotedGivenLeaves P.opens places.old running.entry places.new (W.contents out.old) (W.contents out.new)) }
     ensures opened { OpensFirst P.opens (names_checked_on running.entry.asked.input.now running.entry.asked.certificate.now running.entry.asked.contexts) places.old places.new }
 {
     match running.asked.contexts {
@@ -133,12 +128,9 @@ fn ran_checked_noted<'a, P: Places, W: Write>(
     asked: CheckedRunning<'a>,
     notes: &'a str,
 ) -> Result<Reply, Failure<'a>>
-    ensures ok { IfOk result (BesideNotes P.opens places.old (Some notes.entry) places.new
-        (λ between noted. CheckedOnSays P.opens between asked.entry noted asked.entry.contexts places.new) (W.contents out.old) (W.contents out.new)) }
-    ensures err { IfErr result (FailsBesideNotes P.opens places.old (Some notes.entry) places.new
-        (λ between noted. CheckedOnFails P.opens between asked.entry noted asked.entry.contexts places.new (W.contents out.old) (W.contents out.new))) }
-    ensures begun { IfErr result (λ _. LeavesBesideNotes P.opens places.old (Some notes.entry) places.new
-        (λ between noted. CheckedOnLeaves P.opens between asked.entry noted asked.entry.contexts places.new) (W.contents out.old) (W.contents out.new)) }
+    ensures ok { IfOk result (CheckedBesideSays P.opens places.old asked.entry (Some notes.entry) places.new (W.contents out.old) (W.contents out.new)) }
+    ensures err { IfErr result (CheckedBesideFails P.opens places.old asked.entry (Some notes.entry) places.new (W.contents out.old) (W.contents out.new)) }
+    ensures begun { IfErr result (λ _. CheckedBesideLeaves P.opens places.old asked.entry (Some notes.entry) places.new (W.contents out.old) (W.contents out.new)) }
     ensures opened { OpensFirst P.opens (notes.entry.now ∷ names_checked_on asked.entry.input.now asked.entry.certificate.now asked.entry.contexts) places.old places.new }
 {
     let noted = match notes_at(alloc, places, notes)? {

@@ -1,10 +1,9 @@
 //! Texts that go to names of their own behind an image: those of notes and of changes.
 
 ghost use Rattle.std.specs.Prelude.{◌≡◌, IfOk, IfErr, IfSome};
-ghost use Rattle.std.specs.String.{string_bytes};
 ghost use Rattle.bpf_follows.specs.NotesText.{notes_text};
 ghost use Rattle.bpf_answers.specs.Made.{making};
-ghost use Rattle.bpf_command.specs.Texts.{TextsFail, TextsStand, named, notes_and_changes};
+ghost use Rattle.bpf_command.specs.Texts.{PutTexts, TextsFail, beside_texts, named};
 
 use crate::commands::changes::changes_text;
 use crate::request::Hardening;
@@ -54,8 +53,7 @@ pub(super) fn put_if<'a, P: Places, C: Content>(
     name: Option<&'a str>,
     content: &C,
 ) -> Result<u8, Failure<'a>>
-    ensures ok { IfOk result (λ status. (status ≡ 0) × TextsStand (making P.creates P.ends P.Writer.contents) places.old
-        (named name.entry (C.bytes content.now)) places.new) }
+    ensures ok { IfOk result (PutTexts (making P.creates P.ends P.Writer.contents) places.old (named name.entry (C.bytes content.now)) places.new) }
     ensures err { IfErr result (TextsFail (making P.creates P.ends P.Writer.contents) places.old (named name.entry (C.bytes content.now)) places.new) }
 {
     match name {
@@ -70,10 +68,8 @@ pub(super) fn put_beside<'a, P: Places>(
     asked: Hardening<'a>,
     beside: &SideTexts,
 ) -> Result<u8, Failure<'a>>
-    ensures ok { IfOk result (λ status. (status ≡ 0) × TextsStand (making P.creates P.ends P.Writer.contents) places.old
-        (notes_and_changes asked.entry beside.now.notes.items (string_bytes beside.now.changes)) places.new) }
-    ensures err { IfErr result (TextsFail (making P.creates P.ends P.Writer.contents) places.old
-        (notes_and_changes asked.entry beside.now.notes.items (string_bytes beside.now.changes)) places.new) }
+    ensures ok { IfOk result (PutTexts (making P.creates P.ends P.Writer.contents) places.old (beside_texts asked.entry beside.now) places.new) }
+    ensures err { IfErr result (TextsFail (making P.creates P.ends P.Writer.contents) places.old (beside_texts asked.entry beside.now) places.new) }
 {
     put_if(places, asked.notes, &beside.notes)?;
     put_if(places, asked.changes, &beside.changes)
