@@ -1,4 +1,4 @@
-//! What each command gives back, as it is found.
+//! Turns what the function of a command gives back into a `Finding`, the one type for what any command found.
 
 ghost use Rattle.std.specs.Prelude.{◌≡◌, IfOk, IfErr, Ok, Err};
 

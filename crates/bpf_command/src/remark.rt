@@ -1,4 +1,4 @@
-//! What is told beside the answer that was printed: why a capture or a filter is refused, on standard error; what helps, on a terminal.
+//! Chooses what standard error is told beside the printed answer: the `Remark` of a request and of what was found for it. `sentences.rt` writes it.
 
 ghost use Rattle.std.specs.Prelude.{◌≡◌};
 ghost use Rattle.bpf_command.specs.Remarks.{remark_of, remark_of_answer, remark_of_assessment, remark_of_attempt, remark_of_refusal, remark_of_runs, remark_of_search};

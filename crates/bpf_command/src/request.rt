@@ -1,5 +1,5 @@
-//! What a command line asks for; and the words of a command line that the command knows: its commands and their
-//! arguments, as the parser of words has them. A new option goes into `table.rt` and `specs/Commands`.
+//! Parses the words of a command line: a `Request` says which command they ask for, with its names and options.
+//! A new option goes into `table.rt` and `specs/Commands`.
 
 mod argument;
 mod asking;

@@ -1,4 +1,4 @@
-//! What is told beside an answer: sentences on standard error, whether or not people read there, and what helps, on a terminal.
+//! Writes a `Remark` to standard error. A sentence that says why something was refused always goes there; what helps goes there only on a terminal.
 
 ghost use Rattle.std.specs.Prelude.{◌≡◌};
 ghost use Rattle.bpf_command.specs.Remarks.{remark_of};

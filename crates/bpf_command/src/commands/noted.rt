@@ -1,4 +1,4 @@
-//! Notes beside which runs are told: where one ends at a trap.
+//! Judges by the notes of a program whether its checked run ends at a trap. Without notes no run is said to.
 
 ghost use Rattle.std.specs.Prelude.{◌≡◌, ◌≤◌, ℕ, length};
 ghost use Rattle.bpf_insn.specs.Limits.{max_context};

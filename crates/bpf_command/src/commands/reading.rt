@@ -1,4 +1,4 @@
-//! From the bytes at a name to a program with its certificate.
+//! Reads the filter of classic BPF at a name, a text or its structs, and makes a program of it with a certificate, for `bpf convert`.
 
 ghost use Rattle.std.specs.Prelude.{◌≡◌, ◌⊎◌, ◌≤◌, Ok, Err, IfOk, IfErr};
 ghost use Rattle.bpf_insn.specs.Limits.{max_context};
