@@ -1,5 +1,5 @@
 -- What is said of runs beside notes, and when the notes' name is opened.
-use Rattle.std.specs.Prelude.{◌≡◌, ℕ, Bool, true, false, ⊤, List, [], ◌∷◌, Option, Some, None, option_map}
+use Rattle.std.specs.Prelude.{◌≡◌, ℕ, Bool, false, ⊤, List, ◌∷◌, Option, Some, None, option_map}
 use Rattle.std.specs.Borrow.{Bor}
 use Rattle.bpf_insn.specs.Instruction.{Instructions}
 use Rattle.bpf_machine.specs.declared.outcome.Outcome.{Outcome}
