@@ -2,12 +2,14 @@
 """Whether docs/README.md shows the crates as crates.txt has them. Its list names each crate once, with the crates that it uses, but for
 those that one of these uses already. Its picture is what `tests/crates.py --picture` prints: a box for each part of the list, and an
 arrow where a crate of one box uses a crate of another. No two boxes use one another. And whether each type's name stands in one crate alone, but for those that
-tests/types.txt lists, in as many crates as it says."""
+tests/types.txt lists, in as many crates as it says; and whether no clause of a contract is too long to be read at once."""
 import collections
 import pathlib
 import re
 import sys
 
+# The most characters of a clause, each blank space counted once. What is longer gets a name in specs/.
+LONGEST = 160
 ROOT = pathlib.Path(__file__).resolve().parent.parent
 
 
@@ -106,6 +108,23 @@ def type_faults():
     return faults + [f"{name} is no type of two crates any more: take its row out of tests/types.txt" for name in listed if name not in found]
 
 
+def clauses(text):
+    """The clauses of the contracts in a source, each with the place at which it begins."""
+    for row in re.finditer(r"\b(?:requires|ensures)\b\s*(?:\w+\s*)?\{", text):
+        deep, end = 1, row.end()
+        while deep and end < len(text):
+            deep += {"{": 1, "}": -1}.get(text[end], 0)
+            end += 1
+        yield row.start(), " ".join(text[row.end():end - 1].split())
+
+
+def clause_faults():
+    """Which clauses are too long."""
+    sources = [(path.relative_to(ROOT), path.read_text()) for path in sorted(ROOT.glob("crates/*/src/**/*.rt"))]
+    return [f"{path}:{text.count(chr(10), 0, at) + 1}: this clause has {len(clause)} characters, more than {LONGEST}: name a part of it in specs/"
+            for path, text in sources for at, clause in clauses(text) if len(clause) > LONGEST]
+
+
 def main():
     if sys.argv[1:] == ["--picture"]:
         print(picture(used_by_crate()))
@@ -123,7 +142,7 @@ def main():
     if f"```mermaid\n{picture(uses)}\n```" not in page():
         faults.append("the picture in docs/README.md isn't what tests/crates.py --picture prints")
     faults += circles(uses)
-    faults += type_faults()
+    faults += type_faults() + clause_faults()
     shared = f"{len(types())} names of types stand in several crates"
     print("\n".join(faults) or f"the list of crates in docs/README.md is that of crates.txt: {len(listed)} crates; {shared}")
     return bool(faults)
