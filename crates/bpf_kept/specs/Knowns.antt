@@ -3,14 +3,17 @@ use Rattle.std.specs.Prelude.{ℕ, ◌-◌, Bool, [], ◌∷◌, take, Option, S
 use Rattle.bpf_insn.specs.declared.instruction.Reg.TheVariants.{R0, R1, R2, R3, R4, R5, R6, R7, R8, R9, R10}
 use Rattle.bpf_kept.specs.declared.notes.Holder.TheVariants.{Register, Length}
 use Rattle.bpf_kept.specs.declared.notes.Note.{Note}
+use Rattle.bpf_kept.specs.declared.notes.Change.TheVariants.{Kept}
+use Rattle.bpf_kept.specs.Meaning.{Bounds}
 use Rattle.bpf_state.specs.State.{AbstractState}
 use Rattle.bpf_kept.specs.Far.{middle, bytes_before}
 use Rattle.bpf_kept.specs.Terms.{Facts, constant, zero_term, context_offset, negated}
 use Rattle.bpf_kept.specs.Rules.{Known}
 use Rattle.bpf_kept.specs.Behind.{by_itself}
-use Rattle.bpf_kept.specs.Matching.{facts_at, start_facts}
+use Rattle.bpf_kept.specs.Matching.{Notes, facts_at, most_at_start, start_slot, start_facts, arrives}
 use Rattle.bpf_kept.specs.declared.known.FactList.{FactList}
 use Rattle.bpf_kept.specs.declared.known.KnownHere.{KnownHere}
+use Rattle.bpf_kept.specs.declared.known.NewSlot.{NewSlot}
 
 -- the facts of a list
 abbrev pub facts_in : FactList → Facts
@@ -57,6 +60,10 @@ known_for turns left state note =
       state = state;
     }
 
+-- A check knows this at a new slot with this note.
+abbrev pub known_at_slot : NewSlot → Note → Known
+known_at_slot at note = known_for at.bounds.turns at.left (option_copied at.state) note
+
 abbrev pub start_for : Bool → ℕ → ℕ → ℕ → Option AbstractState → Known
 start_for padded length turns left state =
     record {
@@ -70,3 +77,8 @@ start_for padded length turns left state =
       barred = None;
       state = state;
     }
+
+-- What is noted of the first slot asks for no more than what is known at the start.
+abbrev pub starts_for : Notes → Bounds → ℕ → Option AbstractState → Bool
+starts_for notes bounds left state =
+    arrives notes (start_for bounds.padded bounds.length bounds.turns left state) Kept None 0 (most_at_start - start_slot bounds.padded) (start_slot bounds.padded)

@@ -38,3 +38,4 @@ pub mod Mismatches
 -- what the code hands on
 pub mod Fronts
 pub mod Knowns
+pub mod Sites

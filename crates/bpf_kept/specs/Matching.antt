@@ -152,11 +152,17 @@ is_exit i = false
 abbrev pub returns : Known → Insn → Insn → Bool
 returns known i moved = is_exit i && (is_exit moved && (list_all (holds_behind known.facts Kept) known.back && spares known known.spare))
 
--- A call leads to an entry, and behind it is known what waited, and what the function gives back by the note of its entry.
+-- What is noted of the entry of a called function asks for no more than what the caller hands on.
+abbrev pub enters_at : Known → ℕ → Note → Bool
+enters_at known to entry = suits (known_entered known entry.back entry.spare) Kept None to most_extras entry
+
+-- What is noted behind a call asks for no more than what waited, and what the function gives back by the note of its entry.
+abbrev pub goes_on_behind : Notes → Known → ℕ → ℕ → Note → Bool
+goes_on_behind notes known slot new_slot entry = arrives notes (known_returned known entry.back entry.spare) Kept (Some slot) (slot + 1) most_extras (new_slot + 1)
+
+-- A call leads to an entry, and goes on behind it.
 abbrev pub enters : Notes → Known → ℕ → ℕ → ℕ → Note → Bool
-enters notes known slot new_slot to entry =
-    suits (known_entered known entry.back entry.spare) Kept None to most_extras entry
-    && (list_all is_result entry.back && arrives notes (known_returned known entry.back entry.spare) Kept (Some slot) (slot + 1) most_extras (new_slot + 1))
+enters notes known slot new_slot to entry = enters_at known to entry && (list_all is_result entry.back && goes_on_behind notes known slot new_slot entry)
 
 abbrev pub calls_to : Notes → Known → ℕ → ℕ → ℕ → ℕ → Bool
 calls_to notes known slot new_slot to new_to = option_map_or (enters notes known slot new_slot to) (note_at notes new_to) false
@@ -166,13 +172,20 @@ abbrev pub called : ℕ → Insn → Option ℕ
 called slot (CallLocal off) = target slot off
 called slot i = None
 
+-- Both call, and the new call leads to an entry that stands for that of the old one.
+abbrev pub calls_alike : Notes → Known → ℕ → ℕ → Insn → Insn → Bool
+calls_alike notes known slot new_slot i moved = option_map_or (λ to. option_map_or (calls_to notes known slot new_slot to) (called new_slot moved) false) (called slot i) false
+
+-- Both call so, and each slot of the frame in which the programs differ is out of the function's reach.
 abbrev pub calls : Notes → Known → ℕ → ℕ → Insn → Insn → Bool
-calls notes known slot new_slot i moved =
-    apart_waits known && option_map_or (λ to. option_map_or (calls_to notes known slot new_slot to) (called new_slot moved) false) (called slot i) false
+calls notes known slot new_slot i moved = apart_waits known && calls_alike notes known slot new_slot i moved
+
+-- The new instruction stands for an old one that neither calls nor ends a function; `same` says whether they differ only in where they lead.
+abbrev pub pairs : Notes → Known → Bool → ℕ → ℕ → Insn → Insn → Bool
+pairs notes known same slot new_slot i moved = option_map_or (goes notes known slot new_slot i moved) (paired known same i moved) false
 
 unfoldable pub stands : Notes → Known → Bool → ℕ → ℕ → Insn → Insn → Bool
-stands notes known same slot new_slot i moved =
-    returns known i moved || (calls notes known slot new_slot i moved || option_map_or (goes notes known slot new_slot i moved) (paired known same i moved) false)
+stands notes known same slot new_slot i moved = returns known i moved || (calls notes known slot new_slot i moved || pairs notes known same slot new_slot i moved)
 
 -- ---- an extra instruction
 

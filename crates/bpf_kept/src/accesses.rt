@@ -4,7 +4,6 @@ ghost use Rattle.std.specs.Prelude.{◌≡◌, ◌==◌, ◌&&◌, ◌+◌, ◌%
 ghost use Rattle.std.specs.List.{list_any};
 ghost use Rattle.bpf_insn.specs.Arithmetic.{extended};
 ghost use Rattle.bpf_insn.specs.declared.instruction.Insn.TheVariants.{Load, LoadSx, Store, StoreImm};
-ghost use Rattle.bpf_insn.specs.declared.instruction.Reg.{Reg};
 ghost use Rattle.bpf_semantics.specs.Flat.{addresses};
 ghost use Rattle.bpf_kept.specs.Rules.{is_address, same_size, is_folded, same_address, goes_alike, loads_alike, stores_alike, reached, put, stored_by, puts_slot, stores};
 ghost use Rattle.bpf_kept.specs.Knowns.{known_of};

@@ -1,9 +1,8 @@
 //! How a new program begins beside an old one: which extra instructions may stand at its start, and what may be noted of its first slot.
 
-ghost use Rattle.std.specs.Prelude.{◌≡◌, ◌↔◌, ◌-◌, IsOk, IfOk, IfErr, IsTrue, None, option_copied};
-ghost use Rattle.bpf_kept.specs.declared.notes.Change.TheVariants.{Kept};
-ghost use Rattle.bpf_kept.specs.Matching.{most_at_start, start_slot, left_alone, arrives};
-ghost use Rattle.bpf_kept.specs.Knowns.{start_for};
+ghost use Rattle.std.specs.Prelude.{◌≡◌, ◌↔◌, ◌-◌, IsOk, IfOk, IfErr, IsTrue, option_copied};
+ghost use Rattle.bpf_kept.specs.Matching.{most_at_start, start_slot, left_alone};
+ghost use Rattle.bpf_kept.specs.Knowns.{starts_for};
 ghost use Rattle.bpf_kept.specs.Mismatches.{Starts, IsBegun, IsUnbegun};
 
 use crate::bounds::Bounds;
@@ -46,7 +45,7 @@ fn most_at_start(padded: bool) -> u32
 
 /// Whether what is noted of the first slot asks for no more than what holds at the start.
 fn starts(notes: &[Option<Note>], bounds: Bounds, left: u32, state: Option<&State>) -> bool
-    ensures { result ≡ arrives notes.now (start_for bounds.padded bounds.length bounds.turns left (option_copied state.entry)) Kept None 0 (most_at_start - start_slot bounds.padded) (start_slot bounds.padded) }
+    ensures { result ≡ starts_for notes.now bounds left (option_copied state.entry) }
 {
     let facts = start_facts(bounds.padded, bounds.length);
     let known = KnownHere {

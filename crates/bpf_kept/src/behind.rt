@@ -1,11 +1,9 @@
 //! What holds behind a change of registers and of the frame.
 
-ghost use Rattle.std.specs.Prelude.{◌≡◌, ◌&&◌, not, false};
+ghost use Rattle.std.specs.Prelude.{◌≡◌, ◌&&◌, false};
 ghost use Rattle.std.specs.List.{list_any};
 ghost use Rattle.std.specs.Option.{option_map_or};
-ghost use Rattle.bpf_kept.specs.Terms.{is_noted};
-ghost use Rattle.bpf_kept.specs.Slots.{each_slot};
-ghost use Rattle.bpf_kept.specs.Rules.{is_holder, same_holder, gives};
+ghost use Rattle.bpf_kept.specs.Rules.{is_holder, gives};
 ghost use Rattle.bpf_kept.specs.Behind.{stays, pins, put_gives, made, made_gives, outlives, stored_gives, fetched_gives, change_gives, holds_behind, is_parted, is_told, are_told};
 ghost use Rattle.bpf_kept.specs.Knowns.{known_of};
 

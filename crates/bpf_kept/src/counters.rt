@@ -2,14 +2,11 @@
 
 ghost use Rattle.std.specs.Prelude.{◌≡◌, ℕ, ◌+◌, ◌-◌, None, false, if◌then◌else◌};
 ghost use Rattle.std.specs.Option.{option_map_or};
-ghost use Rattle.std.specs.List.{list_all};
-ghost use Rattle.bpf_insn.specs.Arithmetic.{extended};
 ghost use Rattle.bpf_insn.specs.declared.instruction.AluOp.TheVariants.{Add, Mov};
 ghost use Rattle.bpf_insn.specs.declared.instruction.Insn.TheVariants.{Alu, Load};
 ghost use Rattle.bpf_insn.specs.declared.instruction.Operand.TheVariants.{Imm};
 ghost use Rattle.bpf_insn.specs.declared.instruction.Reg.{Reg};
 ghost use Rattle.bpf_insn.specs.declared.instruction.Width.TheVariants.{W64};
-ghost use Rattle.bpf_kept.specs.Rules.{same_holder};
 ghost use Rattle.bpf_kept.specs.Counters.{any_counter, is_turn_of, tells, makes_counter, is_spared, is_made, is_left, counts_behind, all_count_behind, is_tested_turn, has_turn};
 ghost use Rattle.bpf_kept.specs.Knowns.{known_of};
 

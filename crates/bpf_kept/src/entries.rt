@@ -1,12 +1,9 @@
 //! Calls: what is noted of the entry of a called function, and behind the call.
 
-ghost use Rattle.std.specs.Prelude.{◌≡◌, ◌+◌, ◌<◌, ◌≤◌, Some, None, false, option_copied};
-ghost use Rattle.std.specs.Option.{option_map_or};
+ghost use Rattle.std.specs.Prelude.{◌≡◌, ◌<◌, ◌≤◌};
 ghost use Rattle.bpf_insn.specs.Limits.{max_slots};
-ghost use Rattle.bpf_kept.specs.declared.notes.Change.TheVariants.{Kept};
-ghost use Rattle.bpf_kept.specs.Calls.{known_entered, known_returned};
-ghost use Rattle.bpf_kept.specs.Knowns.{known_for};
-ghost use Rattle.bpf_kept.specs.Matching.{most_extras, suits, arrives, enters, calls_to, called};
+ghost use Rattle.bpf_kept.specs.Knowns.{known_at_slot};
+ghost use Rattle.bpf_kept.specs.Matching.{enters_at, goes_on_behind, enters, calls_to, called, calls_alike};
 
 use crate::calls::{are_results, entered_facts, returned_counters, returned_facts};
 use crate::edges::{Arrival, arrives, note_at, suits};
@@ -30,7 +27,7 @@ fn called(slot: u32, insn: &Insn) -> Option<u32>
 
 /// Whether what is noted of the entry of a called function asks for no more than what holds there.
 fn enters_at(at: NewSlot<'_>, note: &Note, to: u32, entry: &Note) -> bool
-    ensures { result ≡ suits (known_entered (known_for at.entry.bounds.turns at.entry.left (option_copied at.entry.state) note.now) entry.now.back entry.now.spare) Kept None to most_extras entry.now }
+    ensures { result ≡ enters_at (known_at_slot at.entry note.now) to entry.now }
 {
     let facts = entered_facts(note);
     let known = KnownHere {
@@ -57,7 +54,7 @@ fn enters_at(at: NewSlot<'_>, note: &Note, to: u32, entry: &Note) -> bool
 fn goes_on_behind(notes: &[Option<Note>], at: NewSlot<'_>, note: &Note, entry: &Note) -> bool
     requires old { note.now.old < max_slots }
     requires new { at.slot < max_slots }
-    ensures { result ≡ arrives notes.now (known_returned (known_for at.entry.bounds.turns at.entry.left (option_copied at.entry.state) note.now) entry.now.back entry.now.spare) Kept (Some note.now.old) (note.now.old + 1) most_extras (at.entry.slot + 1) }
+    ensures { result ≡ goes_on_behind notes.now (known_at_slot at.entry note.now) note.now.old at.entry.slot entry.now }
 {
     let facts = returned_facts(at.left, note, &entry.back);
     let counters = returned_counters(at.left, note.counters);
@@ -85,7 +82,7 @@ fn goes_on_behind(notes: &[Option<Note>], at: NewSlot<'_>, note: &Note, entry: &
 fn enters(notes: &[Option<Note>], at: NewSlot<'_>, note: &Note, to: u32, entry: &Note) -> bool
     requires old { note.now.old < max_slots }
     requires new { at.slot < max_slots }
-    ensures { result ≡ enters notes.now (known_for at.entry.bounds.turns at.entry.left (option_copied at.entry.state) note.now) note.now.old at.entry.slot to entry.now }
+    ensures { result ≡ enters notes.now (known_at_slot at.entry note.now) note.now.old at.entry.slot to entry.now }
 {
     enters_at(at, note, to, entry)
         && are_results(&entry.back)
@@ -96,7 +93,7 @@ fn enters(notes: &[Option<Note>], at: NewSlot<'_>, note: &Note, to: u32, entry: 
 fn calls_to(notes: &[Option<Note>], at: NewSlot<'_>, note: &Note, to: u32, new_to: u32) -> bool
     requires old { note.now.old < max_slots }
     requires new { at.slot < max_slots }
-    ensures { result ≡ calls_to notes.now (known_for at.entry.bounds.turns at.entry.left (option_copied at.entry.state) note.now) note.now.old at.entry.slot to new_to }
+    ensures { result ≡ calls_to notes.now (known_at_slot at.entry note.now) note.now.old at.entry.slot to new_to }
 {
     match note_at(notes, new_to) {
         Some(entry) => enters(notes, at, note, to, entry),
@@ -114,7 +111,7 @@ pub fn calls(
 ) -> bool
     requires old { note.now.old < max_slots }
     requires new { at.slot < max_slots }
-    ensures { result ≡ option_map_or (λ to. option_map_or (calls_to notes.now (known_for at.entry.bounds.turns at.entry.left (option_copied at.entry.state) note.now) note.now.old at.entry.slot to) (called at.entry.slot moved.now) false) (called note.now.old insn.now) false }
+    ensures { result ≡ calls_alike notes.now (known_at_slot at.entry note.now) note.now.old at.entry.slot insn.now moved.now }
 {
     match (called(note.old, insn), called(at.slot, moved)) {
         (Some(to), Some(new_to)) => calls_to(notes, at, note, to, new_to),

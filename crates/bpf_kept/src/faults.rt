@@ -1,11 +1,12 @@
 //! What fails of what is noted of a slot of the new program.
 
-ghost use Rattle.std.specs.Prelude.{◌≡◌, ◌<◌, ◌⊎◌, ◌↔◌, IsOk, IfErr, option_copied};
+ghost use Rattle.std.specs.Prelude.{◌≡◌, ◌<◌, ◌↔◌, IsOk, IfErr};
 ghost use Rattle.bpf_insn.specs.Limits.{max_slots};
 ghost use Rattle.bpf_kept.specs.Fronts.{front};
-ghost use Rattle.bpf_kept.specs.Knowns.{known_of, known_for};
-ghost use Rattle.bpf_kept.specs.Matching.{left_alone, HoldsAt};
-ghost use Rattle.bpf_kept.specs.Mismatches.{unpaired_fault, body_fault, extra_fault, IsNoBody, IsBodyFault, IsNoExtra, IsExtraFault, IsEitherFault, FailsBy, IsAt};
+ghost use Rattle.bpf_kept.specs.Knowns.{known_of};
+ghost use Rattle.bpf_kept.specs.Matching.{left_alone};
+ghost use Rattle.bpf_kept.specs.Mismatches.{unpaired_fault, body_fault, extra_fault};
+ghost use Rattle.bpf_kept.specs.Sites.{HoldsAtSlot, BodyFails, ExtraFails, NoteFails, IsMismatchAt};
 
 use crate::alike::{are_same, paired};
 use crate::code::insn_at;
@@ -64,7 +65,7 @@ fn fault_of_body<O: Code, N: Code>(
     note: &Note,
 ) -> NoteFault
     requires { at.left ≡ left_alone (N.program new.now) at.bounds.untouched }
-    ensures { IsNoBody (O.program old.now) (N.program new.now) at.entry.slot note.now result ⊎ IsBodyFault (O.program old.now) (N.program new.now) notes.now at.entry.bounds (option_copied at.entry.state) at.entry.slot note.now result }
+    ensures { BodyFails (O.program old.now) (N.program new.now) notes.now at.entry note.now result }
 {
     let (Some(insn), Some(moved)) = (insn_at(old, note.old), insn_at(new, at.slot)) else {
         return NoteFault::Insn;
@@ -83,7 +84,7 @@ fn fault_of_body<O: Code, N: Code>(
 /// What fails where it is noted that it is an extra one.
 fn fault_of_extra<O: Code, N: Code>(old: &O, new: &N, at: NewSlot<'_>, note: &Note) -> NoteFault
     requires { at.left ≡ left_alone (N.program new.now) at.bounds.untouched }
-    ensures { IsNoExtra (N.program new.now) at.entry.slot result ⊎ IsExtraFault (O.program old.now) (N.program new.now) at.entry.bounds (option_copied at.entry.state) at.entry.slot note.now result }
+    ensures { ExtraFails (O.program old.now) (N.program new.now) at.entry note.now result }
 {
     let Some(moved) = insn_at(new, at.slot) else {
         return NoteFault::Insn;
@@ -106,7 +107,7 @@ fn fault_at<O: Code, N: Code>(
     note: &Note,
 ) -> NoteFault
     requires { at.left ≡ left_alone (N.program new.now) at.bounds.untouched }
-    ensures { IsEitherFault (O.program old.now) (N.program new.now) notes.now at.entry.bounds (option_copied at.entry.state) at.entry.slot note.now result note.now.extras }
+    ensures { NoteFails (O.program old.now) (N.program new.now) notes.now at.entry note.now result }
 {
     if note.extras == 0 {
         fault_of_body(old, new, notes, at, note)
@@ -123,8 +124,8 @@ pub fn judged_at<O: Code, N: Code>(
     at: NewSlot<'_>,
 ) -> Result<(), Mismatch>
     requires { at.left ≡ left_alone (N.program new.now) at.bounds.untouched }
-    ensures exact { IsOk result ↔ HoldsAt (O.program old.now) (N.program new.now) notes.now at.entry.bounds (option_copied at.entry.state) at.entry.slot }
-    ensures err { IfErr result (IsAt (λ slot before fault. (slot ≡ at.entry.slot) × FailsBy (O.program old.now) (N.program new.now) notes.now at.entry.bounds (option_copied at.entry.state) slot before fault)) }
+    ensures exact { IsOk result ↔ HoldsAtSlot (O.program old.now) (N.program new.now) notes.now at.entry }
+    ensures err { IfErr result (IsMismatchAt (O.program old.now) (N.program new.now) notes.now at.entry) }
 {
     let Some(note) = note_at(notes, at.slot) else {
         return Ok(());

@@ -2,7 +2,6 @@
 
 ghost use Rattle.std.specs.Prelude.{◌≡◌, ◌==◌, ◌<◌, ◌&&◌, ◌||◌, ℤ, pos, ◌+ℤ◌, ◌-ℤ◌, false};
 ghost use Rattle.std.specs.Option.{option_map_or};
-ghost use Rattle.bpf_insn.specs.Arithmetic.{extended};
 ghost use Rattle.bpf_insn.specs.Effects.{register_written};
 ghost use Rattle.bpf_insn.specs.Instruction.{byte_count, register_number};
 ghost use Rattle.std.specs.List.{list_any};

@@ -1,6 +1,6 @@
 //! What is known in front of an instruction of the new program.
 
-ghost use Rattle.std.specs.Prelude.{◌≡◌, ◌+◌, ◌++◌, ◌<◌, ◌≤◌, [], ◌∷◌, not, false, option_copied, if◌then◌else◌, length as list_length};
+ghost use Rattle.std.specs.Prelude.{◌≡◌, ◌+◌, ◌++◌, ◌<◌, ◌≤◌, [], ◌∷◌, not, false, if◌then◌else◌, length as list_length};
 ghost use Rattle.std.specs.List.{list_all};
 ghost use Rattle.std.specs.Option.{option_map_or};
 ghost use Rattle.bpf_insn.specs.Instruction.{insn_at};
@@ -8,7 +8,7 @@ ghost use Rattle.bpf_kept.specs.Far.{bytes_before};
 ghost use Rattle.bpf_kept.specs.Terms.{is_noted, frame_slots};
 ghost use Rattle.bpf_kept.specs.Slots.{slot_facts};
 ghost use Rattle.bpf_kept.specs.Matching.{is_zero_slot, same_slot, said, end_facts, facts_at, hands_frame, left_alone, length_facts, start_facts};
-ghost use Rattle.bpf_kept.specs.Knowns.{facts_in, first_facts, known_of, known_for};
+ghost use Rattle.bpf_kept.specs.Knowns.{facts_in, first_facts, known_of, known_at_slot};
 
 use crate::bounds::Bounds;
 use crate::facts::{by_itself, known_number, pin_fact};
@@ -222,7 +222,7 @@ pub fn facts_at(note: &Note) -> FactList
 /// What is known there, with these facts.
 pub fn known_here<'a>(facts: &'a [Fact], at: NewSlot<'a>, note: &'a Note) -> KnownHere<'a>
     requires { facts.now ≡ facts_at note.now }
-    ensures { known_of result ≡ known_for at.entry.bounds.turns at.entry.left (option_copied at.entry.state) note.now }
+    ensures { known_of result ≡ known_at_slot at.entry note.now }
 {
     KnownHere {
         facts,

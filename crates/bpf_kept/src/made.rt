@@ -6,8 +6,7 @@ ghost use Rattle.std.specs.Option.{option_map_or};
 ghost use Rattle.bpf_insn.specs.declared.instruction.Insn.TheVariants.{Alu, Load, LoadImm64};
 ghost use Rattle.bpf_insn.specs.declared.instruction.AluOp.TheVariants.{Mov};
 ghost use Rattle.bpf_insn.specs.declared.instruction.Reg.{Reg};
-ghost use Rattle.bpf_kept.specs.Rules.{is_register, both};
-ghost use Rattle.bpf_kept.specs.Behind.{sum_base, difference_base, is_known, is_sum, is_difference, is_moved, made_by, known_operand, of_number, of_operand, by_operand, made_from, of_slot, made};
+ghost use Rattle.bpf_kept.specs.Behind.{sum_base, difference_base, is_sum, is_difference, is_moved, made_by, known_operand, of_number, of_operand, by_operand, made_from, of_slot, made};
 
 use crate::facts::{is_base, is_holder, is_register, known_number};
 use crate::notes::{Fact, Holder};

@@ -8,7 +8,7 @@ ghost use Rattle.bpf_insn.specs.Instruction.{byte_count};
 ghost use Rattle.bpf_insn.specs.declared.instruction.AluOp.TheVariants.{Xor};
 ghost use Rattle.bpf_insn.specs.declared.instruction.Insn.TheVariants.{Alu, Load};
 ghost use Rattle.bpf_insn.specs.declared.instruction.Reg.{Reg};
-ghost use Rattle.bpf_kept.specs.Rules.{put_into, operand_term, linear, computed, by_constant, by_terms, own, own_in, is_mask, reads_low, reads_same, loads_common, is_common, result_term, keeps_low, is_same, is_low, has_low_result, low_result};
+ghost use Rattle.bpf_kept.specs.Rules.{put_into, operand_term, linear, computed, by_constant, by_terms, own, is_mask, reads_low, reads_same, loads_common, is_common, result_term, keeps_low, is_same, is_low, has_low_result, low_result};
 ghost use Rattle.bpf_kept.specs.Knowns.{known_of};
 
 use crate::commons::is_common;

@@ -1,15 +1,15 @@
 //! What is noted of a slot of the new program: an instruction that stands for an old one, or an extra one.
 
-ghost use Rattle.std.specs.Prelude.{◌≡◌, ◌<◌, ◌≤◌, ◌↔◌, ◌-◌, IsTrue, Some, None, false, option_map, option_and_then, option_copied, if◌then◌else◌};
+ghost use Rattle.std.specs.Prelude.{◌≡◌, ◌<◌, ◌≤◌, ◌↔◌, ◌-◌, IsTrue, Some, None, option_map, option_and_then, if◌then◌else◌};
 ghost use Rattle.bpf_insn.specs.Effects.{is_frame_pointer};
-ghost use Rattle.bpf_kept.specs.Rules.{put_into, paired};
-ghost use Rattle.std.specs.Option.{option_map_or};
+ghost use Rattle.bpf_kept.specs.Rules.{put_into};
 ghost use Rattle.bpf_kept.specs.declared.notes.Holder.TheVariants.{Register, Slot};
 ghost use Rattle.bpf_insn.specs.Limits.{max_slots};
-ghost use Rattle.bpf_kept.specs.Fronts.{front};
-ghost use Rattle.bpf_kept.specs.Knowns.{known_of, known_for};
+ghost use Rattle.bpf_kept.specs.Fronts.{front, front_at};
+ghost use Rattle.bpf_kept.specs.Knowns.{known_of, known_at_slot};
 ghost use Rattle.bpf_kept.specs.Slots.{slot_at};
-ghost use Rattle.bpf_kept.specs.Matching.{left_alone, led, may_fall, may_lead, falls, leads, goes, is_exit, returns, calls, stands, made_in, makes, extra, adds, IsBody, IsExtra, HoldsAt};
+ghost use Rattle.bpf_kept.specs.Matching.{left_alone, led, may_fall, may_lead, falls, leads, is_exit, returns, calls, pairs, stands, made_in, makes, extra, adds};
+ghost use Rattle.bpf_kept.specs.Sites.{IsBodyAt, IsExtraAt, HoldsAtSlot};
 
 use crate::alike::{are_same, paired};
 use crate::calls::{apart_waits, spares, tests_barred};
@@ -105,7 +105,7 @@ fn leads(notes: &[Option<Note>], known: &KnownHere<'_>, change: Change, pair: St
 fn pairs(notes: &[Option<Note>], known: &KnownHere<'_>, same: bool, pair: StandIn) -> bool
     requires old { pair.slot < max_slots }
     requires new { pair.new_slot < max_slots }
-    ensures { result ≡ option_map_or (goes notes.now (known_of known.now) pair.slot pair.new_slot pair.insn pair.moved) (paired (known_of known.now) same pair.insn pair.moved) false }
+    ensures { result ≡ pairs notes.now (known_of known.now) same pair.slot pair.new_slot pair.insn pair.moved }
 {
     match paired(known, same, &pair.insn, &pair.moved) {
         Some(change) => falls(notes, known, change, pair) && leads(notes, known, change, pair),
@@ -236,7 +236,7 @@ fn calls_here(
     note: &Note,
     pair: StandIn,
 ) -> bool
-    requires known { known_of known.now ≡ known_for at.bounds.turns at.left (option_copied at.state) note.now }
+    requires known { known_of known.now ≡ known_at_slot at note.now }
     requires old { note.now.old < max_slots }
     requires new { at.slot < max_slots }
     ensures { result ≡ calls notes.now (known_of known.now) note.now.old at.entry.slot pair.insn pair.moved }
@@ -256,7 +256,7 @@ fn stands_at(
     requires slots { (pair.slot ≡ note.now.old) × (pair.new_slot ≡ at.slot) }
     requires old { pair.slot < max_slots }
     requires new { pair.new_slot < max_slots }
-    ensures { result ≡ stands notes.now (known_for at.entry.bounds.turns at.entry.left (option_copied at.entry.state) note.now) same pair.slot pair.new_slot pair.insn pair.moved }
+    ensures { result ≡ stands notes.now (known_at_slot at.entry note.now) same pair.slot pair.new_slot pair.insn pair.moved }
 {
     let facts = facts_at(note);
     let known = known_here(facts.as_slice(), at, note);
@@ -274,7 +274,7 @@ fn is_body<O: Code, N: Code>(
     note: &Note,
 ) -> bool
     requires { at.left ≡ left_alone (N.program new.now) at.bounds.untouched }
-    ensures { IsTrue result ↔ IsBody (O.program old.now) (N.program new.now) notes.now at.entry.bounds (option_copied at.entry.state) at.entry.slot note.now }
+    ensures { IsTrue result ↔ IsBodyAt (O.program old.now) (N.program new.now) notes.now at.entry note.now }
 {
     match (insn_at(old, note.old), insn_at(new, at.slot)) {
         (Some(insn), Some(moved)) => {
@@ -300,7 +300,7 @@ fn adds_at<O: Code>(
 ) -> bool
     requires some { 0 < note.now.extras }
     requires below { at.slot < max_slots }
-    ensures { result ≡ adds notes.now (front (O.program old.now) (record { slot = note.now.old; bounds = at.entry.bounds })) (known_for at.entry.bounds.turns at.entry.left (option_copied at.entry.state) note.now) (note.now.extras - 1) at.entry.slot moved.now }
+    ensures { result ≡ adds notes.now (front_at (O.program old.now) at.entry note.now) (known_at_slot at.entry note.now) (note.now.extras - 1) at.entry.slot moved.now }
 {
     let facts = facts_at(note);
     let known = known_here(facts.as_slice(), at, note);
@@ -326,7 +326,7 @@ fn is_extra<O: Code, N: Code>(
 ) -> bool
     requires some { 0 < note.now.extras }
     requires left { at.left ≡ left_alone (N.program new.now) at.bounds.untouched }
-    ensures { IsTrue result ↔ IsExtra (O.program old.now) (N.program new.now) notes.now at.entry.bounds (option_copied at.entry.state) at.entry.slot note.now (note.now.extras - 1) }
+    ensures { IsTrue result ↔ IsExtraAt (O.program old.now) (N.program new.now) notes.now at.entry note.now }
 {
     match insn_at(new, at.slot) {
         Some(moved) => adds_at(old, notes, at, note, &moved),
@@ -337,7 +337,7 @@ fn is_extra<O: Code, N: Code>(
 /// Whether what is noted of a new slot holds there.
 pub fn holds_at<O: Code, N: Code>(old: &O, new: &N, notes: &[Option<Note>], at: NewSlot<'_>) -> bool
     requires { at.left ≡ left_alone (N.program new.now) at.bounds.untouched }
-    ensures { IsTrue result ↔ HoldsAt (O.program old.now) (N.program new.now) notes.now at.entry.bounds (option_copied at.entry.state) at.entry.slot }
+    ensures { IsTrue result ↔ HoldsAtSlot (O.program old.now) (N.program new.now) notes.now at.entry }
 {
     match note_at(notes, at.slot) {
         Some(note) if note.extras == 0 => is_body(old, new, notes, at, note),
