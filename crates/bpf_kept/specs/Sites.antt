@@ -1,5 +1,5 @@
 -- Whether what is noted of a new slot holds there, and what fails of it, as the code hands the slot on.
-use Rattle.std.specs.Prelude.{◌≡◌, ◌⊎◌, ◌-◌, ℕ, option_copied}
+use Rattle.std.specs.Prelude.{◌≡◌, ◌⊎◌, ◌-◌, option_copied}
 use Rattle.bpf_insn.specs.Instruction.{Instructions}
 use Rattle.bpf_kept.specs.Matching.{Notes, IsBody, IsExtra, HoldsAt}
 use Rattle.bpf_kept.specs.Mismatches.{IsNoBody, IsBodyFault, IsNoExtra, IsExtraFault, IsEitherFault, FailsBy, IsAt}
