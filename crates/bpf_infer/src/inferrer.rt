@@ -72,6 +72,45 @@ pub fn infer(
     }
 }
 
+/// The better certificate of the plain search, whose answer is given, and of the deep one. Without any, what the deep one had when it
+/// stopped.
+fn beside_deep<W: Watch>(
+    alloc: Global,
+    quest: Quest<'_>,
+    plain: Result<Proposal, InferError>,
+    watch: &mut W,
+) -> Result<Certificate, SearchStop>
+    requires order { quest.least ≤ quest.most }
+    requires short { quest.most ≤ max_context }
+    ensures version { IfOk result (λ c. c.version ≡ 2) }
+    ensures least { IfOk result (λ c. c.least ≡ quest.entry.least) }
+    ensures most { IfOk result (λ c. c.most ≡ quest.entry.most) }
+    ensures certificate { IfOk result (λ c. IsCertificate c) }
+    ensures slot { IfErr result (λ s. infer_slot s.error < slots quest.entry.program.now.list) }
+{
+    let Quest {
+        program,
+        least,
+        most,
+    } = quest;
+    let deep = deep_proposal(alloc, quest, watch);
+    watch.end();
+    let plain = certificate_of(least, most, plain);
+    match certificate_of(least, most, deep) {
+        Ok(deep) => match plain {
+            Ok(plain) if plain.steps() < deep.steps() => Ok(plain),
+            _ => Ok(deep),
+        },
+        Err(stop) => match plain {
+            Ok(plain) => Ok(plain),
+            Err(_) => Err(SearchStop {
+                error: stop.error.within(Code::slots(program)),
+                sketch: stop.sketch,
+            }),
+        },
+    }
+}
+
 /// As `search`; where it finds no certificate, with what the deep search had when it stopped: the states at its labels, and
 /// what was in the way. I5 alone where memory runs out for the plain one, whose answer might have been another.
 pub fn search_or_stop<W: Watch>(
@@ -102,22 +141,7 @@ pub fn search_or_stop<W: Watch>(
             sketch: Sketch::nothing(),
         });
     }
-    let deep = deep_proposal(alloc, quest, watch);
-    watch.end();
-    let plain = certificate_of(least, most, plain);
-    match certificate_of(least, most, deep) {
-        Ok(deep) => match plain {
-            Ok(plain) if plain.steps() < deep.steps() => Ok(plain),
-            _ => Ok(deep),
-        },
-        Err(stop) => match plain {
-            Ok(plain) => Ok(plain),
-            Err(_) => Err(SearchStop {
-                error: stop.error.within(Code::slots(program)),
-                sketch: stop.sketch,
-            }),
-        },
-    }
+    beside_deep(alloc, quest, plain, watch)
 }
 
 /// Proposes a certificate of version 2 for a program on contexts of `least` to `most` bytes, at most 4,096: nested loops,
