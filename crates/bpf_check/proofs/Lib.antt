@@ -11,6 +11,7 @@ pub mod VisitLemmas
 pub mod StraightLemmas
 pub mod ArrivalLemmas
 pub mod PassLemmas
+pub mod PutBack
 pub mod LoopLimits
 pub mod CheckLemmas
 pub mod Promise

@@ -182,13 +182,13 @@ module _ (p : Instructions) (s : Step) (w : IsStep (slots p.list) s) where
 
   -- ---- the three ends
 
-  pub ends_dead : (t t' u aside : AbstractState) (h : Here) (alive : Bool) → alive ≡ false → outcome_told (Ok alive) t' ≡ transfer p.order i c.least t → IsJudgment p c slot i (arrival_of t h) (record { state = u; aside = aside; here = None }) (record { not_entailed = false; over_budget = false; past_end = false })
-  ends_dead t t' u aside h alive dead told =
-      dead_judged p c slot i t h t' u aside alive false false false (cost_after c slot i (arrival_of t h)) dead told refl (sym (enters_none (arrival_of t h))) (sym (g.returns (arrival_of t h))) (sym (g.exits (arrival_of t h) (cost_after c slot i (arrival_of t h))))
+  pub ends_dead : (t t' u : AbstractState) (h : Here) (alive : Bool) → alive ≡ false → outcome_told (Ok alive) t' ≡ transfer p.order i c.least t → IsJudgment p c slot i (arrival_of t h) (record { state = u; here = None }) (record { not_entailed = false; over_budget = false; past_end = false })
+  ends_dead t t' u h alive dead told =
+      dead_judged p c slot i t h t' u alive false false false (cost_after c slot i (arrival_of t h)) dead told refl (sym (enters_none (arrival_of t h))) (sym (g.returns (arrival_of t h))) (sym (g.exits (arrival_of t h) (cost_after c slot i (arrival_of t h))))
 
-  pub ends_live : (t t' aside : AbstractState) (h : Here) (alive : Bool) (cost : Option ℤ) → alive ≡ true → outcome_told (Ok alive) t' ≡ transfer p.order i c.least t → cost ≡ option_map (λ spent. spent +ℤ pos 1) h.cost → IsReaching next (record h { cost = cost }) → IsJudgment p c slot i (arrival_of t h) (record { state = t'; aside = aside; here = Some (record h { cost = cost }) }) (record { not_entailed = false; over_budget = false; past_end = false })
-  ends_live t t' aside h alive cost live told spent valid =
-      pass_judged p c slot i t h t' t' aside alive false false false false false true false cost live told (spent ∙ sym (g.cost (arrival_of t h))) (sym (enters_none (arrival_of t h))) (sym (g.returns (arrival_of t h))) (sym (g.exits (arrival_of t h) cost)) (sym (none_refused t')) (sym (none_unpaid (label_view h.label.now) cost t')) (sym (g.next t')) refl
+  pub ends_live : (t t' : AbstractState) (h : Here) (alive : Bool) (cost : Option ℤ) → alive ≡ true → outcome_told (Ok alive) t' ≡ transfer p.order i c.least t → cost ≡ option_map (λ spent. spent +ℤ pos 1) h.cost → IsReaching next (record h { cost = cost }) → IsJudgment p c slot i (arrival_of t h) (record { state = t'; here = Some (record h { cost = cost }) }) (record { not_entailed = false; over_budget = false; past_end = false })
+  ends_live t t' h alive cost live told spent valid =
+      pass_judged p c slot i t h t' t' alive false false false false false true false cost live told (spent ∙ sym (g.cost (arrival_of t h))) (sym (enters_none (arrival_of t h))) (sym (g.returns (arrival_of t h))) (sym (g.exits (arrival_of t h) cost)) (sym (none_refused t')) (sym (none_unpaid (label_view h.label.now) cost t')) (sym (g.next t')) refl
       (sym (ne_eqb next (slots p.list) not_last)) valid
 
   none_flawed : (a : Arrival) (walk : Walk) → IsJudgment p c slot i a walk (record { not_entailed = false; over_budget = false; past_end = false }) → IsLeastIn (flaws_with p c slot i (Some a)) None

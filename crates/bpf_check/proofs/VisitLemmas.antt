@@ -72,8 +72,8 @@ and_true false = refl
 
 -- ---- the three ends of a visit
 
-pub dead_judged : (p : Instructions) (c : CertificateView) (slot : ℕ) (i : Insn) (s : AbstractState) (h : Here) (s' t aside : AbstractState) (alive enters returns exits : Bool) (cost : Option ℤ) → alive ≡ false → outcome_told (Ok alive) s' ≡ transfer p.order i c.least s → cost ≡ cost_after c slot i (arrival_of s h) → enters ≡ enters_wrongly c (visit slot i) (arrival_of s h) → returns ≡ returns_wrongly c (visit slot i) (arrival_of s h) i → exits ≡ exits_unpaid (visit slot i) (arrival_of s h) cost i → IsJudgment p c slot i (arrival_of s h) (record { state = t; aside = aside; here = None }) (record { not_entailed = enters || returns; over_budget = exits; past_end = false })
-dead_judged p c slot i s h s' t aside alive enters returns exits cost dead told spent en re ex =
+pub dead_judged : (p : Instructions) (c : CertificateView) (slot : ℕ) (i : Insn) (s : AbstractState) (h : Here) (s' t : AbstractState) (alive enters returns exits : Bool) (cost : Option ℤ) → alive ≡ false → outcome_told (Ok alive) s' ≡ transfer p.order i c.least s → cost ≡ cost_after c slot i (arrival_of s h) → enters ≡ enters_wrongly c (visit slot i) (arrival_of s h) → returns ≡ returns_wrongly c (visit slot i) (arrival_of s h) i → exits ≡ exits_unpaid (visit slot i) (arrival_of s h) cost i → IsJudgment p c slot i (arrival_of s h) (record { state = t; here = None }) (record { not_entailed = enters || returns; over_budget = exits; past_end = false })
+dead_judged p c slot i s h s' t alive enters returns exits cost dead told spent en re ex =
     let both = transfer_dead p.order i c.least s s' alive dead told in
     let no_next = next_dead p c slot i s both.1 in
     let no_edge = edges_dead p c slot i (arrival_of s h) both.1 in
@@ -90,10 +90,10 @@ dead_judged p c slot i s h s' t aside alive enters returns exits cost dead told 
 none_live : (c : CertificateView) (old : LabelView) (spent : Option ℤ) (to : ℕ) (cost left : Option ℤ) (alive enters returns : Bool) (next : JudgedEdge) → seen_of next ≡ edge_seen c old spent to None → ◌≡◌ {A = Judged} (record { not_entailed = enters || returns; over_budget = is_negative_if left; past_end = false }) (judged_of (record { cost = cost; is_alive = alive; jump = None; next = next; enters_wrongly = enters; returns_wrongly = returns; left_at_exit = left; past_end = false }))
 none_live c old spent to cost left alive enters returns next seen = sym (ap (λ x. record { not_entailed = (x.is_refused || enters) || returns; over_budget = is_negative_if x.left || is_negative_if left; past_end = false }) seen)
 
-pub dead_seen : (p : Instructions) (c : CertificateView) (slot : ℕ) (i : Insn) (s : AbstractState) (h : Here) (s' t aside : AbstractState) (alive enters returns : Bool) (left cost : Option ℤ) (next : JudgedEdge) (to : ℕ) → seen_of next ≡ edge_seen c (label_view h.label.now) cost to None → alive ≡ false → outcome_told (Ok alive) s' ≡ transfer p.order i c.least s → cost ≡ cost_after c slot i (arrival_of s h) → enters ≡ enters_wrongly c (visit slot i) (arrival_of s h) → returns ≡ returns_wrongly c (visit slot i) (arrival_of s h) i → is_negative_if left ≡ exits_unpaid (visit slot i) (arrival_of s h) cost i → IsJudgment p c slot i (arrival_of s h) (record { state = t; aside = aside; here = None }) (judged_of (record { cost = cost; is_alive = alive; jump = None; next = next; enters_wrongly = enters; returns_wrongly = returns; left_at_exit = left; past_end = false }))
-dead_seen p c slot i s h s' t aside alive enters returns left cost next to seen dead told spent en re ex =
-    subst (IsJudgment p c slot i (arrival_of s h) (record { state = t; aside = aside; here = None })) (none_live c (label_view h.label.now) cost to cost left alive enters returns next seen)
-    (dead_judged p c slot i s h s' t aside alive enters returns (is_negative_if left) cost dead told spent en re ex)
+pub dead_seen : (p : Instructions) (c : CertificateView) (slot : ℕ) (i : Insn) (s : AbstractState) (h : Here) (s' t : AbstractState) (alive enters returns : Bool) (left cost : Option ℤ) (next : JudgedEdge) (to : ℕ) → seen_of next ≡ edge_seen c (label_view h.label.now) cost to None → alive ≡ false → outcome_told (Ok alive) s' ≡ transfer p.order i c.least s → cost ≡ cost_after c slot i (arrival_of s h) → enters ≡ enters_wrongly c (visit slot i) (arrival_of s h) → returns ≡ returns_wrongly c (visit slot i) (arrival_of s h) i → is_negative_if left ≡ exits_unpaid (visit slot i) (arrival_of s h) cost i → IsJudgment p c slot i (arrival_of s h) (record { state = t; here = None }) (judged_of (record { cost = cost; is_alive = alive; jump = None; next = next; enters_wrongly = enters; returns_wrongly = returns; left_at_exit = left; past_end = false }))
+dead_seen p c slot i s h s' t alive enters returns left cost next to seen dead told spent en re ex =
+    subst (IsJudgment p c slot i (arrival_of s h) (record { state = t; here = None })) (none_live c (label_view h.label.now) cost to cost left alive enters returns next seen)
+    (dead_judged p c slot i s h s' t alive enters returns (is_negative_if left) cost dead told spent en re ex)
 
 -- what both ends of a live state share
 record IsShared (p : Instructions) (c : CertificateView) (slot : ℕ) (i : Insn) (s : AbstractState) (h : Here) (s' : AbstractState) (refused unpaid enters returns exits : Bool) (cost : Option ℤ) : Type 0 where
@@ -113,8 +113,8 @@ shared p c slot i s h s' alive refused unpaid enters returns exits cost is_alive
       over_budget = ap₂ (λ x y. x || y) (un ∙ ap (λ o. list_any (unpaid_from c (label_view h.label.now) o) (edges_of c slot i s')) spent ∙ ap (list_any (is_unpaid c (visit slot i) (arrival_of s h))) (sym same)) (ex ∙ ap (λ o. exits_unpaid (visit slot i) (arrival_of s h) o i) spent);
     }
 
-pub stop_judged : (p : Instructions) (c : CertificateView) (slot : ℕ) (i : Insn) (s : AbstractState) (h : Here) (s' s'' t aside : AbstractState) (alive refused unpaid enters returns exits goes : Bool) (cost : Option ℤ) → alive ≡ true → outcome_told (Ok alive) s' ≡ transfer p.order i c.least s → cost ≡ cost_after c slot i (arrival_of s h) → enters ≡ enters_wrongly c (visit slot i) (arrival_of s h) → returns ≡ returns_wrongly c (visit slot i) (arrival_of s h) i → exits ≡ exits_unpaid (visit slot i) (arrival_of s h) cost i → refused ≡ list_any (is_refused_by c) (edges_of c slot i s') → unpaid ≡ list_any (unpaid_from c (label_view h.label.now) cost) (edges_of c slot i s') → edge_told goes s'' ≡ next_of c slot i s' → goes ≡ false → IsJudgment p c slot i (arrival_of s h) (record { state = t; aside = aside; here = None }) (record { not_entailed = (refused || enters) || returns; over_budget = unpaid || exits; past_end = false })
-stop_judged p c slot i s h s' s'' t aside alive refused unpaid enters returns exits goes cost is_alive told spent en re ex rf un leads stops =
+pub stop_judged : (p : Instructions) (c : CertificateView) (slot : ℕ) (i : Insn) (s : AbstractState) (h : Here) (s' s'' t : AbstractState) (alive refused unpaid enters returns exits goes : Bool) (cost : Option ℤ) → alive ≡ true → outcome_told (Ok alive) s' ≡ transfer p.order i c.least s → cost ≡ cost_after c slot i (arrival_of s h) → enters ≡ enters_wrongly c (visit slot i) (arrival_of s h) → returns ≡ returns_wrongly c (visit slot i) (arrival_of s h) i → exits ≡ exits_unpaid (visit slot i) (arrival_of s h) cost i → refused ≡ list_any (is_refused_by c) (edges_of c slot i s') → unpaid ≡ list_any (unpaid_from c (label_view h.label.now) cost) (edges_of c slot i s') → edge_told goes s'' ≡ next_of c slot i s' → goes ≡ false → IsJudgment p c slot i (arrival_of s h) (record { state = t; here = None }) (record { not_entailed = (refused || enters) || returns; over_budget = unpaid || exits; past_end = false })
+stop_judged p c slot i s h s' s'' t alive refused unpaid enters returns exits goes cost is_alive told spent en re ex rf un leads stops =
     let all = shared p c slot i s h s' alive refused unpaid enters returns exits cost is_alive told spent en re ex rf un in
     let no_next : next_state p c slot i s ≡ None = all.next ∙ sym leads ∙ ap (λ b. edge_told b s'') stops in
     record {
@@ -126,8 +126,8 @@ stop_judged p c slot i s h s' s'' t aside alive refused unpaid enters returns ex
       past_end = and_false (slot + slot_count i == slots p.list) ∙ ap (λ o. (slot + slot_count i == slots p.list) && is_some o) (sym no_next);
     }
 
-pub pass_judged : (p : Instructions) (c : CertificateView) (slot : ℕ) (i : Insn) (s : AbstractState) (h : Here) (s' s'' aside : AbstractState) (alive refused unpaid enters returns exits goes last : Bool) (cost : Option ℤ) → alive ≡ true → outcome_told (Ok alive) s' ≡ transfer p.order i c.least s → cost ≡ cost_after c slot i (arrival_of s h) → enters ≡ enters_wrongly c (visit slot i) (arrival_of s h) → returns ≡ returns_wrongly c (visit slot i) (arrival_of s h) i → exits ≡ exits_unpaid (visit slot i) (arrival_of s h) cost i → refused ≡ list_any (is_refused_by c) (edges_of c slot i s') → unpaid ≡ list_any (unpaid_from c (label_view h.label.now) cost) (edges_of c slot i s') → edge_told goes s'' ≡ next_of c slot i s' → goes ≡ true → last ≡ (slot + slot_count i == slots p.list) → IsReaching (slot + slot_count i) (record h { cost = cost }) → IsJudgment p c slot i (arrival_of s h) (record { state = s''; aside = aside; here = Some (record h { cost = cost }) }) (record { not_entailed = (refused || enters) || returns; over_budget = unpaid || exits; past_end = last })
-pass_judged p c slot i s h s' s'' aside alive refused unpaid enters returns exits goes last cost is_alive told spent en re ex rf un leads continues at_end valid =
+pub pass_judged : (p : Instructions) (c : CertificateView) (slot : ℕ) (i : Insn) (s : AbstractState) (h : Here) (s' s'' : AbstractState) (alive refused unpaid enters returns exits goes last : Bool) (cost : Option ℤ) → alive ≡ true → outcome_told (Ok alive) s' ≡ transfer p.order i c.least s → cost ≡ cost_after c slot i (arrival_of s h) → enters ≡ enters_wrongly c (visit slot i) (arrival_of s h) → returns ≡ returns_wrongly c (visit slot i) (arrival_of s h) i → exits ≡ exits_unpaid (visit slot i) (arrival_of s h) cost i → refused ≡ list_any (is_refused_by c) (edges_of c slot i s') → unpaid ≡ list_any (unpaid_from c (label_view h.label.now) cost) (edges_of c slot i s') → edge_told goes s'' ≡ next_of c slot i s' → goes ≡ true → last ≡ (slot + slot_count i == slots p.list) → IsReaching (slot + slot_count i) (record h { cost = cost }) → IsJudgment p c slot i (arrival_of s h) (record { state = s''; here = Some (record h { cost = cost }) }) (record { not_entailed = (refused || enters) || returns; over_budget = unpaid || exits; past_end = last })
+pass_judged p c slot i s h s' s'' alive refused unpaid enters returns exits goes last cost is_alive told spent en re ex rf un leads continues at_end valid =
     let all = shared p c slot i s h s' alive refused unpaid enters returns exits cost is_alive told spent en re ex rf un in
     let next : next_state p c slot i s ≡ Some s'' = all.next ∙ sym leads ∙ ap (λ b. edge_told b s'') continues in
     record {

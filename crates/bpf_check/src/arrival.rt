@@ -23,13 +23,11 @@ pub struct Here<'a> {
     pub cost: Option<i128>,
 }
 
-/// What goes on from instruction to instruction. The states stand in one place, since they are large.
+/// What goes on from instruction to instruction. The state stands in one place, since it is large.
 #[derive(Drop)]
 pub struct Walk<'a> {
     /// The state that reaches an instruction, if one does.
     pub state: State,
-    /// Room for the state on another edge.
-    pub aside: State,
     /// None where no state reaches.
     pub here: Option<Here<'a>>,
 }
@@ -41,7 +39,6 @@ impl<'a> Walk<'a> {
     {
         Walk {
             state: State::blank(),
-            aside: State::blank(),
             here: None,
         }
     }

@@ -3,7 +3,8 @@
 ghost use Rattle.std.specs.Prelude.{◌≡◌, ℤ, ◌+◌, ◌*◌, ◌^◌, ◌≤◌, ◌∷◌, [], true, false, count_by, Option, IfSome, IsSome, IsTrue, Some, None, option_map, option_and_then, option_copied};
 ghost use Rattle.bpf_cert.specs.View.{CertificateView, LabelView, label_view};
 ghost use Rattle.bpf_cert.specs.Limits.{is_limited_label};
-ghost use Rattle.bpf_state.specs.State.{AbstractState};
+ghost use Rattle.bpf_state.specs.State.{AbstractState, IsRegister, callee_state};
+ghost use Rattle.bpf_state.specs.Entails.{state_entails};
 ghost use Rattle.bpf_state.specs.Answer.{edge_told};
 ghost use Rattle.bpf_state.specs.Fault.{some_passes};
 ghost use Rattle.bpf_safety.specs.Labels.{label_at};
@@ -12,7 +13,7 @@ ghost use Rattle.bpf_safety.specs.Flaw.{is_negative_if, enters_wrongly, returns_
 ghost use Rattle.bpf_check.specs.code.Slack.{IsWithin};
 ghost use Rattle.bpf_check.specs.code.Arrivals.{arrival_of, IsReaching};
 ghost use Rattle.bpf_safety.specs.Work.{leads_into_label, one_if, enters_label, returns_result};
-ghost use Rattle.bpf_check.specs.code.Edges.{slack_to, left_at_exit, next_of, is_unpaid, seen_of, edge_seen};
+ghost use Rattle.bpf_check.specs.code.Edges.{slack_to, left_at_exit, next_of, is_unpaid, seen_of, edge_seen, with_operands};
 ghost use Rattle.bpf_check.specs.code.Sites.{IsSpot, IsSite, visit_at, jump_edge, edges_at, jump_seen_at, next_seen_at};
 ghost use Rattle.bpf_check.specs.code.Counting.{compared};
 
@@ -21,8 +22,8 @@ use crate::budget::least_budget;
 use crate::site::{Site, Spot};
 use crate::spending::{Slack, slack_on};
 use bpf_cert::Label;
-use bpf_insn::Insn;
-use bpf_state::{State, Work, branch, enter, leave};
+use bpf_insn::{Insn, Operand, Reg};
+use bpf_state::{RegState, State, Work, branch, enter, leave};
 
 /// An edge of an instruction without fault: where it leads, and what is judged there.
 #[derive(Clone, Copy)]
@@ -109,8 +110,20 @@ pub fn judge_edge<'a>(
     }
 }
 
+/// Whether the state that a call leads to lies in a label. Of its own, so that nothing but a call makes room for a state.
+#[inline(never)]
+fn is_entered(label: &Label, state: &State, work: &mut Work) -> bool
+    ensures answer { result ≡ state_entails (callee_state state.now) label.now.state }
+    ensures work { work.new ≡ compared 1 work.old }
+{
+    let mut callee = State::blank();
+    callee.copy_from(state);
+    enter(&mut callee);
+    work.entails_label_counted(&callee, &label.state)
+}
+
 /// Whether the state at a callee's entry doesn't lie in the label at its first slot.
-pub fn enters_wrongly(site: &Site, state: &State, aside: &mut State, work: &mut Work) -> bool
+pub fn enters_wrongly(site: &Site, state: &State, work: &mut Work) -> bool
     requires { IsSite site.now }
     ensures answer { (a : Arrival) → a.state ≡ state.now → result ≡ enters_wrongly site.now.certificate.now (visit_at site.now) a }
     ensures work { work.new ≡ compared (one_if (enters_label site.now.certificate.now (visit_at site.now))) work.old }
@@ -119,11 +132,7 @@ pub fn enters_wrongly(site: &Site, state: &State, aside: &mut State, work: &mut 
         return false;
     };
     match callee.label {
-        Some(label) => {
-            aside.copy_from(state);
-            enter(aside);
-            !work.entails_label_counted(aside, &label.state)
-        }
+        Some(label) => !is_entered(label, state, work),
         None => false,
     }
 }
@@ -162,13 +171,26 @@ pub fn left_at_exit(site: &Site, here: &Here, cost: Option<i128>) -> Option<i128
     }
 }
 
-/// Judges the edge of a jump, if it has one, live or dead. The state is the one after the instruction, and aside is then the one on
-/// the edge where a test holds.
+/// Puts back what is known of the operands of a test.
+#[inline(always)]
+fn put_back(dst: Reg, src: Operand, left: RegState, right: RegState, state: &mut State)
+    requires left { IsRegister left }
+    requires right { IsRegister right }
+    ensures { state.new ≡ with_operands dst src left right state.old }
+{
+    state.set_reg(dst, left);
+    match src {
+        Operand::Reg(r) => state.set_reg(r, right),
+        Operand::Imm(_imm) => {}
+    }
+}
+
+/// Judges the edge of a jump, if it has one, live or dead. The state is the one after the instruction. A test changes it at the test's
+/// operands alone, so it is judged in its place, and they are put back.
 #[inline(always)]
 pub fn judge_jump<'a>(
     site: &Site<'a>,
-    state: &State,
-    aside: &mut State,
+    state: &mut State,
     old: &Label,
     cost: Option<i128>,
     work: &mut Work,
@@ -177,21 +199,24 @@ pub fn judge_jump<'a>(
     requires old { IsTrue (is_limited_label (label_view old.now)) }
     requires alive { IsSome (label_state (label_view old.now)) }
     requires cost { IfSome cost (λ z. IsWithin (2 ^ 112) z) }
-    ensures seen { option_map seen_of result ≡ jump_seen_at site.now (label_view old.now) cost state.now }
-    ensures work { work.new ≡ compared (count_by (leads_into_label site.now.certificate.now) (jump_edge site.now state.now)) work.old }
+    ensures seen { option_map seen_of result ≡ jump_seen_at site.now (label_view old.now) cost state.old }
+    ensures work { work.new ≡ compared (count_by (leads_into_label site.now.certificate.now) (jump_edge site.now state.old)) work.old }
+    ensures kept { state.new ≡ state.old }
 {
     let Some(to) = site.jump else {
         return None;
     };
-    let Insn::JumpIf { .. } = site.insn else {
-        return Some(judge_edge(&to, state, old, cost, work));
+    let Insn::JumpIf { dst, src, .. } = site.insn else {
+        return Some(judge_edge(&to, &*state, old, cost, work));
     };
-    aside.copy_from(state);
-    if branch(&site.insn, true, aside) {
-        Some(judge_edge(&to, aside, old, cost, work))
-    } else {
-        Some(JudgedEdge::dead(&to))
+    let left = state.reg(dst);
+    let right = state.operand(src);
+    if !branch(&site.insn, true, state) {
+        return Some(JudgedEdge::dead(&to));
     }
+    let edge = judge_edge(&to, &*state, old, cost, work);
+    put_back(dst, src, left, right, state);
+    Some(edge)
 }
 
 /// Makes the state after an instruction the one on its edge to the next one. False if that edge is dead or isn't there.
@@ -228,7 +253,6 @@ pub fn go_to_next(site: &Site, state: &mut State) -> bool
 pub fn judge_edges<'a>(
     site: &Site<'a>,
     state: &mut State,
-    aside: &mut State,
     old: &Label,
     cost: Option<i128>,
     work: &mut Work,
@@ -242,7 +266,7 @@ pub fn judge_edges<'a>(
     ensures goes { edge_told result.1.is_live state.new ≡ next_of site.now.certificate.now site.now.here.slot site.now.insn state.old }
     ensures work { work.new ≡ compared (count_by (leads_into_label site.now.certificate.now) (edges_at site.now state.old)) work.old }
 {
-    let jump = judge_jump(site, state, aside, old, cost, work);
+    let jump = judge_jump(site, state, old, cost, work);
     if !go_to_next(site, state) {
         return (jump, JudgedEdge::dead(&site.next));
     }

@@ -84,8 +84,7 @@ impl<'a> Seen<'a> {
     }
 }
 
-/// Judges an instruction that a state reaches, and makes the walk what goes on from it: C3 to C7 if it isn't allowed there. Behind a
-/// conditional jump, the state aside is the one on the edge where the test holds, if that is live.
+/// Judges an instruction that a state reaches, and makes the walk what goes on from it: C3 to C7 if it isn't allowed there.
 #[inline(always)]
 pub fn judge<'a, P: Code>(
     program: &P,
@@ -111,7 +110,7 @@ pub fn judge<'a, P: Code>(
     let last = site.next.slot == program.slots();
     let cost = cost_after(site, &here, &walk.state);
     let exits = left_at_exit(site, &here, cost);
-    let enters = enters_wrongly(site, &walk.state, &mut walk.aside, work);
+    let enters = enters_wrongly(site, &walk.state, work);
     let returns = returns_wrongly(site, &walk.state, work);
     walk.here = None;
     let alive = match work.transfer_counted(
@@ -136,14 +135,7 @@ pub fn judge<'a, P: Code>(
     if !alive {
         return Ok(stopped);
     }
-    let (jump, next) = judge_edges(
-        site,
-        &mut walk.state,
-        &mut walk.aside,
-        here.label,
-        cost,
-        work,
-    );
+    let (jump, next) = judge_edges(site, &mut walk.state, here.label, cost, work);
     if !next.is_live {
         return Ok(Seen {
             jump,

@@ -11,7 +11,7 @@ use bpf_check::{
     Index, Site, Spot, Walk, arrive, calls_no_deeper, judge_reached, lacks_label, way_out,
 };
 use bpf_insn::{Code, MAX_SLOTS};
-use bpf_state::Condition;
+use bpf_state::{Condition, branch};
 
 /// What is found without a state.
 fn see_shape<C: Code>(site: &Site, sight: &mut Sight<'_, C>)
@@ -47,7 +47,8 @@ fn see<'a, C: Code>(site: &Site<'a>, walk: &mut Walk<'a>, sight: &mut Sight<'a, 
             sight.note(seen);
             sight.behind.copy_from(&walk.state);
             if is_test(&site.insn) {
-                sight.if_so.copy_from(&walk.aside);
+                sight.if_so.copy_from(&sight.before);
+                let _live = branch(&site.insn, true, &mut sight.if_so);
             }
         }
         Err(fault) => sight.flaws.add_if(true, Condition::State(fault)),

@@ -3,7 +3,11 @@ use Rattle.std.specs.Prelude.{ℕ, ◌+◌, ℤ, ◌-ℤ◌, Bool, false, List, 
 use Rattle.bpf_insn.specs.declared.instruction.Insn.{Insn}
 use Rattle.bpf_insn.specs.declared.instruction.Insn.TheVariants.{JumpIf, CallLocal, Exit}
 use Rattle.bpf_insn.specs.Instruction.{slot_count, goes_on}
-use Rattle.bpf_state.specs.State.{AbstractState, caller_state}
+use Rattle.bpf_insn.specs.declared.instruction.Reg.{Reg}
+use Rattle.bpf_insn.specs.declared.instruction.Operand.{Operand}
+use Rattle.bpf_insn.specs.declared.instruction.Operand.TheVariants.{Imm, Reg as FromReg}
+use Rattle.bpf_state.specs.declared.known.RegState.{RegState}
+use Rattle.bpf_state.specs.State.{AbstractState, caller_state, with_register}
 use Rattle.bpf_state.specs.Transfer.{branch}
 use Rattle.bpf_state.specs.Fault.{some_passes}
 use Rattle.bpf_cert.specs.View.{LabelView, CertificateView, label_view}
@@ -83,6 +87,11 @@ abbrev pub next_of : CertificateView → ℕ → Insn → AbstractState → Opti
 next_of c slot (JumpIf cond width dst src off) s = branch (JumpIf cond width dst src off) false s
 next_of c slot (CallLocal off) s = option_and_then (λ g. caller_state g.ret s) (callee c slot (CallLocal off))
 next_of c slot i s = if goes_on i then Some s else None
+
+-- a state with something known of the operands of a test, of the second only where it is a register
+abbrev pub with_operands : Reg → Operand → RegState → RegState → AbstractState → AbstractState
+with_operands dst (FromReg r) left right s = with_register (with_register s dst left) r right
+with_operands dst (Imm imm) left right s = with_register s dst left
 
 -- the live edges, from the state after an instruction
 abbrev pub edges_of : CertificateView → ℕ → Insn → AbstractState → List Edge

@@ -18,19 +18,19 @@ pub returns-in-Err-clause-work : goal.returns-in-Err-clause-work
 returns-in-Err-clause-work g c = fault_counted (g.P.Code.program c.args.program.now) c.args.step.now c.requires.step (walk_of c.args.walk.now) (arrival_of c.args.walk.now.state c.args.step.now.reached) c.args.work.now _ _ (ap (option_map (arrival_of c.args.walk.now.state)) c.requires.reached) c.in-Err.ensures.counts (transfer_fault (g.P.Code.program c.args.program.now).order c.args.step.now.insn c.args.step.now.certificate.now.least c.args.walk.now.state c.transfer_counted.new.state c.in-Err.fault (c.in-Err.ensures.outcome ∙ ap₂ (λ n o. transfer o c.args.step.now.insn n c.args.walk.now.state) c.least.ensures c.order.ensures))
 
 pub returns-then-not-alive-clause-refusal : goal.returns-then-not-alive-clause-refusal
-returns-then-not-alive-clause-refusal g c = straight_sound (g.P.Code.program c.args.program.now) c.args.step.now c.requires.step (walk_of c.args.walk.now) (arrival_of c.args.walk.now.state c.args.step.now.reached) _ (ap (option_map (arrival_of c.args.walk.now.state)) c.requires.reached) (ends_dead (g.P.Code.program c.args.program.now) c.args.step.now c.requires.step c.args.walk.now.state c.transfer_counted.new.state c.transfer_counted.new.state c.args.walk.now.aside c.args.step.now.reached c.in-Ok.alive c.if-not-alive.true (c.in-Ok.ensures.outcome ∙ ap₂ (λ n o. transfer o c.args.step.now.insn n c.args.walk.now.state) c.least.ensures c.order.ensures))
+returns-then-not-alive-clause-refusal g c = straight_sound (g.P.Code.program c.args.program.now) c.args.step.now c.requires.step (walk_of c.args.walk.now) (arrival_of c.args.walk.now.state c.args.step.now.reached) _ (ap (option_map (arrival_of c.args.walk.now.state)) c.requires.reached) (ends_dead (g.P.Code.program c.args.program.now) c.args.step.now c.requires.step c.args.walk.now.state c.transfer_counted.new.state c.transfer_counted.new.state c.args.step.now.reached c.in-Ok.alive c.if-not-alive.true (c.in-Ok.ensures.outcome ∙ ap₂ (λ n o. transfer o c.args.step.now.insn n c.args.walk.now.state) c.least.ensures c.order.ensures))
 
 pub returns-then-not-alive-clause-passed : goal.returns-then-not-alive-clause-passed
-returns-then-not-alive-clause-passed g c = straight_passed (g.P.Code.program c.args.program.now) c.args.step.now c.requires.step (walk_of c.args.walk.now) (arrival_of c.args.walk.now.state c.args.step.now.reached) _ (ap (option_map (arrival_of c.args.walk.now.state)) c.requires.reached) (ends_dead (g.P.Code.program c.args.program.now) c.args.step.now c.requires.step c.args.walk.now.state c.transfer_counted.new.state c.transfer_counted.new.state c.args.walk.now.aside c.args.step.now.reached c.in-Ok.alive c.if-not-alive.true (c.in-Ok.ensures.outcome ∙ ap₂ (λ n o. transfer o c.args.step.now.insn n c.args.walk.now.state) c.least.ensures c.order.ensures))
+returns-then-not-alive-clause-passed g c = straight_passed (g.P.Code.program c.args.program.now) c.args.step.now c.requires.step (walk_of c.args.walk.now) (arrival_of c.args.walk.now.state c.args.step.now.reached) _ (ap (option_map (arrival_of c.args.walk.now.state)) c.requires.reached) (ends_dead (g.P.Code.program c.args.program.now) c.args.step.now c.requires.step c.args.walk.now.state c.transfer_counted.new.state c.transfer_counted.new.state c.args.step.now.reached c.in-Ok.alive c.if-not-alive.true (c.in-Ok.ensures.outcome ∙ ap₂ (λ n o. transfer o c.args.step.now.insn n c.args.walk.now.state) c.least.ensures c.order.ensures))
 
 pub returns-then-not-alive-clause-work : goal.returns-then-not-alive-clause-work
 returns-then-not-alive-clause-work g c = dead_counted (g.P.Code.program c.args.program.now) c.args.step.now c.requires.step (walk_of c.args.walk.now) (arrival_of c.args.walk.now.state c.args.step.now.reached) c.transfer_counted.new.state c.in-Ok.alive c.args.work.now _ (ap (option_map (arrival_of c.args.walk.now.state)) c.requires.reached) c.in-Ok.ensures.counts c.if-not-alive.true (c.in-Ok.ensures.outcome ∙ ap₂ (λ n o. transfer o c.args.step.now.insn n c.args.walk.now.state) c.least.ensures c.order.ensures)
 
 pub returns-clause-refusal : goal.returns-clause-refusal
-returns-clause-refusal g c = straight_sound (g.P.Code.program c.args.program.now) c.args.step.now c.requires.step (walk_of c.args.walk.now) (arrival_of c.args.walk.now.state c.args.step.now.reached) _ (ap (option_map (arrival_of c.args.walk.now.state)) c.requires.reached) (ends_live (g.P.Code.program c.args.program.now) c.args.step.now c.requires.step c.args.walk.now.state c.transfer_counted.new.state c.args.walk.now.aside c.args.step.now.reached c.in-Ok.alive c.one_more-cost.result c.if-not-alive.false (c.in-Ok.ensures.outcome ∙ ap₂ (λ n o. transfer o c.args.step.now.insn n c.args.walk.now.state) c.least.ensures c.order.ensures) c.one_more-cost.ensures.value (record { limited = c.requires.valid.limited; alive = c.requires.valid.alive; cost = next_cost c.args.step.now.slot c.args.step.now.insn c.one_more-cost.result c.one_more-cost.ensures.small }))
+returns-clause-refusal g c = straight_sound (g.P.Code.program c.args.program.now) c.args.step.now c.requires.step (walk_of c.args.walk.now) (arrival_of c.args.walk.now.state c.args.step.now.reached) _ (ap (option_map (arrival_of c.args.walk.now.state)) c.requires.reached) (ends_live (g.P.Code.program c.args.program.now) c.args.step.now c.requires.step c.args.walk.now.state c.transfer_counted.new.state c.args.step.now.reached c.in-Ok.alive c.one_more-cost.result c.if-not-alive.false (c.in-Ok.ensures.outcome ∙ ap₂ (λ n o. transfer o c.args.step.now.insn n c.args.walk.now.state) c.least.ensures c.order.ensures) c.one_more-cost.ensures.value (record { limited = c.requires.valid.limited; alive = c.requires.valid.alive; cost = next_cost c.args.step.now.slot c.args.step.now.insn c.one_more-cost.result c.one_more-cost.ensures.small }))
 
 pub returns-clause-passed : goal.returns-clause-passed
-returns-clause-passed g c = straight_passed (g.P.Code.program c.args.program.now) c.args.step.now c.requires.step (walk_of c.args.walk.now) (arrival_of c.args.walk.now.state c.args.step.now.reached) _ (ap (option_map (arrival_of c.args.walk.now.state)) c.requires.reached) (ends_live (g.P.Code.program c.args.program.now) c.args.step.now c.requires.step c.args.walk.now.state c.transfer_counted.new.state c.args.walk.now.aside c.args.step.now.reached c.in-Ok.alive c.one_more-cost.result c.if-not-alive.false (c.in-Ok.ensures.outcome ∙ ap₂ (λ n o. transfer o c.args.step.now.insn n c.args.walk.now.state) c.least.ensures c.order.ensures) c.one_more-cost.ensures.value (record { limited = c.requires.valid.limited; alive = c.requires.valid.alive; cost = next_cost c.args.step.now.slot c.args.step.now.insn c.one_more-cost.result c.one_more-cost.ensures.small }))
+returns-clause-passed g c = straight_passed (g.P.Code.program c.args.program.now) c.args.step.now c.requires.step (walk_of c.args.walk.now) (arrival_of c.args.walk.now.state c.args.step.now.reached) _ (ap (option_map (arrival_of c.args.walk.now.state)) c.requires.reached) (ends_live (g.P.Code.program c.args.program.now) c.args.step.now c.requires.step c.args.walk.now.state c.transfer_counted.new.state c.args.step.now.reached c.in-Ok.alive c.one_more-cost.result c.if-not-alive.false (c.in-Ok.ensures.outcome ∙ ap₂ (λ n o. transfer o c.args.step.now.insn n c.args.walk.now.state) c.least.ensures c.order.ensures) c.one_more-cost.ensures.value (record { limited = c.requires.valid.limited; alive = c.requires.valid.alive; cost = next_cost c.args.step.now.slot c.args.step.now.insn c.one_more-cost.result c.one_more-cost.ensures.small }))
 
 pub returns-clause-work : goal.returns-clause-work
 returns-clause-work g c = live_counted (g.P.Code.program c.args.program.now) c.args.step.now c.requires.step (walk_of c.args.walk.now) (arrival_of c.args.walk.now.state c.args.step.now.reached) c.transfer_counted.new.state c.in-Ok.alive c.args.work.now _ (ap (option_map (arrival_of c.args.walk.now.state)) c.requires.reached) c.in-Ok.ensures.counts c.if-not-alive.false (c.in-Ok.ensures.outcome ∙ ap₂ (λ n o. transfer o c.args.step.now.insn n c.args.walk.now.state) c.least.ensures c.order.ensures)

@@ -16,13 +16,13 @@ pub returns-in-Err-clause-err : goal.returns-in-Err-clause-err
 returns-in-Err-clause-err g c = transfer_fault (g.P.Code.program c.args.program.now).order c.args.site.now.insn c.args.site.now.certificate.now.least c.args.walk.now.state c.transfer_counted.new.state c.in-Err.fault (c.in-Err.ensures.outcome ∙ ap₂ (λ n o. transfer o c.args.site.now.insn n c.args.walk.now.state) c.least.ensures c.order.ensures)
 
 pub returns-then-not-alive-clause-ok : goal.returns-then-not-alive-clause-ok
-returns-then-not-alive-clause-ok g c = dead_seen (g.P.Code.program c.args.program.now) c.args.site.now.certificate.now c.args.site.now.here.slot c.args.site.now.insn c.args.walk.now.state c.args.here c.transfer_counted.new.state _ _ c.in-Ok.alive c.enters_wrongly-enters.result c.returns_wrongly-returns.result c.left_at_exit-exits.result c.cost_after-cost.result c.dead.result _ (c.dead.ensures.seen c.args.site.now.certificate.now (label_view c.args.here.label.now) c.cost_after-cost.result c.requires.site.next) c.if-not-alive.true (c.in-Ok.ensures.outcome ∙ ap₂ (λ n o. transfer o c.args.site.now.insn n c.args.walk.now.state) c.least.ensures c.order.ensures) c.cost_after-cost.ensures.value (c.enters_wrongly-enters.ensures.answer (arrival_of c.args.walk.now.state c.args.here) refl) (c.returns_wrongly-returns.ensures.answer (arrival_of c.args.walk.now.state c.args.here) refl) (c.left_at_exit-exits.ensures.unpaid c.args.walk.now.state)
+returns-then-not-alive-clause-ok g c = dead_seen (g.P.Code.program c.args.program.now) c.args.site.now.certificate.now c.args.site.now.here.slot c.args.site.now.insn c.args.walk.now.state c.args.here c.transfer_counted.new.state _ c.in-Ok.alive c.enters_wrongly-enters.result c.returns_wrongly-returns.result c.left_at_exit-exits.result c.cost_after-cost.result c.dead.result _ (c.dead.ensures.seen c.args.site.now.certificate.now (label_view c.args.here.label.now) c.cost_after-cost.result c.requires.site.next) c.if-not-alive.true (c.in-Ok.ensures.outcome ∙ ap₂ (λ n o. transfer o c.args.site.now.insn n c.args.walk.now.state) c.least.ensures c.order.ensures) c.cost_after-cost.ensures.value (c.enters_wrongly-enters.ensures.answer (arrival_of c.args.walk.now.state c.args.here) refl) (c.returns_wrongly-returns.ensures.answer (arrival_of c.args.walk.now.state c.args.here) refl) (c.left_at_exit-exits.ensures.unpaid c.args.walk.now.state)
 
 pub returns-then-not-next-clause-ok : goal.returns-then-not-next-clause-ok
-returns-then-not-next-clause-ok g c = stop_judged (g.P.Code.program c.args.program.now) c.args.site.now.certificate.now c.args.site.now.here.slot c.args.site.now.insn c.args.walk.now.state c.args.here c.transfer_counted.new.state c.judge_edges.new.state _ _ c.in-Ok.alive _ _ _ _ _ _ c.cost_after-cost.result c.if-not-alive.false (c.in-Ok.ensures.outcome ∙ ap₂ (λ n o. transfer o c.args.site.now.insn n c.args.walk.now.state) c.least.ensures c.order.ensures) c.cost_after-cost.ensures.value (c.enters_wrongly-enters.ensures.answer (arrival_of c.args.walk.now.state c.args.here) refl) (c.returns_wrongly-returns.ensures.answer (arrival_of c.args.walk.now.state c.args.here) refl) (c.left_at_exit-exits.ensures.unpaid c.args.walk.now.state) (all_refused c.args.site.now.certificate.now (label_view c.args.here.label.now) c.cost_after-cost.result c.args.site.now.here.slot c.args.site.now.insn c.transfer_counted.new.state _ _ c.judge_edges.ensures.jump c.judge_edges.ensures.next) (all_unpaid c.args.site.now.certificate.now (label_view c.args.here.label.now) c.cost_after-cost.result c.args.site.now.here.slot c.args.site.now.insn c.transfer_counted.new.state _ _ c.judge_edges.ensures.jump c.judge_edges.ensures.next) c.judge_edges.ensures.goes c.if-not-next.true
+returns-then-not-next-clause-ok g c = stop_judged (g.P.Code.program c.args.program.now) c.args.site.now.certificate.now c.args.site.now.here.slot c.args.site.now.insn c.args.walk.now.state c.args.here c.transfer_counted.new.state c.judge_edges.new.state _ c.in-Ok.alive _ _ _ _ _ _ c.cost_after-cost.result c.if-not-alive.false (c.in-Ok.ensures.outcome ∙ ap₂ (λ n o. transfer o c.args.site.now.insn n c.args.walk.now.state) c.least.ensures c.order.ensures) c.cost_after-cost.ensures.value (c.enters_wrongly-enters.ensures.answer (arrival_of c.args.walk.now.state c.args.here) refl) (c.returns_wrongly-returns.ensures.answer (arrival_of c.args.walk.now.state c.args.here) refl) (c.left_at_exit-exits.ensures.unpaid c.args.walk.now.state) (all_refused c.args.site.now.certificate.now (label_view c.args.here.label.now) c.cost_after-cost.result c.args.site.now.here.slot c.args.site.now.insn c.transfer_counted.new.state _ _ c.judge_edges.ensures.jump c.judge_edges.ensures.next) (all_unpaid c.args.site.now.certificate.now (label_view c.args.here.label.now) c.cost_after-cost.result c.args.site.now.here.slot c.args.site.now.insn c.transfer_counted.new.state _ _ c.judge_edges.ensures.jump c.judge_edges.ensures.next) c.judge_edges.ensures.goes c.if-not-next.true
 
 pub returns-clause-ok : goal.returns-clause-ok
-returns-clause-ok g c = pass_judged (g.P.Code.program c.args.program.now) c.args.site.now.certificate.now c.args.site.now.here.slot c.args.site.now.insn c.args.walk.now.state c.args.here c.transfer_counted.new.state c.judge_edges.new.state _ c.in-Ok.alive _ _ _ _ _ _ _ c.cost_after-cost.result c.if-not-alive.false (c.in-Ok.ensures.outcome ∙ ap₂ (λ n o. transfer o c.args.site.now.insn n c.args.walk.now.state) c.least.ensures c.order.ensures) c.cost_after-cost.ensures.value (c.enters_wrongly-enters.ensures.answer (arrival_of c.args.walk.now.state c.args.here) refl) (c.returns_wrongly-returns.ensures.answer (arrival_of c.args.walk.now.state c.args.here) refl) (c.left_at_exit-exits.ensures.unpaid c.args.walk.now.state) (all_refused c.args.site.now.certificate.now (label_view c.args.here.label.now) c.cost_after-cost.result c.args.site.now.here.slot c.args.site.now.insn c.transfer_counted.new.state _ _ c.judge_edges.ensures.jump c.judge_edges.ensures.next) (all_unpaid c.args.site.now.certificate.now (label_view c.args.here.label.now) c.cost_after-cost.result c.args.site.now.here.slot c.args.site.now.insn c.transfer_counted.new.state _ _ c.judge_edges.ensures.jump c.judge_edges.ensures.next) c.judge_edges.ensures.goes c.if-not-next.false (ap₂ nat_eq c.requires.site.next_slot c.slots.ensures.count) (record { limited = c.requires.valid.limited; alive = c.requires.valid.alive; cost = next_cost c.args.site.now.here.slot c.args.site.now.insn c.cost_after-cost.result c.cost_after-cost.ensures.small })
+returns-clause-ok g c = pass_judged (g.P.Code.program c.args.program.now) c.args.site.now.certificate.now c.args.site.now.here.slot c.args.site.now.insn c.args.walk.now.state c.args.here c.transfer_counted.new.state c.judge_edges.new.state c.in-Ok.alive _ _ _ _ _ _ _ c.cost_after-cost.result c.if-not-alive.false (c.in-Ok.ensures.outcome ∙ ap₂ (λ n o. transfer o c.args.site.now.insn n c.args.walk.now.state) c.least.ensures c.order.ensures) c.cost_after-cost.ensures.value (c.enters_wrongly-enters.ensures.answer (arrival_of c.args.walk.now.state c.args.here) refl) (c.returns_wrongly-returns.ensures.answer (arrival_of c.args.walk.now.state c.args.here) refl) (c.left_at_exit-exits.ensures.unpaid c.args.walk.now.state) (all_refused c.args.site.now.certificate.now (label_view c.args.here.label.now) c.cost_after-cost.result c.args.site.now.here.slot c.args.site.now.insn c.transfer_counted.new.state _ _ c.judge_edges.ensures.jump c.judge_edges.ensures.next) (all_unpaid c.args.site.now.certificate.now (label_view c.args.here.label.now) c.cost_after-cost.result c.args.site.now.here.slot c.args.site.now.insn c.transfer_counted.new.state _ _ c.judge_edges.ensures.jump c.judge_edges.ensures.next) c.judge_edges.ensures.goes c.if-not-next.false (ap₂ nat_eq c.requires.site.next_slot c.slots.ensures.count) (record { limited = c.requires.valid.limited; alive = c.requires.valid.alive; cost = next_cost c.args.site.now.here.slot c.args.site.now.insn c.cost_after-cost.result c.cost_after-cost.ensures.small })
 
 pub returns-then-not-alive-clause-alive : goal.returns-then-not-alive-clause-alive
 returns-then-not-alive-clause-alive g c = dead_alive (g.P.Code.program c.args.program.now).order c.args.site.now.insn c.args.site.now.certificate.now.least c.args.walk.now.state c.transfer_counted.new.state c.in-Ok.alive c.if-not-alive.true (c.in-Ok.ensures.outcome ∙ ap₂ (λ n o. transfer o c.args.site.now.insn n c.args.walk.now.state) c.least.ensures c.order.ensures)
