@@ -1,2 +1,5 @@
-pub mod code
+-- Definitions, in the order in which they read best.
+-- what a run of a checked program promises
 pub mod Runs
+-- what mirrors code
+pub mod code

@@ -17,5 +17,6 @@ mod standing;
 mod step;
 
 pub use opcodes::put_opcodes;
+pub use ordered::Imaged;
 pub use prepared::{Prepared, run_image};
 pub use runs::run;

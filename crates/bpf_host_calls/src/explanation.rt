@@ -1,14 +1,9 @@
 //! Images explained, in the words of the command's `explain`.
 
-ghost use Rattle.std.specs.Prelude.{◌≡◌, ◌⊎◌, ◌≤◌, ◌<◌, IfOk, IfErr, IfSome, IfNone, length};
-ghost use Rattle.bpf_insn.specs.Instruction.{slots};
+ghost use Rattle.std.specs.Prelude.{◌≡◌, ◌⊎◌, ◌≤◌, ◌<◌, IfSome, IfNone, length};
 ghost use Rattle.bpf_insn.specs.Limits.{max_context};
 ghost use Rattle.bpf_insn.specs.Refusal.{IsRefused};
 ghost use Rattle.bpf_cert.specs.ReadAnswers.{IsFromOutside};
-ghost use Rattle.bpf_safety.specs.Certified.{IsLeastFlaw};
-ghost use Rattle.bpf_check.specs.CheckedProgram.{IsCertifiedBy};
-ghost use Rattle.bpf_check.specs.RefusalNumbers.{refusal_number, refusal_slot};
-ghost use Rattle.bpf_infer_base.specs.RefusalNumbers.{infer_slot};
 ghost use Rattle.bpf_host_calls.specs.Told.{TellsCertificate, TellsCheck};
 ghost use Rattle.bpf_host_calls.specs.Explained.{Asks, IsReadAs, IsCheckedAs, IsSearchedAs, IsRefusedImage};
 ghost use Rattle.bpf_host_calls.specs.declared.answers.BpfRefusal.{BpfRefusal as Told};

@@ -1,7 +1,7 @@
 //! What is answered of an image that was judged by a certificate. The judgement is an argument, so that the clauses can say that nothing else is told. They
 //! can't say which of the answers that it may give the checker gave.
 
-ghost use Rattle.std.specs.Prelude.{◌≡◌, ◌≢◌, ◌⊎◌, ◌↔◌, ◌<◌, ◌≤◌, ◌+◌, IsOkAnd, IsErrAnd, IfOk, IsOk, List, length};
+ghost use Rattle.std.specs.Prelude.{◌≡◌, ◌≢◌, ◌⊎◌, ◌↔◌, ◌<◌, ◌≤◌, IsOkAnd, IsErrAnd, IsOk, List, length};
 ghost use Rattle.bpf_insn.specs.Laws.{IsImageOfProgram};
 ghost use Rattle.bpf_insn.specs.declared.instruction.Insn.{Insn as Instruction};
 ghost use Rattle.bpf_check.specs.Verdicts.{IsUnread};

@@ -1,6 +1,5 @@
 //! Why no program is made of a filter, as C sees it.
 
-ghost use Rattle.std.specs.Prelude.{◌≡◌};
 ghost use Rattle.bpf_host_calls.specs.ToldConverted.{TellsConversion};
 
 use crate::answers::told_refusal;
