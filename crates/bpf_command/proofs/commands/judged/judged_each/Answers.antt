@@ -1,4 +1,4 @@
-use Rattle.std.proofs.Common.{rules, ◌≡◌, inl}
+use Rattle.std.proofs.Common.{rules, ◌≡◌, ◌∙◌, inl}
 use Rattle.bpf_check.specs.CheckedProgram.{IsCertifiedBy, checked}
 use Rattle.bpf_check.specs.RefusalNumbers.{refusal_slot, refusal_number}
 use Rattle.bpf_safety.specs.Certified.{IsLeastFlaw}
@@ -21,8 +21,8 @@ returns-in-Ok-answered-clause-ok g c =
     let p = g.C.Code.program c.args.program.now in
     let read : CertificateAt at c.args.places.now c.args.running.asked.certificate.now c.certificate_at.new.places c.in-Ok.certificate = search rules in
     let by : IsCertifiedBy p c.in-Ok.certificate = search rules in
-    let same : c.in-Ok-check.checked ≡ checked p c.in-Ok.certificate = c.in-Ok-check.ensures.ok in
-    judged_each_says at c.args.places.now c.args.running.asked (noted_in c.args.running.notes) c.args.contexts c.certificate_at.new.places c.answered.new.places p c.in-Ok.certificate c.in-Ok-check.checked _ _ c.in-Ok-answered.status read by same c.in-Ok-answered.ensures.ok
+    let same : c.of.result ≡ checked p c.in-Ok.certificate = c.of.ensures ∙ c.in-Ok-check.ensures.ok in
+    judged_each_says at c.args.places.now c.args.running.asked (noted_in c.args.running.notes) c.args.contexts c.certificate_at.new.places c.answered.new.places p c.in-Ok.certificate c.of.result _ _ c.in-Ok-answered.status read by same c.in-Ok-answered.ensures.ok
 
 pub returns-clause-err : goal.returns-clause-err
 returns-clause-err g c =
@@ -30,8 +30,8 @@ returns-clause-err g c =
     let p = g.C.Code.program c.args.program.now in
     let read : CertificateAt at c.args.places.now c.args.running.asked.certificate.now c.certificate_at.new.places c.in-Ok.certificate = search rules in
     let by : IsCertifiedBy p c.in-Ok.certificate = search rules in
-    let same : c.in-Ok-check.checked ≡ checked p c.in-Ok.certificate = c.in-Ok-check.ensures.ok in
-    judged_each_fails at c.args.places.now c.args.running.asked (noted_in c.args.running.notes) c.args.contexts c.certificate_at.new.places c.answered.new.places p c.in-Ok.certificate c.in-Ok-check.checked _ _ c.in-Err-answered.failure read by same c.in-Err-answered.ensures.err
+    let same : c.of.result ≡ checked p c.in-Ok.certificate = c.of.ensures ∙ c.in-Ok-check.ensures.ok in
+    judged_each_fails at c.args.places.now c.args.running.asked (noted_in c.args.running.notes) c.args.contexts c.certificate_at.new.places c.answered.new.places p c.in-Ok.certificate c.of.result _ _ c.in-Err-answered.failure read by same c.in-Err-answered.ensures.err
 
 pub returns-clause-begun : goal.returns-clause-begun
 returns-clause-begun g c =
@@ -39,5 +39,5 @@ returns-clause-begun g c =
     let p = g.C.Code.program c.args.program.now in
     let read : CertificateAt at c.args.places.now c.args.running.asked.certificate.now c.certificate_at.new.places c.in-Ok.certificate = search rules in
     let by : IsCertifiedBy p c.in-Ok.certificate = search rules in
-    let same : c.in-Ok-check.checked ≡ checked p c.in-Ok.certificate = c.in-Ok-check.ensures.ok in
-    judged_each_leaves at c.args.places.now c.args.running.asked (noted_in c.args.running.notes) c.args.contexts c.certificate_at.new.places c.answered.new.places p c.in-Ok.certificate c.in-Ok-check.checked _ _ read by same c.in-Err-answered.ensures.begun
+    let same : c.of.result ≡ checked p c.in-Ok.certificate = c.of.ensures ∙ c.in-Ok-check.ensures.ok in
+    judged_each_leaves at c.args.places.now c.args.running.asked (noted_in c.args.running.notes) c.args.contexts c.certificate_at.new.places c.answered.new.places p c.in-Ok.certificate c.of.result _ _ read by same c.in-Err-answered.ensures.begun

@@ -14,7 +14,7 @@ returns-in-Ok-clause-ok g c =
     let known = g.R.Read.remaining c.args.reader.now in
     let at = g.W.Write.contents in
     let said : Stopped packets k known (at c.args.out.now) (at c.replay.new.out) c.in-Ok.stop
-    = subst (λ n. Replays (Gives k) (record { order = packets.order; size = n }) known packets.counts (Appends (at c.args.out.now) (at c.replay.new.out)) c.in-Ok.stop) c.most.ensures c.in-Ok.ensures.ok in
+    = subst (λ n. Replays (Gives k) (record { order = packets.order; size = n }) known packets.counts (Appends (at c.args.out.now) (at c.replay.new.out)) c.in-Ok.stop) c.most.ensures (subst (λ q. Replays (Gives q) (record { order = packets.order; size = c.most.result }) known packets.counts (Appends (at c.args.out.now) (at c.replay.new.out)) c.in-Ok.stop) c.of.ensures c.in-Ok.ensures.ok) in
     replay_says packets k known (at c.args.out.now) (at c.replay.new.out) c.in-Ok.stop c.ended.result said c.ended.ensures.ok
 
 pub returns-in-Ok-clause-err : goal.returns-in-Ok-clause-err
@@ -24,7 +24,7 @@ returns-in-Ok-clause-err g c =
     let known = g.R.Read.remaining c.args.reader.now in
     let at = g.W.Write.contents in
     let said : Stopped packets k known (at c.args.out.now) (at c.replay.new.out) c.in-Ok.stop
-    = subst (λ n. Replays (Gives k) (record { order = packets.order; size = n }) known packets.counts (Appends (at c.args.out.now) (at c.replay.new.out)) c.in-Ok.stop) c.most.ensures c.in-Ok.ensures.ok in
+    = subst (λ n. Replays (Gives k) (record { order = packets.order; size = n }) known packets.counts (Appends (at c.args.out.now) (at c.replay.new.out)) c.in-Ok.stop) c.most.ensures (subst (λ q. Replays (Gives q) (record { order = packets.order; size = c.most.result }) known packets.counts (Appends (at c.args.out.now) (at c.replay.new.out)) c.in-Ok.stop) c.of.ensures c.in-Ok.ensures.ok) in
     replay_fails packets k known (at c.args.out.now) (at c.replay.new.out) c.in-Ok.stop c.ended.result said c.ended.ensures.err
 
 pub returns-in-Ok-clause-begun : goal.returns-in-Ok-clause-begun
@@ -34,7 +34,7 @@ returns-in-Ok-clause-begun g c =
     let known = g.R.Read.remaining c.args.reader.now in
     let at = g.W.Write.contents in
     let said : Stopped packets k known (at c.args.out.now) (at c.replay.new.out) c.in-Ok.stop
-    = subst (λ n. Replays (Gives k) (record { order = packets.order; size = n }) known packets.counts (Appends (at c.args.out.now) (at c.replay.new.out)) c.in-Ok.stop) c.most.ensures c.in-Ok.ensures.ok in
+    = subst (λ n. Replays (Gives k) (record { order = packets.order; size = n }) known packets.counts (Appends (at c.args.out.now) (at c.replay.new.out)) c.in-Ok.stop) c.most.ensures (subst (λ q. Replays (Gives q) (record { order = packets.order; size = c.most.result }) known packets.counts (Appends (at c.args.out.now) (at c.replay.new.out)) c.in-Ok.stop) c.of.ensures c.in-Ok.ensures.ok) in
     replay_leaves packets k known (at c.args.out.now) (at c.replay.new.out) c.in-Ok.stop c.ended.result said c.ended.ensures.err
 
 pub returns-in-Err-Output-clause-begun : goal.returns-in-Err-Output-clause-begun
@@ -43,12 +43,12 @@ returns-in-Err-Output-clause-begun g c =
     let packets = c.args.packets in
     let known = g.R.Read.remaining c.args.reader.now in
     let at = g.W.Write.contents in
-    subst (λ n. Replays (Gives k) (record { order = packets.order; size = n }) known packets.counts (AppendsBeginning (at c.args.out.now) (at c.replay.new.out)) Failed) c.most.ensures c.in-Err-Output.ensures.err
+    subst (λ n. Replays (Gives k) (record { order = packets.order; size = n }) known packets.counts (AppendsBeginning (at c.args.out.now) (at c.replay.new.out)) Failed) c.most.ensures (subst (λ q. Replays (Gives q) (record { order = packets.order; size = c.most.result }) known packets.counts (AppendsBeginning (at c.args.out.now) (at c.replay.new.out)) Failed) c.of.ensures c.in-Err-Output.ensures.err)
 
-pub returns-in-Err-Memory-clause-begun : goal.returns-in-Err-Memory-clause-begun
-returns-in-Err-Memory-clause-begun g c =
+pub returns-clause-begun : goal.returns-clause-begun
+returns-clause-begun g c =
     let k = c.args.checked.now in
     let packets = c.args.packets in
     let known = g.R.Read.remaining c.args.reader.now in
     let at = g.W.Write.contents in
-    subst (λ n. Replays (Gives k) (record { order = packets.order; size = n }) known packets.counts (AppendsBeginning (at c.args.out.now) (at c.replay.new.out)) Failed) c.most.ensures c.in-Err-Memory.ensures.err
+    subst (λ n. Replays (Gives k) (record { order = packets.order; size = n }) known packets.counts (AppendsBeginning (at c.args.out.now) (at c.replay.new.out)) Failed) c.most.ensures (subst (λ q. Replays (Gives q) (record { order = packets.order; size = c.most.result }) known packets.counts (AppendsBeginning (at c.args.out.now) (at c.replay.new.out)) Failed) c.of.ensures c.in-Err-Memory.ensures.err)
