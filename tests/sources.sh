@@ -75,11 +75,14 @@ fi
 # One in a visit, and one in a step of straight code.
 wants 'transfer_counted' 2
 wants 'returns_counted' 1
+# The operands of a test are put back in one place.
+wants 'set_reg' 2
 
-# What the checker takes of bpf_state: its types; the edges; what counts; what makes, fills and tightens one state, and reads one number of it.
+# What the checker takes of bpf_state: its types; the edges; what counts; what makes, fills and tightens one state, and reads one number of it;
+# and what puts back the two operands of a test.
 # `number`, `of`, `slot` and the like are words of other crates, too.
 may_take=" Condition Entries Place State StateFault Tag Work branch enter leave returns_counted transfer_counted entails_label_counted
- begin blank clear_tags copy_from put_into set_tag tighten tightened held new number of slot slots start state tag valid "
+ begin blank clear_tags copy_from put_into set_reg set_tag tighten tightened held new number of slot slots start state tag valid "
 taken=$({
     # Each function of bpf_state that others may call, if its name stands in these sources; and what is brought in.
     grep -rhoE '(^|[[:space:]])pub (const )?fn [[:alnum:]_]+' ../../bpf_state/src | sed 's/.* //' | sort -u | while read -r name; do
@@ -104,9 +107,9 @@ if code $files | sed 's/^[^:]*: //' | grep -w bpf_state | grep -vE '^(pub )?use 
 fi
 
 # What takes no memory names no allocator and makes nothing grow: numbers, states but for their entries, the machine, and the checker
-# but for `verify`, which reads a certificate.
+# but for `verify`, which reads a certificate, and `Runnable`, which makes a checked program ready for its runs.
 crates=../..
-files=$(find "$crates/bpf_num/src" "$crates/bpf_state/src" "$crates/bpf_machine/src" . -name '*.rt' ! -name entries.rt ! -name verifier.rt | sort)
+files=$(find "$crates/bpf_num/src" "$crates/bpf_state/src" "$crates/bpf_machine/src" . -name '*.rt' ! -name entries.rt ! -name verifier.rt ! -name runnable.rt | sort)
 for word in 'allocator' 'Global' 'AllocGlobal' 'reserve' 'push_str' 'Vec::new' 'String::new' 'Box::new'; do
     wants "$word" 0
 done
