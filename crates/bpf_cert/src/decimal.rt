@@ -1,7 +1,8 @@
 //! Numbers in decimal digits.
 
-ghost use Rattle.std.specs.Prelude.{◌≡◌, ◌^◌, min, nat_lt, option_map};
+ghost use Rattle.std.specs.Prelude.{◌≡◌, min, nat_lt, option_map};
 ghost use Rattle.std.specs.List.{list_all};
+ghost use Rattle.bpf_insn.specs.Arithmetic.{numbers64};
 ghost use Rattle.bpf_cert.specs.Numeral.{is_decimal_digit, is_numeral, is_plain, number, is_from_to};
 ghost use Rattle.bpf_cert.specs.Reading.{signed_in};
 ghost use Rattle.bpf_cert.specs.code.Seen.{signed_seen, IsPlainNumeral};
@@ -41,7 +42,7 @@ pub fn is_plain(digits: &[u8]) -> bool
 
 /// The number that digits write, or 2^64 where it is above that.
 pub fn number(digits: &[u8]) -> u128
-    ensures { result ≡ min (number digits.now) (2 ^ 64) }
+    ensures { result ≡ min (number digits.now) numbers64 }
 {
     let mut number = 0;
     for digit in digits {
