@@ -1,0 +1,4 @@
+#!/bin/bash
+# fc.sh CMD OUTFLAGS..: rattle CMD on bpf_flat
+C=/work/h/p/tree/crates; cd $C/bpf_flat
+exec nice -n 2 /opt/rattle/bin/rattle $1 --crate-name bpf_flat src/lib.rt --extern std=/opt/rattle/rlibs/std.rlib -L dependency=/opt/rattle/rlibs --extern bpf_insn=$C/bpf_insn/out/rlib/bpf_insn.rlib --extern bpf_semantics=$C/bpf_semantics/out/rlib/bpf_semantics.rlib --extern bpf_safety=$C/bpf_safety/out/rlib/bpf_safety.rlib --extern arrayvec=/opt/rattle/rlibs/arrayvec.rlib -L dependency=$C/bpf_insn/out/rlib -L dependency=$C/bpf_semantics/out/rlib -L dependency=$C/bpf_num/out/rlib -L dependency=$C/bpf_state/out/rlib -L dependency=$C/bpf_streams/out/rlib -L dependency=$C/bpf_cert/out/rlib -L dependency=$C/bpf_safety/out/rlib --antt-project /opt/rattle/rattle/logic/antt-project.json --logic-built /opt/rattle/logic_built --links bpf_flat= "${@:2}"
