@@ -16,6 +16,10 @@ one_more n (d ∷ ds) (suc i) h = one_more (n * 10 + (d - 48)) ds i (omega arith
 pub next_digit : (ds : List ℕ) (i m : ℕ) → i < length ds → m ≡ min (number (take i ds)) (2 ^ 64) → min (m * 10 + (get_or ds i 0 - 48)) (2 ^ 64) ≡ min (number (take (i + 1) ds)) (2 ^ 64)
 next_digit ds i m h e = let more : number (take (i + 1) ds) ≡ number (take i ds) * 10 + (get_or ds i 0 - 48) = rw (add-one i) (one_more 0 ds i h) in omega arith
 
+-- one digit more
+pub next_small : (ds : List ℕ) (i m : ℕ) → i < length ds → m ≡ number (take i ds) → m * 10 + (get_or ds i 0 - 48) ≡ number (take (i + 1) ds)
+next_small ds i m h e = rw (e, add-one i) (sym (one_more 0 ds i h))
+
 grows : (n : ℕ) (ds : List ℕ) → n ≤ number_after n ds
 grows n [] = omega arith
 grows n (d ∷ ds) = omega (arith, grows (n * 10 + (d - 48)) ds)

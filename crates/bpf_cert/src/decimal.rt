@@ -1,6 +1,6 @@
 //! Numbers in decimal digits.
 
-ghost use Rattle.std.specs.Prelude.{◌≡◌, ◌^◌, min, nat_lt, option_map};
+ghost use Rattle.std.specs.Prelude.{◌≡◌, ◌+◌, ◌*◌, ◌-◌, ◌^◌, min, nat_lt, option_map, IfSome};
 ghost use Rattle.std.specs.List.{list_all};
 ghost use Rattle.bpf_cert.specs.Numeral.{is_decimal_digit, is_numeral, is_plain, number, is_from_to};
 ghost use Rattle.bpf_cert.specs.Reading.{signed_in};
@@ -39,10 +39,37 @@ pub fn is_plain(digits: &[u8]) -> bool
     }
 }
 
-/// The number that digits write, or 2^64 where it is above that.
+/// The number with a digit behind it, if 64 bits hold it.
+fn with_digit(number: u64, digit: u8) -> Option<u64>
+    ensures { IfSome result (λ n. n ≡ number * 10 + (digit - 48)) }
+{
+    match number.checked_mul(10) {
+        Some(tens) => tens.checked_add(u64::from(digit.saturating_sub(b'0'))),
+        None => None,
+    }
+}
+
+/// The number that digits write, if 64 bits hold it.
+fn small_number(digits: &[u8]) -> Option<u64>
+    ensures { IfSome result (λ n. n ≡ number digits.now) }
+{
+    let mut number = 0;
+    for digit in digits {
+        match with_digit(number, *digit) {
+            Some(more) => number = more,
+            None => return None,
+        }
+    }
+    Some(number)
+}
+
+/// The number that digits write, or 2^64 where it is above that. Mostly 64 bits hold it, so that is tried first.
 pub fn number(digits: &[u8]) -> u128
     ensures { result ≡ min (number digits.now) (2 ^ 64) }
 {
+    if let Some(number) = small_number(digits) {
+        return u128::from(number);
+    }
     let mut number = 0;
     for digit in digits {
         number = (number * 10 + u128::from(digit.saturating_sub(b'0'))).min(HUGE);
