@@ -13,6 +13,7 @@ pub mod HeaderForms
 pub mod HeaderValues
 pub mod PieceLemmas
 pub mod PartLemmas
+pub mod UsualLemmas
 pub mod ContentLemmas
 pub mod TermLemmas
 pub mod StandingLemmas

@@ -10,3 +10,4 @@ pub mod Standing
 pub mod Sound
 pub mod Building
 pub mod Behind
+pub mod Usual

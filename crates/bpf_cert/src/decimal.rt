@@ -40,7 +40,7 @@ pub fn is_plain(digits: &[u8]) -> bool
 }
 
 /// The number with a digit behind it, if 64 bits hold it.
-fn with_digit(number: u64, digit: u8) -> Option<u64>
+pub fn with_digit(number: u64, digit: u8) -> Option<u64>
     ensures { IfSome result (λ n. n ≡ number * 10 + (digit - 48)) }
 {
     match number.checked_mul(10) {

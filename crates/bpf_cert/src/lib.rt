@@ -19,6 +19,7 @@ mod reading;
 mod spelling;
 mod standing;
 mod term;
+mod usual;
 mod writing;
 
 pub use bpf_state::Place;

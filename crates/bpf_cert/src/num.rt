@@ -16,6 +16,7 @@ use crate::decimal::{HUGE, SignedForm, is_plain, number};
 use crate::fields::cut;
 use crate::finding::{PartFault, joined, tested};
 use crate::part::{PartForm, part};
+use crate::usual::usual_number;
 use bpf_num::{KnownBits, Num, Signed, Unsigned};
 
 fn is_range(lo: u128, hi: u128) -> bool
@@ -220,8 +221,8 @@ impl Parts {
     }
 }
 
-/// What a text says of a number.
-pub fn number_in(text: &[u8]) -> Result<Num, PartFault>
+/// What a text says of a number, part by part.
+fn number_by_parts(text: &[u8]) -> Result<Num, PartFault>
     ensures { valued number_of result ≡ found is_canonical_number is_limited_number (number_in text.now) }
 {
     if text == b"*".as_slice() {
@@ -241,4 +242,14 @@ pub fn number_in(text: &[u8]) -> Result<Num, PartFault>
     };
     parts.add(last);
     parts.value()
+}
+
+/// What a text says of a number.
+pub fn number_in(text: &[u8]) -> Result<Num, PartFault>
+    ensures { valued number_of result ≡ found is_canonical_number is_limited_number (number_in text.now) }
+{
+    match usual_number(text) {
+        Some(number) => Ok(number),
+        None => number_by_parts(text),
+    }
 }

@@ -141,7 +141,7 @@ not_star (Part.signed lo hi) (q ∷ qs) = refl
 not_star (Part.bits v m) [] = refl
 not_star (Part.bits v m) (q ∷ qs) = refl
 
-number_again : (n : Number) → is_number n ≡ true → number_in (number_text n) ≡ Some n
+pub number_again : (n : Number) → is_number n ≡ true → number_in (number_text n) ≡ Some n
 unfolding number_in ◌>>=◌
 number_again Number.top e = refl
 number_again (Number.parts []) e = cc

@@ -1,6 +1,6 @@
 use Rattle.std.proofs.Common.{length}
 use Rattle.bpf_cert.proofs.PartLemmas.{AreTaken}
-use Rattle.bpf_cert.proofs.num.number_in.Given as goal
+use Rattle.bpf_cert.proofs.num.number_by_parts.Given as goal
 
 abbrev pub invariant-pieces : goal.invariant-pieces
 invariant-pieces l = AreTaken l.fn.text l.rest l.parts

@@ -1,0 +1,149 @@
+//! What most certificates say of a number, read in one pass. A text that is spelled otherwise is left to others.
+
+ghost use Rattle.std.specs.Prelude.{◌≡◌, ◌++◌, ◌≤◌, ◌<◌, ◌^◌, take, length, true, pos, IfSome, decimal};
+ghost use Rattle.std.specs.List.{list_all};
+ghost use Rattle.bpf_num.specs.Interval.{interval};
+ghost use Rattle.bpf_num.specs.SignedInterval.{signed_interval};
+ghost use Rattle.bpf_num.specs.Tristate.{tristate, IsTristate};
+ghost use Rattle.bpf_cert.specs.Numeral.{is_decimal_digit, number};
+ghost use Rattle.bpf_cert.specs.Line.{number_text};
+ghost use Rattle.bpf_cert.specs.Spelling.{unsigned_parts, signed_parts, bits_parts, number_of};
+ghost use Rattle.bpf_cert.specs.Limits.{is_limited_num};
+ghost use Rattle.bpf_cert.specs.code.Sums.{is_whole};
+ghost use Rattle.bpf_cert.specs.code.Usual.{Begins};
+
+use crate::decimal::{is_plain, with_digit};
+use bpf_num::{KnownBits, Num, Signed, Unsigned};
+use bpf_streams::behind;
+
+/// The number that the digits in front of a text write, and how many they are, if 64 bits hold it.
+#[inline(always)]
+fn digits_in_front(text: &[u8]) -> Option<(u64, usize)>
+    ensures value { IfSome result (λ x. x.0 ≡ number (take x.1 text.now)) }
+    ensures digits { IfSome result (λ x. list_all is_decimal_digit (take x.1 text.now) ≡ true) }
+    ensures inside { IfSome result (λ x. x.1 ≤ length text.now) }
+{
+    let mut number = 0;
+    for (at, byte) in text.iter().enumerate() {
+        if !byte.is_ascii_digit() {
+            return Some((number, at));
+        }
+        match with_digit(number, *byte) {
+            Some(more) => number = more,
+            None => return None,
+        }
+    }
+    Some((number, text.len()))
+}
+
+/// A word of 64 bits is below 2^64.
+fn is_word(number: u64)
+    ensures { number < 2 ^ 64 }
+{}
+
+/// The number that is plainly written in front of a text, and what stands behind it.
+#[inline(always)]
+fn number_in_front(text: &[u8]) -> Option<(u64, &[u8])>
+    ensures { IfSome result (λ x. text.now ≡ decimal x.0 ++ x.1.now) }
+{
+    let Some((number, count)) = digits_in_front(text) else {
+        return None;
+    };
+    if count == 0 || !is_plain(&text[..count]) {
+        return None;
+    }
+    is_word(number);
+    Some((number, &text[count..]))
+}
+
+/// Two numbers with a text between them, and what stands behind.
+#[inline(always)]
+fn two_in_front<'a>(text: &'a [u8], between: &[u8]) -> Option<(u64, u64, &'a [u8])>
+    ensures { IfSome result (λ x. text.now ≡ decimal x.0 ++ between.now ++ decimal x.1 ++ x.2.now) }
+{
+    let (first, rest) = number_in_front(text)?;
+    let rest = behind(rest, between)?;
+    let (second, rest) = number_in_front(rest)?;
+    Some((first, second, rest))
+}
+
+/// All numbers of 64 bits.
+fn is_whole(lo: u64, hi: u64) -> bool
+    ensures { result ≡ is_whole lo hi }
+{
+    lo == 0 && hi == u64::MAX
+}
+
+/// The same number, read as two's complement.
+fn half(number: u64) -> i64
+    requires { number < 2 ^ 63 }
+    ensures { result ≡ pos number }
+{
+    number as i64
+}
+
+/// The bounds of a number.
+#[inline(always)]
+fn unsigned(text: &[u8]) -> Option<(u64, u64, &[u8])>
+    ensures begins { IfSome result (λ x. Begins text.now (unsigned_parts (interval x.0 x.1)) x.2.now) }
+    ensures order { IfSome result (λ x. x.0 ≤ x.1) }
+{
+    let range = behind(text, b"u")?;
+    let (lo, hi, rest) = two_in_front(range, b"..")?;
+    if is_whole(lo, hi) || hi < lo {
+        return None;
+    }
+    Some((lo, hi, rest))
+}
+
+/// The bounds of a number read as two's complement, neither of them below 0.
+#[inline(always)]
+fn signed(text: &[u8]) -> Option<(u64, u64, &[u8])>
+    ensures begins { IfSome result (λ x. Begins text.now (signed_parts (signed_interval (pos x.0) (pos x.1))) x.2.now) }
+    ensures order { IfSome result (λ x. x.0 ≤ x.1) }
+    ensures small { IfSome result (λ x. x.1 < 2 ^ 63) }
+{
+    let range = behind(text, b"s")?;
+    let (lo, hi, rest) = two_in_front(range, b"..")?;
+    if hi < lo || hi >= 1 << 63 {
+        return None;
+    }
+    Some((lo, hi, rest))
+}
+
+/// What is known of the bits.
+#[inline(always)]
+fn bits(text: &[u8]) -> Option<(u64, u64, &[u8])>
+    ensures begins { IfSome result (λ x. Begins text.now (bits_parts (tristate x.0 x.1)) x.2.now) }
+    ensures apart { IfSome result (λ x. IsTristate (tristate x.0 x.1)) }
+{
+    let pair = behind(text, b"k")?;
+    let (value, mask, rest) = two_in_front(pair, b"/")?;
+    if is_whole(value, mask) || value & mask != 0 {
+        return None;
+    }
+    Some((value, mask, rest))
+}
+
+/// What a text says of a number, if it says all three parts in their one spelling.
+#[inline(never)]
+pub fn usual_number(text: &[u8]) -> Option<Num>
+    ensures spelled { IfSome result (λ n. text.now ≡ number_text (number_of n)) }
+    ensures limited { IfSome result (λ n. is_limited_num n ≡ true) }
+{
+    let (lo, hi, rest) = unsigned(text)?;
+    let rest = behind(rest, b",")?;
+    let (least, most, rest) = signed(rest)?;
+    let rest = behind(rest, b",")?;
+    let (value, mask, rest) = bits(rest)?;
+    if !rest.is_empty() {
+        return None;
+    }
+    let number = Num::of(
+        KnownBits::new(value, mask),
+        Unsigned::new(lo, hi),
+        Signed::new(half(least), half(most)),
+    );
+    number.valid();
+    Some(number)
+}
