@@ -18,6 +18,7 @@ pub mod ContentLemmas
 pub mod TermLemmas
 pub mod StandingLemmas
 pub mod JudgeLemmas
+pub mod UsualEntries
 pub mod AfterLemmas
 pub mod fine
 pub mod BuildingLemmas

@@ -1,12 +1,12 @@
 -- A text that is spelled in the one way is found to say what it spells.
 use Rattle.std.proofs.Common.{◌≡◌, ℕ, ◌+◌, ◌-◌, ◌^◌, ◌<◌, ◌≤◌, true, false, eqb, List, [], ◌∷◌, ◌++◌, length, get_or, take, drop, Some, Ok, refl, sym, ap, ◌∙◌, arith, append_assoc, append-nil, pos}
-use Rattle.std.specs.Prelude.{decimal, codes}
+use Rattle.std.specs.Prelude.{decimal, codes, ◌&&◌}
 use Rattle.std.specs.List.{list_all}
 use Rattle.std.proofs.lemmas.List.{take_all, length-drop, length-take-le, take-append-drop}
 use Rattle.std.proofs.lemmas.List.Folds.{list_all_more}
 use Rattle.std.proofs.lemmas.Bool.{eqb-true}
 use Rattle.bpf_cert.specs.Numeral.{is_decimal_digit, is_numeral, is_plain, number, digits_of_int}
-use Rattle.bpf_cert.specs.Line.{Part, part_text, number_text}
+use Rattle.bpf_cert.specs.Line.{Part, Content, PlaceText, Line, is_number, range_text, part_text, number_text, content_text, place_text, line_text}
 use Rattle.bpf_cert.specs.Reading.{number_in}
 use Rattle.bpf_cert.specs.Faults.{is_canonical_number, is_limited_number}
 use Rattle.bpf_cert.specs.Limits.{is_limited_num}
@@ -18,7 +18,7 @@ use Rattle.bpf_num.specs.Interval.{interval}
 use Rattle.bpf_num.specs.SignedInterval.{signed_interval}
 use Rattle.bpf_num.specs.Tristate.{tristate}
 use Rattle.bpf_num.specs.Number.{Number as AbstractNumber}
-use Rattle.bpf_cert.proofs.NumeralLaws.{plain_decimal}
+use Rattle.bpf_cert.proofs.NumeralLaws.{plain_decimal, numeral-decimal}
 use Rattle.bpf_cert.proofs.fine.FineParts.{number_good}
 use Rattle.bpf_cert.proofs.lines.LineAgain.{number_again}
 use Rattle.bpf_cert.proofs.lines.WrittenTexts.{number_short}
@@ -70,3 +70,17 @@ usual_found text n e limited =
     let good = number_good n limited in
     let read : number_in text ≡ Some (number_of n) = ap number_in e ∙ number_again (number_of n) (number_short n limited).form in
     rw (read, good.0, good.1) refl
+
+-- a pointer into the context, by its bounds
+pub context_text : (text range rest : List ℕ) (lo hi : ℕ) → text ≡ codes "ctx" ++ range → range ≡ decimal lo ++ codes ".." ++ decimal hi ++ rest → rest ≡ [] → text ≡ codes "ctx" ++ range_text (decimal lo) (decimal hi)
+context_text text range rest lo hi e f g = e ∙ ap (λ z. codes "ctx" ++ z) (f ∙ ap (λ z. decimal lo ++ codes ".." ++ decimal hi ++ z) g ∙ append-nil (decimal lo ++ codes ".." ++ decimal hi))
+
+pub are_numerals : (lo hi : ℕ) → lo ≤ hi → hi < 2 ^ 64 → (is_numeral (decimal lo) && is_numeral (decimal hi)) ≡ true
+are_numerals lo hi order small = rw ((numeral-decimal lo (omega arith)).0, (numeral-decimal hi small).0) refl
+
+pub number_form : (n : AbstractNumber) → is_limited_num n ≡ true → is_number (number_of n) ≡ true
+number_form n limited = (number_short n limited).form
+
+-- a line of a register
+pub entry_text : (text rest said : List ℕ) (n : ℕ) (c : Content) → text ≡ place_text (PlaceText.register (decimal n)) ++ rest → rest ≡ codes " " ++ said → said ≡ content_text c → text ≡ line_text (Line.entry (PlaceText.register (decimal n)) c)
+entry_text text rest said n c e f g = e ∙ ap (λ z. place_text (PlaceText.register (decimal n)) ++ z) (f ∙ ap (λ z. 32 ∷ z) g)

@@ -36,7 +36,8 @@ pub const MAX_WEIGHT: u32 = 1 << 20;
 
 // ---- order
 
-fn place_before(p: Place, q: Place) -> bool
+/// Whether a place comes before another: registers rise, then slots.
+pub fn place_before(p: Place, q: Place) -> bool
     ensures { result ≡ limits.place_before p q }
 {
     match (p, q) {

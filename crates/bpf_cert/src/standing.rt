@@ -1,8 +1,9 @@
 //! A line, judged by its text and the lines before it.
 
-ghost use Rattle.std.specs.Prelude.{◌≡◌, List, option_map, nat_lt, not, count_by, true, ◌&&◌, [], ◌∷◌, Some, Ok, IfOk};
+ghost use Rattle.std.specs.Prelude.{◌≡◌, List, option_map, nat_lt, not, count_by, true, ◌&&◌, [], ◌∷◌, Some, Ok, IfOk, IfSome};
 ghost use Rattle.bpf_cert.specs.Line.{Line};
 ghost use Rattle.bpf_cert.specs.Faults.{comes_after, place_before, is_function, ends_bare};
+ghost use Rattle.bpf_cert.specs.Limits as limits;
 ghost use Rattle.bpf_cert.specs.Limits.{max_functions};
 ghost use Rattle.bpf_cert.specs.Numeral.{is_numeral};
 ghost use Rattle.bpf_insn.specs.Instruction.{register_number};
@@ -18,10 +19,11 @@ use crate::decimal::{between, is_numeral, number};
 use crate::fields::{next_field, three_fields};
 use crate::finding::{PartFault, both, joined, tested};
 use crate::header::{Header, header_form, header_value};
-use crate::limits::{LAST_SLOT, MAX_BASE, MAX_DEPTH, MAX_FUNCTIONS, MAX_LABELS};
+use crate::limits::{LAST_SLOT, MAX_BASE, MAX_DEPTH, MAX_FUNCTIONS, MAX_LABELS, place_before};
 use crate::num::{are_plain, number_in};
 use crate::place::{PlaceForm, is_limited_place, is_plain_place, place, place_value};
 use crate::term::all_terms;
+use crate::usual::usual_entry;
 use arrayvec::ArrayVec;
 use bpf_insn::Reg;
 use bpf_num::Num;
@@ -102,6 +104,16 @@ fn place_rises(last: Option<Place>, next: PlaceForm<'_>) -> bool
             PlaceForm::Register(_) => false,
             PlaceForm::Slot(index) => (k as u128) < number(index),
         },
+    }
+}
+
+/// Whether a place comes after the last one.
+fn follows(last: Option<Place>, next: Place) -> bool
+    ensures { result ≡ comes_after limits.place_before last next }
+{
+    match last {
+        None => true,
+        Some(last) => place_before(last, next),
     }
 }
 
@@ -273,8 +285,8 @@ impl Standing {
         }
     }
 
-    /// What a line says behind the lines so far, or the gravest flaw of it.
-    pub fn judge(self, text: &[u8]) -> Result<LineValue, PartFault>
+    /// What a line says behind the lines so far, or the gravest flaw of it, by its fields.
+    fn judge_fields(self, text: &[u8]) -> Result<LineValue, PartFault>
         ensures value { (before : List Line) → Stands before self → valued value_line result ≡ ruled before (line_in text.now) }
         ensures kept { IfOk result IsValue }
     {
@@ -294,6 +306,38 @@ impl Standing {
             return self.end(rest);
         }
         self.entry(name, rest)
+    }
+
+    /// What a line says behind the lines so far, if it is a usual entry and in order.
+    #[inline(always)]
+    fn usual(self, text: &[u8]) -> Option<LineValue>
+        ensures value { IfSome result (λ v. (before : List Line) → Stands before self → Ok (value_line v) ≡ ruled before (line_in text.now)) }
+        ensures kept { IfSome result IsValue }
+    {
+        if !self.may_have_entry() {
+            return None;
+        }
+        match usual_entry(text) {
+            Some((place, content)) => {
+                if follows(self.place, place) {
+                    Some(LineValue::Entry { place, content })
+                } else {
+                    None
+                }
+            }
+            None => None,
+        }
+    }
+
+    /// What a line says behind the lines so far, or the gravest flaw of it.
+    pub fn judge(self, text: &[u8]) -> Result<LineValue, PartFault>
+        ensures value { (before : List Line) → Stands before self → valued value_line result ≡ ruled before (line_in text.now) }
+        ensures kept { IfOk result IsValue }
+    {
+        match self.usual(text) {
+            Some(value) => Ok(value),
+            None => self.judge_fields(text),
+        }
     }
 
     /// What is kept once the line is there, too.

@@ -1,19 +1,23 @@
-//! What most certificates say of a number, read in one pass. A text that is spelled otherwise is left to others.
+//! What most certificates say of a number or a register, read in one pass. A text that is spelled otherwise is left to others.
 
-ghost use Rattle.std.specs.Prelude.{◌≡◌, ◌++◌, ◌≤◌, ◌<◌, ◌^◌, take, length, true, pos, IfSome, decimal};
+ghost use Rattle.std.specs.Prelude.{◌≡◌, List, ℕ, ◌++◌, ◌≤◌, ◌<◌, ◌^◌, take, length, true, pos, IfSome, decimal};
 ghost use Rattle.std.specs.List.{list_all};
 ghost use Rattle.bpf_num.specs.Interval.{interval};
 ghost use Rattle.bpf_num.specs.SignedInterval.{signed_interval};
 ghost use Rattle.bpf_num.specs.Tristate.{tristate, IsTristate};
 ghost use Rattle.bpf_cert.specs.Numeral.{is_decimal_digit, number};
-ghost use Rattle.bpf_cert.specs.Line.{number_text};
-ghost use Rattle.bpf_cert.specs.Spelling.{unsigned_parts, signed_parts, bits_parts, number_of};
+ghost use Rattle.bpf_cert.specs.Line.{PlaceText, Line, is_content, number_text, content_text, place_text, line_text};
+ghost use Rattle.bpf_cert.specs.Spelling.{unsigned_parts, signed_parts, bits_parts, number_of, content_of, spelled_place};
 ghost use Rattle.bpf_cert.specs.Limits.{is_limited_num};
 ghost use Rattle.bpf_cert.specs.code.Sums.{is_whole};
+ghost use Rattle.bpf_cert.specs.code.Contents.{IsContent};
+ghost use Rattle.bpf_cert.specs.code.Standing.{IsEntry};
 ghost use Rattle.bpf_cert.specs.code.Usual.{Begins};
 
 use crate::decimal::{is_plain, with_digit};
+use bpf_insn::Reg;
 use bpf_num::{KnownBits, Num, Signed, Unsigned};
+use bpf_state::{Area, Place, Pointer, SlotState};
 use bpf_streams::behind;
 
 /// The number that the digits in front of a text write, and how many they are, if 64 bits hold it.
@@ -146,4 +150,70 @@ pub fn usual_number(text: &[u8]) -> Option<Num>
     );
     number.valid();
     Some(number)
+}
+
+/// A pointer into the context, if a text says only that, with bounds of which neither is below 0.
+#[inline(always)]
+fn usual_pointer(text: &[u8]) -> Option<SlotState>
+    ensures spelled { IfSome result (λ s. text.now ≡ content_text (content_of s)) }
+    ensures form { IfSome result (λ s. (i : List ℕ) → is_content (PlaceText.register i) (content_of s) ≡ true) }
+    ensures kept { IfSome result IsContent }
+{
+    let range = behind(text, b"ctx")?;
+    let (lo, hi, rest) = two_in_front(range, b"..")?;
+    if !rest.is_empty() || hi < lo || hi > 0x8000_0000 {
+        return None;
+    }
+    Some(SlotState::Spilled(Pointer {
+        area: Area::Context,
+        lo: half(lo),
+        hi: half(hi),
+    }))
+}
+
+/// What a text says of a register, if it is such a pointer or such a number.
+#[inline(always)]
+fn usual_content(text: &[u8]) -> Option<SlotState>
+    ensures spelled { IfSome result (λ s. text.now ≡ content_text (content_of s)) }
+    ensures form { IfSome result (λ s. (i : List ℕ) → is_content (PlaceText.register i) (content_of s) ≡ true) }
+    ensures kept { IfSome result IsContent }
+{
+    if let Some(pointer) = usual_pointer(text) {
+        return Some(pointer);
+    }
+    match usual_number(text) {
+        Some(number) => {
+            number.valid();
+            Some(SlotState::Word(number))
+        }
+        None => None,
+    }
+}
+
+/// A register from r0 to r9 in front of a text, by its number, and what stands behind it.
+#[inline(always)]
+fn register_in_front(text: &[u8]) -> Option<(u8, &[u8])>
+    ensures spelled { IfSome result (λ x. text.now ≡ place_text (PlaceText.register (decimal x.0)) ++ x.1.now) }
+    ensures few { IfSome result (λ x. x.0 ≤ 9) }
+{
+    let index = behind(text, b"r")?;
+    let (number, rest) = number_in_front(index)?;
+    if number > 9 {
+        return None;
+    }
+    Some((number as u8, rest))
+}
+
+/// The line of a register's entry, if it says what most say in its one spelling.
+#[inline(never)]
+pub fn usual_entry(text: &[u8]) -> Option<(Place, SlotState)>
+    ensures spelled { IfSome result (λ x. text.now ≡ line_text (Line.entry (spelled_place x.0) (content_of x.1))) }
+    ensures entry { IfSome result (λ x. IsEntry x.0 x.1) }
+{
+    let (number, rest) = register_in_front(text)?;
+    let said = behind(rest, b" ")?;
+    match usual_content(said) {
+        Some(content) => Some((Place::Register(Reg::numbered(number)), content)),
+        None => None,
+    }
 }

@@ -220,7 +220,7 @@ pub slot_short : (k : ℕ) → k < 100 → IsPlaceShort (PlaceText.slot (decimal
 slot_short k low = let s = short_decimal 2 k (omega arith) (omega arith) (omega arith) in
     record { form = s.form; fits = fits_append 1 2 (codes "s") (decimal k) (fits_word (codes "s") refl) s.fits }
 
-place_short : (p : Place) → is_limited_place p ≡ true → IsPlaceShort (spelled_place p)
+pub place_short : (p : Place) → is_limited_place p ≡ true → IsPlaceShort (spelled_place p)
 place_short (place.Register r) e = let low = leb-true (register_number r) 9 e in register_short (register_number r) (omega arith)
 place_short (place.Slot k) e = let ends = both_true (leb 1 k) (leb k 64) e in let low = leb-true k 64 ends.1 in slot_short k (omega arith)
 

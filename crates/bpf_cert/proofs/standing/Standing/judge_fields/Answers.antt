@@ -2,7 +2,7 @@ use Rattle.std.proofs.Common.{sym, ◌∙◌, ap}
 use Rattle.std.specs.Prelude.{option_map}
 use Rattle.bpf_cert.specs.code.Standing.{ruled, fields_in}
 use Rattle.bpf_cert.proofs.JudgeLemmas.{line_by, line_none, by_header, by_function, by_label, by_end, by_entry}
-use Rattle.bpf_cert.proofs.standing.Standing.judge.Goals as goal
+use Rattle.bpf_cert.proofs.standing.Standing.judge_fields.Goals as goal
 
 pub returns-in_default-clause-value : goal.returns-in_default-clause-value
 returns-in_default-clause-value c = λ before st. sym (ap (ruled before) (line_none c.args.text.now c.in_default.ensures))
