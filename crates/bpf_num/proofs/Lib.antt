@@ -2,6 +2,7 @@ pub mod Parts
 pub mod Valid
 pub mod ConstantLaws
 pub mod TightenLaws
+pub mod OneLaws
 pub mod NumberLaws
 pub mod OrderLaws
 pub mod RefineLaws

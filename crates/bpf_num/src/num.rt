@@ -26,7 +26,7 @@ impl Model for Num {
 }
 
 impl Num {
-    ghost use Rattle.std.specs.Prelude.{◌≡◌, ℕ, ◌-◌, ◌^◌, ◌<◌, Option, Some, None, IsTrue};
+    ghost use Rattle.std.specs.Prelude.{◌≡◌, ℕ, ◌-◌, ◌^◌, ◌<◌, true, Option, Some, None, IsTrue};
     ghost use Rattle.bpf_num.specs.Word.{bit_length};
     ghost use Rattle.bpf_num.specs.Number.{IsNumber, Has, number, top, constant, is_constant, tighten, join, entails, unsigned_from_bits, signed_from_unsigned, unsigned_from_signed, bits_from_unsigned};
     ghost use Rattle.bpf_num.specs.Laws.{Holds};
@@ -186,9 +186,27 @@ impl Num {
         self.narrowed()
     }
 
+    // Whether each part says the same one number.
+    fn is_one(self) -> bool
+        ensures { result ≡ true → self ≡ constant self.bits.value }
+    {
+        let number = self.bits.value();
+        let signed = number.cast_signed();
+        self.bits.mask() == 0
+            && self.unsigned.lo() == number
+            && self.unsigned.hi() == number
+            && self.signed.lo() == signed
+            && self.signed.hi() == signed
+    }
+
+    // One number is as narrow as can be.
     fn narrowed(self) -> Option<Self>
         ensures { result ≡ tighten self }
     {
+        if self.is_one() {
+            self.valid();
+            return Some(self);
+        }
         self.unsigned_from_bits()?
             .signed_from_unsigned()?
             .unsigned_from_signed()?
