@@ -130,7 +130,7 @@ fn bits(text: &[u8]) -> Option<(u64, u64, &[u8])>
 }
 
 /// What a text says of a number, if it says all three parts in their one spelling.
-#[inline(never)]
+#[inline(always)]
 pub fn usual_number(text: &[u8]) -> Option<Num>
     ensures spelled { IfSome result (λ n. text.now ≡ number_text (number_of n)) }
     ensures limited { IfSome result (λ n. is_limited_num n ≡ true) }
@@ -205,7 +205,7 @@ fn register_in_front(text: &[u8]) -> Option<(u8, &[u8])>
 }
 
 /// The line of a register's entry, if it says what most say in its one spelling.
-#[inline(never)]
+#[inline(always)]
 pub fn usual_entry(text: &[u8]) -> Option<(Place, SlotState)>
     ensures spelled { IfSome result (λ x. text.now ≡ line_text (Line.entry (spelled_place x.0) (content_of x.1))) }
     ensures entry { IfSome result (λ x. IsEntry x.0 x.1) }
