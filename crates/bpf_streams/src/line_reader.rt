@@ -8,7 +8,7 @@ use std::io::Read;
 use std::marker::Model;
 
 /// How many bytes are read at a time.
-const BUFFERED: usize = 4_096;
+const BUFFERED: usize = 1_024;
 
 /// The reader failed.
 #[derive(Clone, Copy)]
