@@ -153,8 +153,11 @@ for crate in "$crates"/*/; do
     fi
 done
 # A limit stands by name where it is believed, in definitions and clauses: its number stands where the name is defined, and nowhere else.
-limits='4096|512|65535|65536|1048576|1099511627776|2 \^ (20|40)'
-defined='bpf_insn/specs/Limits|bpf_classic/specs/Limits|bpf_cert/specs/Limits|bpf_state/specs/Transfer|bpf_command/specs/Limits'
+# So do the numbers of all words and their sign bits. Proofs of laws that stand among the definitions of bpf_num may reckon with these.
+words='2 \^ (31|32|48|63|64)|2147483648|4294967295|4294967296|9223372036854775808|18446744073709551615|18446744073709551616'
+limits="4096|512|65535|65536|1048576|1099511627776|2 \^ (20|40)|$words"
+defined='bpf_insn/specs/Limits|bpf_insn/specs/Arithmetic|bpf_classic/specs/Limits|bpf_cert/specs/Limits|bpf_state/specs/Transfer|bpf_state/specs/Fault'
+defined="$defined|bpf_kept/specs/Far|bpf_command/specs/Limits|bpf_command/specs/Commands"
 # The lines of definitions, without comments and strings; the lines of contracts and ghost items, up to the brace that closes them.
 definitions() {
     awk '{ line = $0; gsub(/"[^"]*"/, "", line); sub(/(^|[[:space:]])--([[:space:]].*|$)/, "", line); print FILENAME ":" FNR ": " line }' "$@"
@@ -175,7 +178,8 @@ for crate in "$crates"/*/; do
     bare=$({
         [ -z "$specs" ] || definitions $specs
         [ -z "$sources" ] || clauses $sources
-    } | grep -vE "/($defined)\.antt:[0-9]+: [a-z_]+ = (pos \()?($limits)\)?\$" | grep -E ":[0-9]+:(.*[^[:alnum:]_])?($limits)([^[:alnum:]_]|\$)")
+    } | grep -vE "/($defined)\.antt:[0-9]+: [a-z0-9_]+ = (pos \()?($limits)\)?( - 1)?\$" \
+        | grep -vE "/bpf_num/specs/Laws/[[:alnum:]]+\.antt:[0-9]+:(.*[^[:alnum:]_])?($words)([^[:alnum:]_]|\$)" | grep -E ":[0-9]+:(.*[^[:alnum:]_])?($limits)([^[:alnum:]_]|\$)")
     if [ -n "$bare" ]; then
         echo "these clauses and definitions have a limit's number in place of its name:"
         echo "$bare"

@@ -10,7 +10,8 @@ use Rattle.bpf_cert.specs.Limits.{is_range, is_bits, is_int_range}
 use Rattle.bpf_cert.specs.code.Findings.{tested, found, valued}
 use Rattle.bpf_cert.specs.Spelling.{unsigned_parts, signed_parts, bits_parts}
 use Rattle.bpf_cert.specs.code.Seen.{is_canonical_part, capped_signed}
-use Rattle.bpf_cert.specs.code.Sums.{single, is_whole, is_whole_signed, least, greatest}
+use Rattle.bpf_cert.specs.code.Sums.{single, is_whole, is_whole_signed}
+use Rattle.bpf_num.specs.SignedInterval.{least, most as greatest}
 use Rattle.bpf_cert.proofs.NumeralLaws.{plain_decimal}
 use Rattle.bpf_cert.specs.declared.finding.PartFault.{PartFault}
 use Rattle.bpf_cert.specs.declared.finding.PartFault.TheVariants as flaws

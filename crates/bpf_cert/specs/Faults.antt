@@ -3,8 +3,10 @@
 --   not canonical    it says what another spelling or another order says
 --   limit            it goes past a limit
 -- A line of more than `max_line_bytes` bytes is past a limit, and nothing else is said of it.
-use Rattle.std.specs.Prelude.{ℕ, ◌+◌, ◌-◌, ◌^◌, Bool, true, false, not, ◌&&◌, List, [], ◌∷◌, length, count_by, pos, neg_ℤ, Option, Some, None, Result, Ok, Err, nat_lt, nat_le, ◌==◌, if◌then◌else◌}
+use Rattle.std.specs.Prelude.{ℕ, ◌+◌, ◌-◌, Bool, true, false, not, ◌&&◌, List, [], ◌∷◌, length, count_by, Option, Some, None, Result, Ok, Err, nat_lt, nat_le, ◌==◌, if◌then◌else◌}
 use Rattle.std.specs.List.{list_all, slice_split}
+use Rattle.bpf_num.specs.SignedInterval.{least, most}
+use Rattle.bpf_insn.specs.Arithmetic.{numbers64}
 use Rattle.bpf_cert.specs.Numeral.{number as value, is_plain, signed_number as int_value, is_plain_signed, int_eq}
 use Rattle.bpf_cert.specs.Line.{Part, Number, Content, PlaceText, Measure, Term, Lengths, Line}
 use Rattle.bpf_cert.specs.Reading.{line_in}
@@ -28,9 +30,9 @@ abbrev pub part_before : Part → Part → Bool
 part_before p q = nat_lt (part_rank p) (part_rank q)
 
 abbrev pub is_top : Part → Bool
-is_top (Part.unsigned lo hi) = (value lo == 0) && (value hi == 2 ^ 64 - 1)
-is_top (Part.signed lo hi) = int_eq (int_value lo) (neg_ℤ (pos (2 ^ 63))) && int_eq (int_value hi) (pos (2 ^ 63 - 1))
-is_top (Part.bits v m) = (value v == 0) && (value m == 2 ^ 64 - 1)
+is_top (Part.unsigned lo hi) = (value lo == 0) && (value hi == numbers64 - 1)
+is_top (Part.signed lo hi) = int_eq (int_value lo) least && int_eq (int_value hi) most
+is_top (Part.bits v m) = (value v == 0) && (value m == numbers64 - 1)
 
 abbrev pub is_plain_part : Part → Bool
 is_plain_part (Part.unsigned lo hi) = is_plain lo && is_plain hi

@@ -2,6 +2,9 @@
 -- certificate or in a text (Faults).
 use Rattle.std.specs.Prelude.{ℕ, ◌-◌, ◌^◌, Bool, true, false, not, ◌&&◌, List, [], ◌∷◌, length, sum_by, ℤ, pos, neg_ℤ, int_le, Option, Some, None, is_none, IsTrue, nat_lt, nat_le, ◌==◌, bit_and, if◌then◌else◌}
 use Rattle.std.specs.List.{list_all}
+use Rattle.bpf_state.specs.Fault.{max_distance}
+use Rattle.bpf_num.specs.SignedInterval.{least, most}
+use Rattle.bpf_insn.specs.Arithmetic.{numbers64}
 use Rattle.bpf_cert.specs.Numeral.{is_from_to, int_eq}
 use Rattle.bpf_insn.specs.Limits.{greatest_slot, max_context, max_frames}
 use Rattle.bpf_insn.specs.Instruction.{register_number}
@@ -138,25 +141,25 @@ is_place_number (Slot k) = is_from_to 1 64 k
 -- what counts down to 0 by its place, or up to a limit
 abbrev pub is_measured : Option ℕ → Numbered → Bool
 is_measured None p = is_place_number p
-is_measured (Some limit) p = nat_lt limit (2 ^ 64) && is_place_number p
+is_measured (Some limit) p = nat_lt limit numbers64 && is_place_number p
 
 abbrev pub is_range : ℕ → ℕ → Bool
-is_range lo hi = nat_le hi (2 ^ 64 - 1) && nat_le lo hi
+is_range lo hi = nat_le hi (numbers64 - 1) && nat_le lo hi
 
 abbrev pub is_int_range : ℤ → ℤ → ℤ → ℤ → Bool
 is_int_range low high lo hi = int_le low lo && int_le hi high && int_le lo hi
 
 -- the bounds of a signed number
 abbrev pub is_signed_range : ℤ → ℤ → Bool
-is_signed_range lo hi = is_int_range (neg_ℤ (pos (2 ^ 63))) (pos (2 ^ 63 - 1)) lo hi
+is_signed_range lo hi = is_int_range least most lo hi
 
--- pointer bounds are -2^31 to 2^31
+-- the bounds of a pointer lie no farther than a pointer may be known to be
 abbrev pub is_pointer_range : ℤ → ℤ → Bool
-is_pointer_range lo hi = is_int_range (neg_ℤ (pos (2 ^ 31))) (pos (2 ^ 31)) lo hi
+is_pointer_range lo hi = is_int_range (neg_ℤ (pos max_distance)) (pos max_distance) lo hi
 
 -- value and mask share no bit
 abbrev pub is_bits : ℕ → ℕ → Bool
-is_bits v m = nat_lt v (2 ^ 64) && nat_lt m (2 ^ 64) && (bit_and v m == 0)
+is_bits v m = nat_lt v numbers64 && nat_lt m numbers64 && (bit_and v m == 0)
 
 -- ---- limits of parts
 

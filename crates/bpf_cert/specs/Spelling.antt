@@ -1,10 +1,11 @@
 -- The one text of a certificate: its lines in their order, each in its one spelling, and LF behind each.
-use Rattle.std.specs.Prelude.{ℕ, ◌+◌, nat_lt, Bool, false, ◌-◌, ◌^◌, ◌&&◌, List, [], ◌∷◌, ◌++◌, map, flat_map, take, pos, neg_ℤ, ◌==◌, decimal, if◌then◌else◌}
+use Rattle.std.specs.Prelude.{ℕ, ◌+◌, nat_lt, Bool, false, ◌-◌, ◌&&◌, List, [], ◌∷◌, ◌++◌, map, flat_map, take, ◌==◌, decimal, if◌then◌else◌}
+use Rattle.bpf_insn.specs.Arithmetic.{numbers64}
 use Rattle.bpf_cert.specs.Numeral.{SignedDigits, digits_of_int, int_eq}
 use Rattle.bpf_cert.specs.Line.{Part, Number, Content, PlaceText, Measure as MeasureText, Term as TermText, Lengths, Line, line_text}
 use Rattle.bpf_num.specs.Tristate.{Tristate}
 use Rattle.bpf_num.specs.Interval.{Interval}
-use Rattle.bpf_num.specs.SignedInterval.{SignedInterval}
+use Rattle.bpf_num.specs.SignedInterval.{SignedInterval, least, most}
 use Rattle.bpf_num.specs.Number.{Number as AbstractNumber}
 use Rattle.bpf_state.specs.State.{AbstractState, value_slot}
 use Rattle.bpf_state.specs.declared.known.Area.{Area}
@@ -22,13 +23,13 @@ use Rattle.bpf_cert.specs.View.{LabelView, FunctionView, CertificateView, header
 
 -- a part, unless it is top
 abbrev pub unsigned_parts : Interval → List Part
-unsigned_parts u = if (u.lo == 0) && (u.hi == 2 ^ 64 - 1) then [] else Part.unsigned (decimal u.lo) (decimal u.hi) ∷ []
+unsigned_parts u = if (u.lo == 0) && (u.hi == numbers64 - 1) then [] else Part.unsigned (decimal u.lo) (decimal u.hi) ∷ []
 
 abbrev pub signed_parts : SignedInterval → List Part
-signed_parts s = if int_eq s.lo (neg_ℤ (pos (2 ^ 63))) && int_eq s.hi (pos (2 ^ 63 - 1)) then [] else Part.signed (digits_of_int s.lo) (digits_of_int s.hi) ∷ []
+signed_parts s = if int_eq s.lo least && int_eq s.hi most then [] else Part.signed (digits_of_int s.lo) (digits_of_int s.hi) ∷ []
 
 abbrev pub bits_parts : Tristate → List Part
-bits_parts k = if (k.value == 0) && (k.mask == 2 ^ 64 - 1) then [] else Part.bits (decimal k.value) (decimal k.mask) ∷ []
+bits_parts k = if (k.value == 0) && (k.mask == numbers64 - 1) then [] else Part.bits (decimal k.value) (decimal k.mask) ∷ []
 
 abbrev pub of_parts : List Part → Number
 of_parts [] = Number.top

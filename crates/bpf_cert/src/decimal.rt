@@ -1,7 +1,8 @@
 //! Numbers in decimal digits.
 
-ghost use Rattle.std.specs.Prelude.{◌≡◌, ◌+◌, ◌*◌, ◌-◌, ◌^◌, min, nat_lt, option_map, IfSome};
+ghost use Rattle.std.specs.Prelude.{◌≡◌, ◌+◌, ◌*◌, ◌-◌, min, nat_lt, option_map, IfSome};
 ghost use Rattle.std.specs.List.{list_all};
+ghost use Rattle.bpf_insn.specs.Arithmetic.{numbers64};
 ghost use Rattle.bpf_cert.specs.Numeral.{is_decimal_digit, is_numeral, is_plain, number, is_from_to};
 ghost use Rattle.bpf_cert.specs.Reading.{signed_in};
 ghost use Rattle.bpf_cert.specs.code.Seen.{signed_seen, IsPlainNumeral};
@@ -65,7 +66,7 @@ fn small_number(digits: &[u8]) -> Option<u64>
 
 /// The number that digits write, or 2^64 where it is above that. Mostly 64 bits hold it, so that is tried first.
 pub fn number(digits: &[u8]) -> u128
-    ensures { result ≡ min (number digits.now) (2 ^ 64) }
+    ensures { result ≡ min (number digits.now) numbers64 }
 {
     if let Some(number) = small_number(digits) {
         return u128::from(number);

@@ -9,7 +9,8 @@ ghost use Rattle.bpf_cert.specs.Limits.{is_range, is_bits, is_int_range};
 ghost use Rattle.bpf_cert.specs.code.Findings.{tested, found, valued};
 ghost use Rattle.bpf_cert.specs.Spelling.{unsigned_parts, signed_parts, bits_parts, number_of};
 ghost use Rattle.bpf_cert.specs.code.Seen.{signed_seen, part_seen, is_canonical_part, capped_signed};
-ghost use Rattle.bpf_cert.specs.code.Sums.{single, is_whole, is_whole_signed, least, greatest};
+ghost use Rattle.bpf_cert.specs.code.Sums.{single, is_whole, is_whole_signed};
+ghost use Rattle.bpf_num.specs.SignedInterval.{least, most};
 ghost use Rattle.bpf_cert.specs.code.PartSums.{IsSum, IsKept};
 
 use crate::decimal::{HUGE, SignedForm, is_plain, number};
@@ -113,7 +114,7 @@ pub fn are_plain_signed(low: SignedForm<'_>, high: SignedForm<'_>) -> bool
 /// The same number in 64 bits.
 pub fn narrow(number: i128) -> i64
     requires low { least ≤ℤ number }
-    requires high { number ≤ℤ greatest }
+    requires high { number ≤ℤ most }
     ensures { result ≡ number }
 {
     number as i64

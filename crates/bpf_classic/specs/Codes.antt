@@ -1,6 +1,7 @@
 -- Which instruction a code tells: its class, and then its source and operation, or its mode and size (McCanne and Jacobson 1993, table 2;
 -- the header <net/bpf.h>).
-use Rattle.std.specs.Prelude.{ℕ, ◌-◌, ◌/◌, ◌%◌, ◌^◌, ◌==◌, nat_lt, Option, Some, None, option_map, if◌then◌else◌}
+use Rattle.std.specs.Prelude.{ℕ, ◌-◌, ◌/◌, ◌%◌, ◌==◌, nat_lt, Option, Some, None, option_map, if◌then◌else◌}
+use Rattle.bpf_insn.specs.Arithmetic.{numbers32, sign_bit32}
 use Rattle.bpf_classic.specs.declared.instruction.Register.TheVariants.{A, X}
 use Rattle.bpf_classic.specs.declared.instruction.Source.{Source}
 use Rattle.bpf_classic.specs.declared.instruction.Source.TheVariants.{K, X as FromX}
@@ -71,7 +72,7 @@ alu_of r = if r.code == 0x84 then Some Neg else option_map (λ op. Alu op (sourc
 
 -- the offset of `ja` is signed, as two's complement of 32 bits
 abbrev pub ja_of : ℕ → Classic
-ja_of k = if nat_lt k (2 ^ 31) then Jump k else Back (2 ^ 32 - k)
+ja_of k = if nat_lt k sign_bit32 then Jump k else Back (numbers32 - k)
 
 abbrev pub jump_of : Raw → Option Classic
 jump_of r = if r.code == 0x05 then Some (ja_of r.k) else option_map (λ test. JumpIf test (source_of r) r.jt r.jf) (test_of r.code)

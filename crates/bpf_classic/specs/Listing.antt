@@ -1,8 +1,9 @@
 -- How `tcpdump -d` writes an instruction: its number, its word, its operand, and of a test the instructions that it leads to (libpcap, the
 -- function bpf_image). Constants of 2^31 and more are negative there, but where they are hexadecimal.
-use Rattle.std.specs.Prelude.{ℕ, ◌+◌, ◌-◌, ◌%◌, ◌^◌, nat_lt, false, List, [], ◌++◌, length, replicate, codes, decimal, Option, Some, None, if◌then◌else◌}
+use Rattle.std.specs.Prelude.{ℕ, ◌+◌, ◌-◌, ◌%◌, nat_lt, false, List, [], ◌++◌, length, replicate, codes, decimal, Option, Some, None, if◌then◌else◌}
 use Rattle.std.specs.Fmt.{digits, signed_decimal}
 use Rattle.std.specs.Int.{cast_signed, w32}
+use Rattle.bpf_insn.specs.Arithmetic.{numbers32}
 use Rattle.bpf_classic.specs.Auxiliary.{extended}
 use Rattle.bpf_classic.specs.Codes.{instruction_of}
 use Rattle.bpf_classic.specs.declared.instruction.Register.{Register}
@@ -137,7 +138,7 @@ ways_text n jt jf = codes " jt " ++ (decimal (n + 1 + jt) ++ (codes "\tjf " ++ d
 
 -- where the jump at n leads, in 32 bits: one back passes over nearly all of their numbers
 abbrev pub target_text : ℕ → ℕ → List ℕ
-target_text n passed = signed_between [] ((n + 1 + passed) % 2 ^ 32) []
+target_text n passed = signed_between [] ((n + 1 + passed) % numbers32) []
 
 -- the operand of the instruction at n
 abbrev pub operand_text : ℕ → Classic → List ℕ
@@ -152,7 +153,7 @@ operand_text n (Extension word) = between_brackets (auxiliary_word word)
 operand_text n (Alu op source) = op_source op source
 operand_text n Neg = []
 operand_text n (Jump k) = target_text n k
-operand_text n (Back k) = target_text n (2 ^ 32 - k)
+operand_text n (Back k) = target_text n (numbers32 - k)
 operand_text n (JumpIf test source jt jf) = padded 16 (test_source source) ++ ways_text n jt jf
 operand_text n (Return k) = signed_between (codes "#") k []
 operand_text n ReturnA = []

@@ -1,9 +1,9 @@
 -- The machine of classic BPF (McCanne and Jacobson 1993, section 3.3): an accumulator A, an index register X, sixteen cells of scratch
 -- memory, of 32 bits each, and a packet that is only read. A load outside of the packet and a division by zero answer 0. Jumps lead forward, but
 -- for `ja` with an offset below 0, which makes loops.
-use Rattle.std.specs.Prelude.{ℕ, zero, suc, ◌+◌, ◌-◌, ◌*◌, ◌%◌, ◌^◌, ◌==◌, nat_le, Bool, true, false, ◌&&◌, List, [], ◌∷◌, length, take, drop, replicate, get_or, slice_set, Option, Some, None, if◌then◌else◌}
+use Rattle.std.specs.Prelude.{ℕ, zero, suc, ◌+◌, ◌-◌, ◌*◌, ◌%◌, ◌==◌, nat_le, Bool, true, false, ◌&&◌, List, [], ◌∷◌, length, take, drop, replicate, get_or, slice_set, Option, Some, None, if◌then◌else◌}
 use Rattle.bpf_insn.specs.Order.{number_of}
-use Rattle.bpf_insn.specs.Arithmetic.{alu, jumps}
+use Rattle.bpf_insn.specs.Arithmetic.{alu, jumps, numbers32}
 use Rattle.bpf_insn.specs.declared.order.Order.{Order}
 use Rattle.bpf_insn.specs.declared.instruction.Width.TheVariants.{W32}
 use Rattle.bpf_insn.specs.declared.instruction.AluOp.{AluOp}
@@ -124,7 +124,7 @@ loaded (Some n) to = Goes 0 (to n)
 
 unfoldable pub next : Given → Classic → Machine → Next
 next g (Constant to k) m = Goes 0 (put to k m)
-next g (Length to) m = Goes 0 (put to (g.wire % 2 ^ 32) m)
+next g (Length to) m = Goes 0 (put to (g.wire % numbers32) m)
 next g (Cell to i) m = Goes 0 (put to (cell_of m i) m)
 next g (Store from i) m = Goes 0 (with_cell i (held from m) m)
 next g (At size k) m = loaded (read g k (bytes size)) (λ n. put A n m)

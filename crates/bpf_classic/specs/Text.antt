@@ -3,6 +3,7 @@
 -- commas and braces.
 use Rattle.std.specs.Prelude.{ℕ, ◌+◌, ◌-◌, ◌*◌, ◌^◌, ◌==◌, nat_lt, nat_le, Bool, ◌&&◌, ◌||◌, List, [], ◌∷◌, ◌++◌, length, drop, slice_index, Option, Some, None, is_none, option_and_then, Result, Ok, Err, if◌then◌else◌}
 use Rattle.std.specs.List.{slice_split}
+use Rattle.bpf_insn.specs.Arithmetic.{numbers32}
 use Rattle.bpf_classic.specs.declared.raw.Raw.{Raw}
 use Rattle.bpf_classic.specs.declared.border.Border.{Border}
 use Rattle.bpf_classic.specs.declared.border.Border.TheVariants.{Line as AtLine, Word as AtWord}
@@ -45,7 +46,7 @@ digit base b =
 -- the number that digits spell behind those that spell this one, if it has 32 bits
 abbrev pub with_digit : ℕ → ℕ → Option ℕ → Option ℕ
 with_digit base value None = None
-with_digit base value (Some d) = if nat_lt (value * base + d) (2 ^ 32) then Some (value * base + d) else None
+with_digit base value (Some d) = if nat_lt (value * base + d) numbers32 then Some (value * base + d) else None
 
 abbrev pub digits_from : ℕ → ℕ → List ℕ → Option ℕ
 digits_from base value [] = Some value

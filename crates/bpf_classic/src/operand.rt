@@ -2,6 +2,7 @@
 
 ghost use Rattle.std.specs.Prelude.{◌≡◌, ◌++◌, ◌-◌, ◌<◌, ◌≤◌, ◌^◌, length, replicate, OnOk};
 ghost use Rattle.std.specs.String.{string_bytes};
+ghost use Rattle.bpf_insn.specs.Arithmetic.{numbers32};
 ghost use Rattle.bpf_classic.specs.Listing.{between_brackets, hex_behind, op_constant, op_source, operand_text, padded, signed_between, target_text, test_source, ways_text};
 
 use crate::instruction::{Classic, Op, Source};
@@ -95,7 +96,7 @@ fn put_op_source(out: &mut String, op: Op, source: Source) -> Result<(), AllocEr
 /// Puts the instruction that so many in front of it are passed over to come to, as 32 bits tell it.
 fn put_target(out: &mut String, at: usize, passed: usize) -> Result<(), AllocError>
     requires near { at < 2 ^ 60 }
-    requires passed { passed ≤ 2 ^ 32 }
+    requires passed { passed ≤ numbers32 }
     ensures { OnOk result (string_bytes out.new ≡ string_bytes out.old ++ target_text at passed) }
 {
     put_signed(out, "", ((at + 1 + passed) % NUMBERS) as u32, "")

@@ -1,6 +1,7 @@
 //! How far it is from one template to another.
 
-ghost use Rattle.std.specs.Prelude.{◌≡◌, ◌≤◌};
+ghost use Rattle.std.specs.Prelude.{◌≡◌, ◌≤◌, ◌-◌};
+ghost use Rattle.bpf_insn.specs.Arithmetic.{numbers32};
 ghost use Rattle.bpf_classic.specs.Valid.{max_filter};
 ghost use Rattle.bpf_classic.specs.Template.{from_on, back_of, way, most_slots};
 
@@ -31,7 +32,7 @@ pub fn back_of(a: &Annotated) -> u16
 /// The slots from the template of an instruction to that of the one `k` further on, by a table of how many stand from each on.
 pub fn way(table: &[u16], from: usize, k: usize) -> u16
     requires small { from ≤ max_filter }
-    requires near { k ≤ 4294967295 }
+    requires near { k ≤ numbers32 - 1 }
     ensures same { result ≡ way table.now from k }
     ensures most { result ≤ most_slots }
 {

@@ -29,6 +29,10 @@ number id least most = record (option id) { parser = Some (parser.Signed least m
 abbrev pub greatest : ℕ
 greatest = 4294967295
 
+-- the greatest number of 64 bits
+abbrev pub greatest_wide : ℕ
+greatest_wide = 18446744073709551615
+
 -- the required option `--steps`, with such a number at most
 abbrev pub steps : Rule
 steps = record (number (codes "steps") (pos 0) (pos greatest)) { required = true }
@@ -107,9 +111,9 @@ turns = number (codes "turns") (pos 1) (pos greatest)
 abbrev pub untouched : Rule
 untouched = number (codes "untouched") (pos 0) (pos frame_bytes)
 
--- the option `--otherwise`, with a number below 2 ^ 64
+-- the option `--otherwise`, with a number of 64 bits
 abbrev pub otherwise : Rule
-otherwise = record (option (codes "otherwise")) { parser = Some (parser.Unsigned 0 18446744073709551615) }
+otherwise = record (option (codes "otherwise")) { parser = Some (parser.Unsigned 0 greatest_wide) }
 
 abbrev pub harden_places : App
 harden_places = with_rule (with_rule (with_rule (new_app (codes "harden")) (place (codes "IN"))) context_length) (place (codes "OUT"))

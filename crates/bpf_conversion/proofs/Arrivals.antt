@@ -7,7 +7,7 @@ use Rattle.bpf_insn.specs.Instruction.{Instructions, register_number}
 use Rattle.bpf_insn.specs.declared.instruction.Reg.{Reg}
 use Rattle.bpf_insn.specs.declared.instruction.Reg.TheVariants.{R0, R1, R2, R3, R5, R10}
 use Rattle.bpf_num.specs.Interval.{Interval}
-use Rattle.bpf_num.specs.Word.{M}
+use Rattle.bpf_insn.specs.Arithmetic.{numbers64 as M}
 use Rattle.bpf_state.specs.State.{AbstractState, register, register_tag, no_tags}
 use Rattle.bpf_state.specs.Entails.{state_entails}
 use Rattle.bpf_state.specs.Fault.{some_passes}

@@ -4,7 +4,7 @@ use Rattle.std.specs.Prelude.{nat_lt, nat_le, neg_ℤ, int_le, ◌||◌, option_
 use Rattle.std.proofs.lemmas.Bool.{cond-true, and_from, and_parts, and_right, eqb-true, lt-ltb, false≢true, cases_lt}
 use Rattle.std.proofs.lemmas.Int.{ints, clamps}
 use Rattle.std.proofs.lemmas.Option.{none-some}
-use Rattle.bpf_insn.specs.Arithmetic.{extended, alu}
+use Rattle.bpf_insn.specs.Arithmetic.{extended, alu, numbers64 as M}
 use Rattle.bpf_insn.specs.Instruction.{Instructions, target, not_negative}
 use Rattle.bpf_insn.specs.declared.instruction.Reg.TheVariants.{R4, R5}
 use Rattle.bpf_insn.specs.declared.instruction.Operand.TheVariants.{Imm}
@@ -13,7 +13,6 @@ use Rattle.bpf_insn.specs.declared.instruction.AluOp.TheVariants.{Add as AddTo}
 use Rattle.bpf_insn.specs.declared.instruction.Cond.TheVariants.{Eq as IsEq}
 use Rattle.bpf_insn.specs.declared.instruction.Insn.{Insn}
 use Rattle.bpf_insn.specs.declared.instruction.Insn.TheVariants.{Alu as AluInsn, Ja, JumpIf as JumpIfInsn}
-use Rattle.bpf_num.specs.Word.{M}
 use Rattle.bpf_num.specs.Number.{Number, constant}
 use Rattle.bpf_num.proofs.ConstantLaws.{constant_valid, constant_has}
 use Rattle.bpf_num.proofs.NumberLaws.{num_alu_keeps}

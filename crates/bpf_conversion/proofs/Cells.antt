@@ -5,7 +5,7 @@ use Rattle.std.proofs.lemmas.Bool.{cond-false, cond-true, or_from, and_from, and
 use Rattle.std.proofs.lemmas.Bool.Decides.{Decides-int_eq}
 use Rattle.std.proofs.lemmas.Int.{ints}
 use Rattle.std.proofs.lemmas.List.{length-set, set_past, get_or-set_same, get_or-set_other}
-use Rattle.bpf_insn.specs.Arithmetic.{extended}
+use Rattle.bpf_insn.specs.Arithmetic.{extended, numbers64 as M}
 use Rattle.bpf_insn.specs.Effects.{is_frame_pointer}
 use Rattle.bpf_insn.specs.declared.order.Order.{Order}
 use Rattle.bpf_insn.specs.declared.instruction.Reg.{Reg}
@@ -13,7 +13,6 @@ use Rattle.bpf_insn.specs.declared.instruction.Reg.TheVariants.{R10}
 use Rattle.bpf_insn.specs.declared.instruction.Operand.TheVariants.{Imm, Reg as FromReg}
 use Rattle.bpf_insn.specs.declared.instruction.Size.TheVariants.{DW}
 use Rattle.bpf_insn.specs.declared.instruction.Insn.TheVariants.{Load, Store, StoreImm}
-use Rattle.bpf_num.specs.Word.{M}
 use Rattle.bpf_num.specs.Number.{Number, constant}
 use Rattle.bpf_state.specs.Access.{Span, span_at, span_end, is_known, is_slot, slot_number, is_inside, first_byte, touches, touched_bytes, is_pointer_slot, are_known_bytes, any_slot}
 use Rattle.bpf_state.specs.Fault.{is_pointer}

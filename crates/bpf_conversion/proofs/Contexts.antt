@@ -5,7 +5,7 @@ use Rattle.bpf_insn.specs.declared.instruction.Operand.TheVariants.{Imm, Reg as 
 use Rattle.bpf_insn.specs.declared.instruction.AluOp.TheVariants.{Mov}
 use Rattle.bpf_insn.specs.declared.instruction.Reg.{Reg}
 use Rattle.bpf_insn.specs.declared.instruction.Insn.{Insn}
-use Rattle.bpf_num.specs.Word.{M}
+use Rattle.bpf_insn.specs.Arithmetic.{numbers64 as M}
 use Rattle.bpf_state.specs.State.{AbstractState, register, register_tag}
 use Rattle.bpf_cert.specs.View.{CertificateView}
 use Rattle.bpf_safety.specs.Flow.{Arrival}

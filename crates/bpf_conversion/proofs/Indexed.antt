@@ -5,7 +5,7 @@ use Rattle.std.specs.Int.{cast_signed, w32}
 use Rattle.std.proofs.lemmas.Bool.{cond-true, cond-false, and_from, or_from, lt-ltb, false≢true, ne_eqb, cases_lt}
 use Rattle.std.proofs.lemmas.Int.{ints, clamps}
 use Rattle.std.proofs.lemmas.List.{get_or-set_other}
-use Rattle.bpf_insn.specs.Arithmetic.{extended, alu}
+use Rattle.bpf_insn.specs.Arithmetic.{extended, alu, numbers64 as M}
 use Rattle.bpf_insn.specs.Instruction.{Instructions, byte_count}
 use Rattle.bpf_insn.specs.declared.order.Order.{Order}
 use Rattle.bpf_insn.specs.declared.instruction.Reg.TheVariants.{R0, R1, R2, R3, R4, R5}
@@ -15,7 +15,6 @@ use Rattle.bpf_insn.specs.declared.instruction.AluOp.TheVariants.{Add as AddTo, 
 use Rattle.bpf_insn.specs.declared.instruction.Cond.TheVariants.{Gt as IsGt}
 use Rattle.bpf_insn.specs.declared.instruction.Insn.{Insn}
 use Rattle.bpf_insn.specs.declared.instruction.Insn.TheVariants.{Alu as AluInsn, Load, Ja, JumpIf as JumpIfInsn}
-use Rattle.bpf_num.specs.Word.{M}
 use Rattle.bpf_num.specs.Number.{Number, constant as number_of}
 use Rattle.bpf_num.proofs.ConstantLaws.{constant_valid, constant_has}
 use Rattle.bpf_num.proofs.NumberLaws.{num_alu_keeps}

@@ -7,7 +7,7 @@ use Rattle.bpf_insn.specs.Instruction.{register_number}
 use Rattle.bpf_insn.specs.declared.instruction.Reg.{Reg}
 use Rattle.bpf_insn.specs.declared.instruction.Reg.TheVariants.{R0, R1, R2, R3, R4, R5, R6, R7, R8, R9, R10}
 use Rattle.bpf_insn.proofs.RegisterLemmas.{reg_below}
-use Rattle.bpf_num.specs.Word.{M}
+use Rattle.bpf_insn.specs.Arithmetic.{numbers64 as M}
 use Rattle.bpf_num.specs.Number.{Number, top}
 use Rattle.bpf_state.specs.State.{AbstractState, start_of, register, each_if, tightened_register, tightened_slot, tightened}
 use Rattle.bpf_state.specs.declared.known.Area.TheVariants.{Context, Frame}

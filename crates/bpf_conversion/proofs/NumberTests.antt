@@ -13,7 +13,8 @@ use Rattle.bpf_insn.specs.declared.instruction.Cond.{Cond}
 use Rattle.bpf_insn.specs.declared.instruction.Cond.TheVariants.{Eq, Gt, Ge, Set, Ne, SGt, SGe, Lt, Le, SLt, SLe}
 use Rattle.bpf_insn.specs.declared.instruction.EndBits.TheVariants.{B32 as E32}
 use Rattle.bpf_insn.specs.declared.instruction.Width.TheVariants.{W32, W64}
-use Rattle.bpf_num.specs.Word.{M, signed, truncated}
+use Rattle.bpf_insn.specs.Arithmetic.{numbers64 as M}
+use Rattle.bpf_num.specs.Word.{signed, truncated}
 use Rattle.bpf_num.specs.Tristate.{Tristate, greatest, bits_meet, bits_setting, bits_clearing}
 use Rattle.bpf_num.specs.Interval.{Interval, interval, unsigned_top, unsigned_meet, unsigned_without, unsigned_add, unsigned_if, unsigned_truncate}
 use Rattle.bpf_num.specs.SignedInterval.{SignedInterval, signed_interval, signed_meet, signed_without, least, most}

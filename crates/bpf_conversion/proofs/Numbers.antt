@@ -8,7 +8,8 @@ use Rattle.std.proofs.lemmas.Bool.{and_from, cond-true, le-leb, eq-eqb}
 use Rattle.std.proofs.lemmas.Option.{none-some, same_Some}
 use Rattle.std.proofs.lemmas.Nat.{and_le_r}
 use Rattle.bpf_insn.specs.Options.{◌>>=◌}
-use Rattle.bpf_num.specs.Word.{M, signed, complement}
+use Rattle.bpf_insn.specs.Arithmetic.{numbers64 as M}
+use Rattle.bpf_num.specs.Word.{signed, complement}
 use Rattle.bpf_num.specs.Tristate.{Tristate, HasBits, bits_top, bits_entail}
 use Rattle.bpf_num.specs.Interval.{Interval, interval, unsigned_meet}
 use Rattle.bpf_num.specs.SignedInterval.{SignedInterval, SignedWithin, signed_interval, signed_top, signed_meet, least, most}

@@ -6,7 +6,7 @@ use Rattle.std.specs.Int.{cast_signed, w32}
 use Rattle.std.proofs.lemmas.Bool.{cond-true, cond-false, cond_both, and_from, and_left, and_right, or_from, or_right, lt-ltb, ne_eqb, false≢true, cases_lt}
 use Rattle.std.proofs.lemmas.Int.{ints}
 use Rattle.std.proofs.lemmas.List.{nil_from_length, length-set, get_or-set_other}
-use Rattle.bpf_insn.specs.Arithmetic.{extended}
+use Rattle.bpf_insn.specs.Arithmetic.{extended, numbers64 as M}
 use Rattle.bpf_insn.specs.Instruction.{Instructions}
 use Rattle.bpf_insn.specs.declared.instruction.Reg.{Reg}
 use Rattle.bpf_insn.specs.declared.instruction.Reg.TheVariants.{R0, R1, R2, R3, R4, R5, R6, R7, R8, R9, R10}
@@ -17,7 +17,6 @@ use Rattle.bpf_insn.specs.declared.instruction.AluOp.TheVariants.{Mov}
 use Rattle.bpf_insn.specs.declared.instruction.Cond.TheVariants.{Le as IsLe}
 use Rattle.bpf_insn.specs.declared.instruction.Insn.{Insn}
 use Rattle.bpf_insn.specs.declared.instruction.Insn.TheVariants.{Alu as AluInsn, Load, JumpIf as JumpIfInsn}
-use Rattle.bpf_num.specs.Word.{M}
 use Rattle.bpf_num.specs.Number.{Number, constant as number_of}
 use Rattle.bpf_state.specs.State.{AbstractState, register, register_tag, put_register, start_of, no_tags, each_if, tightened_register, tightened_slot, tightened}
 use Rattle.bpf_state.specs.Entails.{register_entails, slot_entails, all_pairs, state_entails}

@@ -3,7 +3,7 @@ use Rattle.std.proofs.Common.{◌≡◌, ℕ, suc, ℤ, pos, ◌+ℤ◌, ◌≤�
 use Rattle.std.specs.Prelude.{not, ◌&&◌, ◌||◌, int_le, option_map, option_and_then, Ok, Err}
 use Rattle.std.specs.List.{list_any}
 use Rattle.std.proofs.lemmas.Bool.{cond-false, or_from, and_from, false≢true}
-use Rattle.bpf_insn.specs.Arithmetic.{extended, alu, swapped}
+use Rattle.bpf_insn.specs.Arithmetic.{extended, alu, swapped, numbers64 as M}
 use Rattle.bpf_classic.specs.Machine.{same_op}
 use Rattle.bpf_classic.specs.declared.instruction.Op.{Op}
 use Rattle.bpf_classic.specs.declared.instruction.Op.TheVariants.{Add, Sub, Mul, Div, Or, And, Lsh, Rsh, Mod, Xor}
@@ -26,7 +26,6 @@ use Rattle.bpf_insn.specs.declared.instruction.EndKind.{EndKind}
 use Rattle.bpf_insn.specs.declared.instruction.EndBits.{EndBits}
 use Rattle.bpf_insn.specs.declared.instruction.Insn.{Insn}
 use Rattle.bpf_insn.specs.declared.instruction.Insn.TheVariants.{Alu, Neg, End, Load, Ja, JumpIf, Exit}
-use Rattle.bpf_num.specs.Word.{M}
 use Rattle.bpf_num.specs.Tristate.{bits_top}
 use Rattle.bpf_num.specs.Interval.{interval}
 use Rattle.bpf_num.specs.SignedInterval.{signed_top}

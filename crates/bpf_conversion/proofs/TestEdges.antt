@@ -5,7 +5,7 @@ use Rattle.std.specs.Int.{cast_signed, w32}
 use Rattle.std.proofs.lemmas.Bool.{cond-false, cond_both}
 use Rattle.std.proofs.lemmas.Option.{same_Some}
 use Rattle.std.proofs.lemmas.List.{get_or-set_other}
-use Rattle.bpf_insn.specs.Arithmetic.{extended}
+use Rattle.bpf_insn.specs.Arithmetic.{extended, numbers64 as M}
 use Rattle.bpf_insn.specs.declared.instruction.Reg.{Reg}
 use Rattle.bpf_insn.specs.declared.instruction.Reg.TheVariants.{R0, R2, R3, R4, R5}
 use Rattle.bpf_insn.specs.declared.instruction.Operand.{Operand}
@@ -15,7 +15,6 @@ use Rattle.bpf_insn.specs.declared.instruction.Cond.{Cond}
 use Rattle.bpf_insn.specs.declared.instruction.Cond.TheVariants.{Lt}
 use Rattle.bpf_insn.specs.declared.instruction.EndBits.TheVariants.{B32 as E32}
 use Rattle.bpf_insn.specs.declared.instruction.Insn.TheVariants.{JumpIf}
-use Rattle.bpf_num.specs.Word.{M}
 use Rattle.bpf_num.specs.Number.{Number, IsNumber, Has, constant}
 use Rattle.bpf_num.specs.Operation.{num_truncate}
 use Rattle.bpf_num.specs.Refine.{is_signed, tested32, is_read_whole, refine64, refine32}

@@ -3,6 +3,8 @@
 use Rattle.std.specs.Prelude.{◌≡◌, ℕ, zero, suc, ◌+◌, ◌-◌, ◌*◌, ◌<◌, ◌≤◌, ◌^◌, nat_le, nat_lt, ◌&&◌, Bool, true, false, List, [], ◌∷◌, ◌++◌, length as count, Option, Some, None, is_none, codes, decimal, if◌then◌else◌}
 use Rattle.std.specs.List.{AllByRecursion}
 use Rattle.std.specs.Option.{option_map_or}
+use Rattle.bpf_kept.specs.Far.{middle}
+use Rattle.bpf_insn.specs.Arithmetic.{numbers32, numbers64, sign_bit64}
 use Rattle.bpf_insn.specs.Limits.{max_slots}
 use Rattle.bpf_insn.specs.Instruction.{register_number}
 use Rattle.bpf_insn.specs.declared.instruction.Reg.TheVariants.{R0}
@@ -39,7 +41,7 @@ HolderFits (Some Length) = Unit {0}
 
 abbrev pub TermFits : Option Term → Type 0
 TermFits None = Unit {0}
-TermFits (Some t) = (t.frames < 2 ^ 64) × (t.moved < 2 ^ 64)
+TermFits (Some t) = (t.frames < numbers64) × (t.moved < numbers64)
 
 pub record FactFits (fact : Fact) : Type 0 where
   pub of : HolderFits fact.of
@@ -48,11 +50,11 @@ pub record FactFits (fact : Fact) : Type 0 where
 
 abbrev pub CounterFits : Option TurnsLeft → Type 0
 CounterFits None = Unit {0}
-CounterFits (Some c) = HolderFits (Some c.of) × (c.head < 2 ^ 32) × (c.taken < 2 ^ 32)
+CounterFits (Some c) = HolderFits (Some c.of) × (c.head < numbers32) × (c.taken < numbers32)
 
 abbrev pub NumberFits : Option ℕ → Type 0
 NumberFits None = Unit {0}
-NumberFits (Some n) = n < 2 ^ 64
+NumberFits (Some n) = n < numbers64
 
 -- it has as many of each as a note has
 pub record IsWhole (note : Note) : Type 0 where
@@ -64,8 +66,8 @@ pub record IsWhole (note : Note) : Type 0 where
 
 pub record NoteIs (note : Note) : Type 0 where
   pub whole : IsWhole note
-  pub old : note.old < 2 ^ 32
-  pub extras : note.extras < 2 ^ 32
+  pub old : note.old < numbers32
+  pub extras : note.extras < numbers32
   pub facts : AllByRecursion FactFits note.facts
   pub counters : AllByRecursion CounterFits note.counters
   pub back : AllByRecursion FactFits note.back
@@ -81,9 +83,9 @@ WholeIfAny None = Unit {0}
 WholeIfAny (Some note) = IsWhole note
 
 pub record RunsFit (runs : Bounds) : Type 0 where
-  pub length : runs.length < 2 ^ 32
-  pub turns : runs.turns < 2 ^ 64
-  pub untouched : runs.untouched < 2 ^ 32
+  pub length : runs.length < numbers32
+  pub turns : runs.turns < numbers64
+  pub untouched : runs.untouched < numbers32
 
 -- no more notes than slots, and each has a text
 pub record AreNotes (notes : List (Option Note)) : Type 0 where
@@ -108,11 +110,11 @@ itself b = b
 -- a number behind a word, or the number of which it is the negative behind another one, if it isn't 0
 unfoldable pub signed_text : List ℕ → List ℕ → ℕ → List ℕ
 signed_text plus minus zero = []
-signed_text plus minus (suc n) = if nat_lt (suc n) (2 ^ 63) then plus ++ decimal (suc n) else minus ++ decimal (2 ^ 64 - suc n)
+signed_text plus minus (suc n) = if nat_lt (suc n) sign_bit64 then plus ++ decimal (suc n) else minus ++ decimal (numbers64 - suc n)
 
--- with 2 ^ 63 more or less, for which the address of the context stands
+-- with the middle of the addresses more or less, for which the address of the context stands
 abbrev pub toggled : ℕ → ℕ
-toggled n = if nat_lt n (2 ^ 63) then n + 2 ^ 63 else n - 2 ^ 63
+toggled n = if nat_lt n middle then n + middle else n - middle
 
 -- nearer to 2 ^ 63 than to 0 and 2 ^ 64
 abbrev pub is_far : ℕ → Bool

@@ -1,5 +1,6 @@
 -- What the calls that judge and run promise.
-use Rattle.std.specs.Prelude.{◌≤◌, ◌<◌, ◌^◌, ℕ, List}
+use Rattle.std.specs.Prelude.{◌≤◌, ◌<◌, ℕ, List}
+use Rattle.bpf_insn.specs.Arithmetic.{numbers32}
 use Rattle.bpf_insn.specs.Laws.{IsImageOfProgram}
 use Rattle.bpf_insn.specs.Refusal.{IsRefused}
 use Rattle.bpf_insn.specs.declared.order.Order.{Order}
@@ -68,7 +69,7 @@ pub record IsVerifiedFor (order : Order) (image context : List ℕ) : Type 0 whe
   pub most : ℕ
   pub bound : ℕ
   pub verified : Verified order image least most bound
-  pub bound_fits : bound < 2 ^ 32
+  pub bound_fits : bound < numbers32
   pub length_within : LengthWithin least most context
 
 -- What a prepared program may be run on: it is that of an image which is verified, for contexts of this length.
@@ -89,7 +90,7 @@ pub record EndsOn (order : Order) (image context : List ℕ) (bound v : ℕ) : T
 -- and as soon as each verdict says that there is on it
 abbrev pub EndsAsVerified : Order → List ℕ → List ℕ → ℕ → Type 0
 EndsAsVerified order image context v =
-    (least most bound : ℕ) → Verified order image least most bound → bound < 2 ^ 32 → LengthWithin least most context → EndsOn order image context bound v
+    (least most bound : ℕ) → Verified order image least most bound → bound < numbers32 → LengthWithin least most context → EndsOn order image context bound v
 
 -- so does the program that is prepared in memory
 abbrev pub EndsAsPrepared : List ℕ → List ℕ → ℕ → Type 0

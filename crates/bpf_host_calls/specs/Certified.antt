@@ -1,5 +1,6 @@
 -- Images that are certified: as they stand, or hardened.
-use Rattle.std.specs.Prelude.{◌≡◌, ◌≢◌, ◌<◌, ◌≤◌, ◌⊎◌, ◌++◌, ◌-◌, ◌^◌, ◌==◌, ℕ, min, List, Option, Some, None, if◌then◌else◌, false, length, drop}
+use Rattle.std.specs.Prelude.{◌≡◌, ◌≢◌, ◌<◌, ◌≤◌, ◌⊎◌, ◌++◌, ◌-◌, ◌==◌, ℕ, min, List, Option, Some, None, if◌then◌else◌, false, length, drop}
+use Rattle.bpf_insn.specs.Arithmetic.{numbers32}
 use Rattle.bpf_insn.specs.Instruction.{slots}
 use Rattle.bpf_insn.specs.Laws.{IsImageOfProgram}
 use Rattle.bpf_insn.specs.Limits.{frame_bytes}
@@ -38,8 +39,8 @@ wish_of w = record { bound = w.bound; turns = turns_wished w.turns; otherwise = 
 
 -- of how many turns, as C sees it: the greatest number for any, and one less for a number that is as great
 abbrev pub short_turns : Turns → ℕ
-short_turns Any = 2 ^ 32 - 1
-short_turns (Most turns) = min turns (2 ^ 32 - 2)
+short_turns Any = numbers32 - 1
+short_turns (Most turns) = min turns (numbers32 - 2)
 
 abbrev pub TellsMade : Option Rewritten → BpfCertified → Type 0
 TellsMade None told = (told.is_rewritten ≡ 0) × (told.is_shown ≡ 1) × (told.turns ≡ 0) × (told.untouched ≡ 0)

@@ -1,5 +1,6 @@
 -- Whether notes and a certificate show that a new image keeps the meaning of an old one.
-use Rattle.std.specs.Prelude.{◌≡◌, ◌⊎◌, ◌-◌, ◌^◌, ℕ, min, List}
+use Rattle.std.specs.Prelude.{◌≡◌, ◌⊎◌, ◌-◌, ℕ, min, List}
+use Rattle.bpf_insn.specs.Arithmetic.{numbers64}
 use Rattle.bpf_insn.specs.Laws.{IsImageOfProgram}
 use Rattle.bpf_insn.specs.Refusal.{IsRefused}
 use Rattle.bpf_insn.specs.declared.order.Order.{Order}
@@ -34,8 +35,8 @@ use Rattle.bpf_host_calls.specs.declared.host_advice_asked.FollowAsked.{FollowAs
 
 -- Of how many turns, as C sees it: the greatest number for any. A number that is as great is told as one less.
 abbrev pub long_turns : Turns → ℕ
-long_turns Any = 2 ^ 64 - 1
-long_turns (Most turns) = min turns (2 ^ 64 - 2)
+long_turns Any = numbers64 - 1
+long_turns (Most turns) = min turns (numbers64 - 2)
 
 -- the contexts and runs, of how many turns, and the bound, as C sees them
 abbrev pub following_of : Bounds → Turns → ℕ → BpfFollowing

@@ -1,5 +1,6 @@
 -- Handles: a verdict and the prepared program that it is about, in memory that the caller gives.
-use Rattle.std.specs.Prelude.{◌≡◌, ◌≤◌, ◌<◌, ◌^◌, ◌+◌, ℕ, List, length, drop}
+use Rattle.std.specs.Prelude.{◌≡◌, ◌≤◌, ◌<◌, ◌+◌, ℕ, List, length, drop}
+use Rattle.bpf_insn.specs.Arithmetic.{numbers32}
 use Rattle.byteorder.specs.Endian.{little_number}
 use Rattle.bpf_insn.specs.declared.order.Order.{Order}
 use Rattle.bpf_cert.specs.View.{CertificateView}
@@ -60,9 +61,9 @@ pub record HoldsLoaded (memory : List ℕ) : Type 0 where
   pub bound : ℕ
   pub is_loaded : IsLoaded order image least most bound memory
   pub verified : Verified order image least most bound
-  pub bound_fits : bound < 2 ^ 32
+  pub bound_fits : bound < numbers32
 
 -- the program of a handle ends on a context with v, within the bound that stands in the handle
 abbrev pub EndsAsLoaded : List ℕ → List ℕ → ℕ → Type 0
 EndsAsLoaded memory context v =
-    (order : Order) (image : List ℕ) (least most bound : ℕ) → IsLoaded order image least most bound memory → Verified order image least most bound → bound < 2 ^ 32 → EndsOn order image context bound v
+    (order : Order) (image : List ℕ) (least most bound : ℕ) → IsLoaded order image least most bound memory → Verified order image least most bound → bound < numbers32 → EndsOn order image context bound v

@@ -2,14 +2,14 @@
 
 ghost use Rattle.std.specs.Prelude.{◌≡◌, ◌%◌, ◌^◌};
 ghost use Rattle.std.specs.Int.{w32, w64};
-ghost use Rattle.bpf_insn.specs.Arithmetic.{compute, compare, alu, jumps, extended, sign_extend, swapped};
+ghost use Rattle.bpf_insn.specs.Arithmetic.{compute, compare, alu, jumps, extended, sign_extend, swapped, numbers32};
 
 use crate::instruction::{AluOp, Cond, EndBits, EndKind, SignBits, Width};
 use crate::order::Order;
 
 /// The low 32 bits.
 pub fn low_half(x: u64) -> u32
-    ensures { result ≡ x % 2 ^ 32 }
+    ensures { result ≡ x % numbers32 }
 {
     (x % (1 << 32)) as u32
 }

@@ -1,7 +1,8 @@
 //! Images of programs: their slots as bytes (RFC 9669, section 3).
 
-ghost use Rattle.std.specs.Prelude.{◌≡◌, ℕ, OnOk, OnErr, length, ◌∷◌, [], ◌++◌, ◌/◌, ◌^◌};
+ghost use Rattle.std.specs.Prelude.{◌≡◌, ℕ, OnOk, OnErr, length, ◌∷◌, [], ◌++◌, ◌/◌};
 ghost use Rattle.std.specs.Io.KnownBytes.{Appends};
+ghost use Rattle.bpf_insn.specs.Arithmetic.{numbers32};
 ghost use Rattle.bpf_insn.specs.Written.{AppendsBeginning, Gathers};
 ghost use Rattle.bpf_insn.specs.Image.{image, instruction_bytes, second_slot, fields};
 ghost use Rattle.bpf_insn.specs.Order.{bytes_of};
@@ -16,7 +17,7 @@ use std::io::{self, Write};
 
 /// The second slot of a 64-bit constant.
 fn second_slot_of(order: Order, value: u64) -> [u8; 8]
-    ensures { result ≡ 0 ∷ 0 ∷ 0 ∷ 0 ∷ [] ++ bytes_of order 4 (value / 2 ^ 32) }
+    ensures { result ≡ 0 ∷ 0 ∷ 0 ∷ 0 ∷ [] ++ bytes_of order 4 (value / numbers32) }
 {
     let mut bytes = [0; 8];
     put_u32(order, &mut bytes[4..8], (value >> 32) as u32);

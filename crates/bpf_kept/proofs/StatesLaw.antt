@@ -3,7 +3,7 @@ use Rattle.std.proofs.Common.{◌≡◌, inl, inr, ℕ, zero, suc, ◌+◌, ◌<
 use Rattle.std.specs.Option.{is_some}
 use Rattle.std.proofs.lemmas.Bool.{cond-true, cond-false, eq-eqb, eqb-true, false≢true}
 use Rattle.std.proofs.lemmas.Option.{none-some, same_Some}
-use Rattle.bpf_insn.specs.Arithmetic.{extended, jumps}
+use Rattle.bpf_insn.specs.Arithmetic.{extended, jumps, numbers64 as M}
 use Rattle.bpf_insn.specs.Image.{IsProgram}
 use Rattle.bpf_insn.specs.Instruction.{Instructions, register_number, slot_count}
 use Rattle.bpf_insn.specs.declared.instruction.Insn.{Insn}
@@ -22,7 +22,6 @@ use Rattle.bpf_semantics.specs.Placement.{Fits}
 use Rattle.bpf_semantics.specs.declared.value.Value.TheVariants.{Number as NumberValue}
 use Rattle.bpf_semantics.proofs.FlatBase.{stands}
 use Rattle.bpf_semantics.proofs.NumberLemmas.{modulo_below}
-use Rattle.bpf_num.specs.Word.{M}
 use Rattle.bpf_num.specs.Number.{Number, IsNumber, Has, top, constant}
 use Rattle.bpf_num.specs.Refine.{refine}
 use Rattle.bpf_num.specs.Laws.{Member}

@@ -1,6 +1,7 @@
 -- The same of all placements that are far, and of all that a run leaves open: what a C programmer's program is. That is less than what is promised,
 -- since it asks for more runs.
-use Rattle.std.specs.Prelude.{◌≡◌, ℕ, zero, suc, ◌+◌, ◌*◌, ◌%◌, ◌^◌, ◌<◌, ◌≤◌, ◌⊎◌, Bool, List, length, Some, if◌then◌else◌}
+use Rattle.std.specs.Prelude.{◌≡◌, ℕ, zero, suc, ◌+◌, ◌*◌, ◌%◌, ◌<◌, ◌≤◌, ◌⊎◌, Bool, List, length, Some, if◌then◌else◌}
+use Rattle.bpf_insn.specs.Arithmetic.{numbers32}
 use Rattle.bpf_insn.specs.Laws.{AreBytes}
 use Rattle.bpf_insn.specs.Instruction.{Instructions}
 use Rattle.bpf_semantics.specs.State.{max_frames}
@@ -25,9 +26,9 @@ IsInTheMiddle a = (far_away ≤ a) × (a + far_away ≤ addresses)
 -- Context and frames begin at multiples of 2 ^ 32, in blocks the packet behind a head there, far from one another and from both ends.
 pub record IsFar (padded : Bool) (place : Placement) : Type 0 where
   pub eight : length place.frames ≡ max_frames
-  pub context_at : place.context % 2 ^ 32 ≡ (if padded then head_bytes else 0)
+  pub context_at : place.context % numbers32 ≡ (if padded then head_bytes else 0)
   pub context_inside : IsInTheMiddle place.context
-  pub frame_at : (n : ℕ) → n < max_frames → frame_start place n % 2 ^ 32 ≡ 0
+  pub frame_at : (n : ℕ) → n < max_frames → frame_start place n % numbers32 ≡ 0
   pub frame_inside : (n : ℕ) → n < max_frames → IsInTheMiddle (frame_start place n)
   pub context_apart : (n : ℕ) → n < max_frames → AreFarApart place.context (frame_start place n)
   pub frames_apart : (m n : ℕ) → m < n → n < max_frames → AreFarApart (frame_start place m) (frame_start place n)

@@ -1,7 +1,8 @@
 -- What has to hold of the notes at each slot of the new program. Nothing here speaks of runs.
-use Rattle.std.specs.Prelude.{◌≡◌, ◌↔◌, ℕ, zero, suc, ◌+◌, ◌-◌, pos, ◌==◌, ◌&&◌, ◌^◌, ◌<◌, ◌≤◌, nat_le, Bool, IsTrue, true, false, not, List, [], ◌∷◌, ◌++◌, get_or, length as count, Option, Some, None, option_map, ◌||◌, ⊤, if◌then◌else◌}
+use Rattle.std.specs.Prelude.{◌≡◌, ◌↔◌, ℕ, zero, suc, ◌+◌, ◌-◌, pos, ◌==◌, ◌&&◌, ◌<◌, ◌≤◌, nat_le, Bool, IsTrue, true, false, not, List, [], ◌∷◌, ◌++◌, get_or, length as count, Option, Some, None, option_map, ◌||◌, ⊤, if◌then◌else◌}
 use Rattle.std.specs.List.{list_all, list_any}
 use Rattle.std.specs.Option.{option_map_or, is_some}
+use Rattle.bpf_insn.specs.Arithmetic.{numbers32, sign_bit32}
 use Rattle.bpf_insn.specs.Options.{◌>>=◌}
 use Rattle.bpf_insn.specs.Effects.{is_frame_pointer}
 use Rattle.bpf_insn.specs.Limits.{frame_bytes}
@@ -246,7 +247,7 @@ cuts_length room = Alu Mov W64 R2 (Imm (pos room))
 
 pub record Cuts (new : Instructions) (length : ℕ) : Type 0 where
   pub has_head : head_bytes ≤ length
-  pub fits_constant : length - head_bytes < 2 ^ 31
+  pub fits_constant : length - head_bytes < sign_bit32
   pub loads : insn_at new.list 0 ≡ Some loads_length
   pub skips : insn_at new.list 1 ≡ Some (skips_cut (length - head_bytes))
   pub cuts : insn_at new.list 2 ≡ Some (cuts_length (length - head_bytes))
@@ -290,7 +291,7 @@ starts notes new bounds = arrives notes (known_at_start new bounds) Kept None 0 
 -- ---- the notes match
 
 pub record Matches (old new : Instructions) (notes : Notes) (bounds : Bounds) (states : States) : Type 0 where
-  pub short : bounds.length < 2 ^ 32
+  pub short : bounds.length < numbers32
   pub few_turns : bounds.turns < addresses
   pub order_is : new.order ≡ old.order
   pub few : count notes ≤ slots new.list

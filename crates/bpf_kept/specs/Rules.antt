@@ -4,7 +4,7 @@ use Rattle.std.specs.List.{find, list_all, list_any}
 use Rattle.std.specs.Option.{is_some, option_map_or, option_or}
 use Rattle.std.specs.Ordering.{int_eq}
 use Rattle.bpf_insn.specs.Options.{◌>>=◌}
-use Rattle.bpf_insn.specs.Arithmetic.{alu, extended, sign_extend}
+use Rattle.bpf_insn.specs.Arithmetic.{alu, extended, sign_extend, numbers32}
 use Rattle.bpf_insn.specs.Effects.{registers_read, is_frame_pointer, fetch_register, atomic_registers}
 use Rattle.bpf_insn.specs.Limits.{frame_bytes}
 use Rattle.bpf_insn.specs.Instruction.{register_number, byte_count, word_size}
@@ -81,7 +81,7 @@ same_term a b = a.frames == b.frames && a.moved == b.moved
 
 -- a term whose constant is a multiple of 2 ^ 32 tells the low half, since frames lie at such
 abbrev pub is_high : Term → Bool
-is_high t = t.moved % 2 ^ 32 == 0
+is_high t = t.moved % numbers32 == 0
 
 -- one difference is enough for another
 abbrev pub is_enough : Option Term → Option Term → Bool
@@ -165,7 +165,7 @@ by_terms facts i = None
 
 -- a mask of 32 bits
 abbrev pub is_mask : ℤ → Bool
-is_mask (pos n) = nat_lt n (2 ^ 32)
+is_mask (pos n) = nat_lt n numbers32
 is_mask (negsuc n) = false
 
 -- it reads low halves alone
@@ -234,7 +234,7 @@ shifts_alike known op src = true
 
 -- By what is known of the new program's numbers its result has 32 bits at most.
 abbrev pub has_few_bits : Known → AluOp → Reg → Operand → Bool
-has_few_bits known op dst src = option_map_or (λ n. nat_lt n.unsigned.hi (2 ^ 32)) (num_alu W64 op (held_number known.state dst) (operand_number known.state src)) false
+has_few_bits known op dst src = option_map_or (λ n. nat_lt n.unsigned.hi numbers32) (num_alu W64 op (held_number known.state dst) (operand_number known.state src)) false
 
 -- What is operated on has the same low halves, so the result is the same.
 unfoldable pub is_widened : Known → Insn → Insn → Bool

@@ -1,7 +1,7 @@
 -- Terms: how far what the new program has is from what the old one has.
-use Rattle.std.specs.Prelude.{◌≡◌, ℕ, ◌+◌, ◌-◌, ◌*◌, ◌%◌, ◌^◌, ◌<◌, ◌≤◌, ◌==◌, ◌⊎◌, nat_lt, ℤ, pos, ◌+ℤ◌, ◌-ℤ◌, Bool, true, false, List, [], ◌∷◌, get_or, Option, Some, None, if◌then◌else◌}
+use Rattle.std.specs.Prelude.{◌≡◌, ℕ, ◌+◌, ◌-◌, ◌*◌, ◌%◌, ◌<◌, ◌≤◌, ◌==◌, ◌⊎◌, nat_lt, ℤ, pos, ◌+ℤ◌, ◌-ℤ◌, Bool, true, false, List, [], ◌∷◌, get_or, Option, Some, None, if◌then◌else◌}
 use Rattle.std.specs.List.{AllByRecursion}
-use Rattle.bpf_insn.specs.Arithmetic.{modulo}
+use Rattle.bpf_insn.specs.Arithmetic.{modulo, numbers32}
 use Rattle.bpf_insn.specs.Limits.{frame_bytes}
 use Rattle.bpf_insn.specs.declared.order.Order.{Order}
 use Rattle.bpf_semantics.specs.Flat.{FlatState, IsAmong, addresses, flat_register, flat_number}
@@ -49,7 +49,7 @@ abbrev pub Differs : ℕ → Term → ℕ → ℕ → Type 0
 Differs own t x y = y ≡ modulo (pos x +ℤ shift own t) addresses
 
 abbrev pub AreLow : ℕ → ℕ → Type 0
-AreLow x y = y % 2 ^ 32 ≡ x % 2 ^ 32
+AreLow x y = y % numbers32 ≡ x % numbers32
 
 -- they differ by a term, or have the same low half
 abbrev pub DiffersBy : ℕ → Option Term → ℕ → ℕ → Type 0

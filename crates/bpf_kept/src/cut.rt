@@ -1,6 +1,7 @@
 //! How a new program begins on blocks: it puts the packet's length into r2, cut to what the block has room for.
 
-ghost use Rattle.std.specs.Prelude.{◌≡◌, ◌<◌, ◌^◌, ◌↔◌, true, Some, IsTrue};
+ghost use Rattle.std.specs.Prelude.{◌≡◌, ◌<◌, ◌↔◌, true, Some, IsTrue};
+ghost use Rattle.bpf_insn.specs.Arithmetic.{sign_bit32};
 ghost use Rattle.bpf_insn.specs.Instruction.{insn_at};
 ghost use Rattle.bpf_kept.specs.Matching.{loads_length, skips_cut, cuts_length, Cuts};
 
@@ -21,7 +22,7 @@ fn loads_length() -> Insn
 
 /// The jump over the cut, where the block has room for as many bytes.
 fn skips_cut(room: u32) -> Insn
-    requires { room < 2 ^ 31 }
+    requires { room < sign_bit32 }
     ensures { result ≡ skips_cut room }
 {
     Insn::JumpIf {
@@ -35,7 +36,7 @@ fn skips_cut(room: u32) -> Insn
 
 /// The move that cuts the length to the room.
 fn cuts_length(room: u32) -> Insn
-    requires { room < 2 ^ 31 }
+    requires { room < sign_bit32 }
     ensures { result ≡ cuts_length room }
 {
     Insn::Alu {

@@ -6,7 +6,7 @@ use Rattle.std.proofs.lemmas.Int.{ints}
 use Rattle.std.proofs.lemmas.Bool.Decides.{nat_tests}
 use Rattle.std.proofs.lemmas.Nat.{pow_pos}
 use Rattle.std.proofs.lemmas.Nat.Bits.{bit_at-zero, same_from_bits_below}
-use Rattle.bpf_num.specs.Word.{M}
+use Rattle.bpf_insn.specs.Arithmetic.{numbers64 as M}
 use Rattle.bpf_num.specs.Laws.SignedLaws.{in_signed_top}
 use Rattle.bpf_num.specs.Laws.TristateKeeps.{in_bits_constant}
 use Rattle.bpf_num.specs.Laws.IntervalLaws.{in_unsigned_constant}

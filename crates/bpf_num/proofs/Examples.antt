@@ -4,7 +4,7 @@ use lib.Count.{count_leading_zeros, ones}
 use Rattle.bpf_insn.specs.declared.instruction.Cond.TheVariants.{Gt, Ne, Set}
 use Rattle.bpf_insn.specs.declared.instruction.Width.TheVariants.{W32, W64}
 use Rattle.bpf_insn.specs.declared.instruction.AluOp.TheVariants.{Add, Sub, Div, Mod, SMod, SDiv}
-use Rattle.bpf_num.specs.Word.{M}
+use Rattle.bpf_insn.specs.Arithmetic.{numbers64 as M}
 use Rattle.bpf_num.specs.Tristate.{tristate, bits_top, bits_add}
 use Rattle.bpf_num.specs.Interval.{interval, unsigned_top}
 use Rattle.bpf_num.specs.SignedInterval.{signed_interval, signed_top}

@@ -8,7 +8,7 @@ use Rattle.std.proofs.lemmas.Int.{ints}
 use Rattle.std.proofs.Math.Nat.{lt_of_le_of_lt, div-le_self, mod-le, mod-eq_of_lt}
 use Rattle.std.proofs.lemmas.Nat.{mod_below, pow_pos, or_lt, xor_lt, and_le_l, shr_le}
 use Rattle.std.proofs.lemmas.Nat.Bits.{same_from_bits_below}
-use Rattle.bpf_insn.specs.Arithmetic.{alu, numbers, modulo, sign_extend, swapped, swap_size, sign_type}
+use Rattle.bpf_insn.specs.Arithmetic.{alu, numbers, modulo, sign_extend, swapped, swap_size, sign_type, numbers64 as M}
 use Rattle.bpf_insn.specs.Order.{reverses}
 use Rattle.bpf_insn.specs.declared.order.Order.{Order}
 use Rattle.bpf_insn.specs.declared.instruction.AluOp.{AluOp}
@@ -20,7 +20,7 @@ use Rattle.bpf_insn.specs.declared.instruction.SignBits.TheVariants.{B32 as S32}
 use Rattle.bpf_insn.specs.declared.instruction.EndBits.{EndBits}
 use Rattle.bpf_insn.specs.declared.instruction.EndBits.TheVariants.{B16 as E16, B32 as E32, B64 as E64}
 use Rattle.bpf_insn.specs.declared.instruction.EndKind.{EndKind}
-use Rattle.bpf_num.specs.Word.{M, exact, signed, truncated, sign_extended, reversed}
+use Rattle.bpf_num.specs.Word.{exact, signed, truncated, sign_extended, reversed}
 use Rattle.bpf_num.specs.Laws.WordLaws.{bit_at_truncated, no_bit}
 use Rattle.bpf_num.specs.Laws.ExactLaws.{exact_fits}
 use Rattle.bpf_num.specs.Laws.MovedLaws.{cast_low, cast_high, truncated_moves, sign_extended_moves, reversed_moves}

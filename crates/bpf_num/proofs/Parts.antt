@@ -10,7 +10,8 @@ use Rattle.std.proofs.Math.Nat.{lt_of_le_of_lt}
 use Rattle.std.proofs.Math.Pow.{pow_mono}
 use Rattle.bpf_insn.specs.declared.instruction.AluOp.{AluOp}
 use Rattle.bpf_insn.specs.declared.instruction.AluOp.TheVariants.{Lsh, Rsh, Arsh}
-use Rattle.bpf_num.specs.Word.{M, exact, complement, word_sub}
+use Rattle.bpf_insn.specs.Arithmetic.{numbers64 as M}
+use Rattle.bpf_num.specs.Word.{exact, complement, word_sub}
 use Rattle.bpf_num.specs.Laws.WordLaws.{bit_at_and_not, no_bit, same_bits, zero_from_bits, sub_is, below_length, ones_fit}
 use Rattle.bpf_num.specs.Laws.TristateBitLaws.{apart_at}
 use Rattle.bpf_num.specs.Laws.MovedLaws.{Moves, lsh_moves, rsh_moves, arsh_moves}

@@ -10,14 +10,14 @@ use Rattle.std.proofs.lemmas.Int.{ints, of_z-to_z}
 use Rattle.std.proofs.lemmas.Nat.{ones_le_self, pow_pos, xor_lt, and_le_l, zero_from_ones, ones_cat}
 use Rattle.std.proofs.lemmas.Nat.Bits.{bit_at-lt, bit_at_and, bit_at_or, bit_at_xor, bit_at_not, and_pow, bit_at-pow_same, bit_at-pow_other}
 use Rattle.std.proofs.Math.Nat.{lt_of_le_of_lt, pow-suc}
-use Rattle.bpf_insn.specs.Arithmetic.{compare, jumps, low}
+use Rattle.bpf_insn.specs.Arithmetic.{compare, jumps, low, numbers64 as M}
 use Rattle.bpf_insn.specs.declared.instruction.Cond.{Cond}
 use Rattle.bpf_insn.specs.declared.instruction.Cond.TheVariants.{Eq, Gt, Ge, Set, Ne, SGt, SGe, Lt, Le, SLt, SLe}
 use Rattle.bpf_insn.specs.declared.instruction.Width.{Width}
 use Rattle.bpf_insn.specs.declared.instruction.Width.TheVariants.{W32, W64}
 use Rattle.bpf_insn.specs.declared.instruction.SignBits.TheVariants.{B32 as S32}
 use Rattle.bpf_insn.specs.declared.instruction.EndBits.TheVariants.{B32 as E32}
-use Rattle.bpf_num.specs.Word.{M, signed, sign_extended, complement}
+use Rattle.bpf_num.specs.Word.{signed, sign_extended, complement}
 use Rattle.bpf_num.specs.Laws.WordLaws.{bit_at_and_not, no_bit, zero_from_bits}
 use Rattle.bpf_num.specs.Tristate.{Tristate, IsTristate, HasBits, tristate, greatest, bits_meet, bits_setting, bits_clearing}
 use Rattle.bpf_num.specs.Laws.TristateBitLaws.{apart_at}

@@ -10,7 +10,8 @@ use Rattle.std.proofs.lemmas.Bool.{false≢true}
 use Rattle.std.proofs.lemmas.Nat.{or_lt, xor_lt, and_le_l, pow_pos}
 use Rattle.std.proofs.lemmas.Nat.Bits.{bit_at-lt, bit_at-zero, bit_at_and, bit_at_or, bit_at_xor, bit_at_not, same_from_bits_below}
 use Rattle.std.proofs.Math.Nat.{lt_of_le_of_lt}
-use Rattle.bpf_num.specs.Word.{M, signed, unsigned, complement, bit_length}
+use Rattle.bpf_insn.specs.Arithmetic.{numbers64 as M}
+use Rattle.bpf_num.specs.Word.{signed, unsigned, complement, bit_length}
 use Rattle.bpf_num.specs.Tristate.{Tristate, IsTristate, HasBits, tristate, greatest}
 use Rattle.bpf_num.specs.Laws.TristateLaws.{member_between}
 use Rattle.bpf_num.specs.Laws.WordLaws.{Half, signed_is, le_from_bits, shared_bits, above_ones, ones_fit}

@@ -9,13 +9,13 @@ use Rattle.std.proofs.lemmas.Nat.{mod_below, pow_pos, or_lt, xor_lt, and_le_l, s
 use Rattle.std.proofs.lemmas.Nat.Bits.{bit_at-lt, bit_at_and}
 use Rattle.std.proofs.Math.Nat.{lt_of_le_of_lt, div-le_self}
 use Rattle.std.proofs.Math.Pow.{shr_mono}
-use Rattle.bpf_insn.specs.Arithmetic.{swap_size, sign_type}
+use Rattle.bpf_insn.specs.Arithmetic.{swap_size, sign_type, numbers64 as M}
 use Rattle.bpf_insn.specs.declared.instruction.AluOp.{AluOp}
 use Rattle.bpf_insn.specs.declared.instruction.AluOp.TheVariants.{Add, Sub, Mul, Div, SDiv, Or, And, Lsh, Rsh, Mod, SMod, Xor, Arsh}
 use Rattle.bpf_insn.specs.declared.instruction.SignBits.{SignBits}
 use Rattle.bpf_insn.specs.declared.instruction.EndBits.{EndBits}
 use Rattle.bpf_insn.specs.declared.instruction.EndBits.TheVariants.{B16 as E16, B32 as E32, B64 as E64}
-use Rattle.bpf_num.specs.Word.{M, exact, complement, low_zeros, truncated, sign_extended, reversed, word_add, word_sub}
+use Rattle.bpf_num.specs.Word.{exact, complement, low_zeros, truncated, sign_extended, reversed, word_add, word_sub}
 use Rattle.bpf_num.specs.Laws.WordLaws.{bit_at_and_not, zero_from_bits, modulo_fits, ones_fit}
 use Rattle.bpf_num.specs.Laws.MovedLaws.{moved_is_tristate, truncated_moves, lsh_moves, rsh_moves, arsh_moves, sign_extended_moves, reversed_moves}
 use Rattle.bpf_num.specs.Laws.TristateKeeps.{at_most_word}

@@ -1,8 +1,9 @@
 -- Intervals of unsigned 64-bit numbers.
 use Rattle.std.specs.Prelude.{ℕ, ◌+◌, ◌-◌, ◌*◌, ◌/◌, ◌^◌, ◌<◌, ◌≤◌, min, max, Bool, ◌&&◌, ◌||◌, nat_eq, nat_lt, nat_le, Option, Some, None, if◌then◌else◌}
+use Rattle.bpf_insn.specs.Arithmetic.{sign_bit64, numbers64}
 use Rattle.bpf_insn.specs.declared.instruction.AluOp.{AluOp}
 use Rattle.bpf_insn.specs.declared.instruction.AluOp.TheVariants.{Add, Sub, Mul, Div, Mod, Or, And, Xor, Lsh, Rsh, Arsh}
-use Rattle.bpf_num.specs.Word.{M, bit_length, truncated}
+use Rattle.bpf_num.specs.Word.{bit_length, truncated}
 
 pub record Interval : Type 0 where
   pub lo : ℕ
@@ -10,7 +11,7 @@ pub record Interval : Type 0 where
 
 pub record IsInterval (r : Interval) : Type 0 where
   pub ordered : r.lo ≤ r.hi
-  pub fits : r.hi < M
+  pub fits : r.hi < numbers64
 
 -- x lies in the interval
 pub record Within (r : Interval) (x : ℕ) : Type 0 where
@@ -21,7 +22,7 @@ abbrev pub interval : ℕ → ℕ → Interval
 interval a b = record { lo = a; hi = b }
 
 abbrev pub unsigned_top : Interval
-unsigned_top = interval 0 (M - 1)
+unsigned_top = interval 0 (numbers64 - 1)
 
 abbrev pub unsigned_constant : ℕ → Interval
 unsigned_constant x = interval x x
@@ -33,17 +34,17 @@ unsigned_if test r = if test then r else unsigned_top
 -- no sum wraps, or all do
 abbrev pub unsigned_add : Interval → Interval → Interval
 unsigned_add x y =
-    if nat_lt (x.hi + y.hi) M then interval (x.lo + y.lo) (x.hi + y.hi)
-    else unsigned_if (nat_le M (x.lo + y.lo)) (interval (x.lo + y.lo - M) (x.hi + y.hi - M))
+    if nat_lt (x.hi + y.hi) numbers64 then interval (x.lo + y.lo) (x.hi + y.hi)
+    else unsigned_if (nat_le numbers64 (x.lo + y.lo)) (interval (x.lo + y.lo - numbers64) (x.hi + y.hi - numbers64))
 
 -- no difference wraps, or all do
 abbrev pub unsigned_sub : Interval → Interval → Interval
 unsigned_sub x y =
     if nat_le y.hi x.lo then interval (x.lo - y.hi) (x.hi - y.lo)
-    else unsigned_if (nat_lt x.hi y.lo) (interval (x.lo + M - y.hi) (x.hi + M - y.lo))
+    else unsigned_if (nat_lt x.hi y.lo) (interval (x.lo + numbers64 - y.hi) (x.hi + numbers64 - y.lo))
 
 abbrev pub unsigned_mul : Interval → Interval → Interval
-unsigned_mul x y = unsigned_if (nat_lt (x.hi * y.hi) M) (interval (x.lo * y.lo) (x.hi * y.hi))
+unsigned_mul x y = unsigned_if (nat_lt (x.hi * y.hi) numbers64) (interval (x.lo * y.lo) (x.hi * y.hi))
 
 -- a zero divisor gives 0
 abbrev pub unsigned_div : Interval → Interval → Interval
@@ -80,10 +81,10 @@ unsigned_binary _ x y = unsigned_top
 
 -- a shift by a known amount, or by an unknown one; an arithmetic one only where no member has the sign bit
 abbrev pub unsigned_shift : AluOp → Option ℕ → Interval → Interval
-unsigned_shift Lsh (Some k) x = unsigned_if (nat_lt (x.hi * 2 ^ k) M) (interval (x.lo * 2 ^ k) (x.hi * 2 ^ k))
+unsigned_shift Lsh (Some k) x = unsigned_if (nat_lt (x.hi * 2 ^ k) numbers64) (interval (x.lo * 2 ^ k) (x.hi * 2 ^ k))
 unsigned_shift Rsh (Some k) x = interval (x.lo / 2 ^ k) (x.hi / 2 ^ k)
 unsigned_shift Rsh None x = interval 0 x.hi
-unsigned_shift Arsh (Some k) x = unsigned_if (nat_eq k 0 || nat_lt x.hi (2 ^ 63)) (interval (x.lo / 2 ^ k) (x.hi / 2 ^ k))
+unsigned_shift Arsh (Some k) x = unsigned_if (nat_eq k 0 || nat_lt x.hi sign_bit64) (interval (x.lo / 2 ^ k) (x.hi / 2 ^ k))
 unsigned_shift _ _ x = unsigned_top
 
 -- the low w bits keep their order where the higher bits are the same throughout

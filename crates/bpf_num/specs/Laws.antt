@@ -21,8 +21,7 @@ use Rattle.bpf_insn.specs.declared.instruction.Width.{Width}
 use Rattle.bpf_insn.specs.declared.instruction.SignBits.{SignBits}
 use Rattle.bpf_insn.specs.declared.instruction.EndBits.{EndBits}
 use Rattle.bpf_insn.specs.declared.instruction.EndKind.{EndKind}
-use Rattle.bpf_insn.specs.Arithmetic.{alu, sign_extend, swapped, jumps}
-use Rattle.bpf_num.specs.Word.{M}
+use Rattle.bpf_insn.specs.Arithmetic.{alu, sign_extend, swapped, jumps, numbers64}
 use Rattle.bpf_num.specs.Number.{Number, IsNumber, Has, constant, is_constant, tighten, join, entails}
 use Rattle.bpf_num.specs.Operation.{num_alu, num_neg, num_movsx, num_end}
 use Rattle.bpf_num.specs.Refine.{refine}
@@ -47,7 +46,7 @@ Member n x = IsNumber n × Has n x
 
 -- a constant has its number as member, and a number whose bits are known has no other
 abbrev pub ConstantHas : Type 0
-ConstantHas = (x : ℕ) → x < M → Member (constant x) x
+ConstantHas = (x : ℕ) → x < numbers64 → Member (constant x) x
 
 abbrev pub ConstantIs : Type 0
 ConstantIs = (n : Number) (x : ℕ) → Member n x → is_constant n ≡ true → x ≡ n.bits.value

@@ -2,6 +2,7 @@
 use Rattle.std.specs.Prelude.{ℕ, ◌-◌, ◌/◌, ◌^◌, Bool, ◌&&◌, nat_eq, Option, Some, None, if◌then◌else◌, option_map, bit_and, bit_or, bit_xor}
 use Rattle.std.specs.Bool.{beq}
 use Rattle.std.specs.Int.{is_negative}
+use Rattle.bpf_insn.specs.Arithmetic.{sign_bit64}
 use Rattle.bpf_insn.specs.Options.{◌>>=◌}
 use Rattle.bpf_num.specs.Word.{signed, unsigned, complement, bit_length}
 use Rattle.bpf_num.specs.Tristate.{Tristate, IsTristate, HasBits, tristate, bits_top, bits_constant, greatest, bits_join, bits_entail}
@@ -49,7 +50,7 @@ unsigned_from_bits n =
 abbrev pub signed_from_unsigned : Number → Option Number
 signed_from_unsigned n =
     let u = n.unsigned in
-    if nat_eq (u.lo / 2 ^ 63) (u.hi / 2 ^ 63)
+    if nat_eq (u.lo / sign_bit64) (u.hi / sign_bit64)
     then option_map (λ s. record n { signed = s }) (signed_meet n.signed (signed_interval (signed u.lo) (signed u.hi)))
     else Some n
 

@@ -1,5 +1,5 @@
 -- What a test tells about its operands where it holds and where it fails.
-use Rattle.std.specs.Prelude.{ℕ, ℤ, pos, ◌+◌, ◌-◌, ◌^◌, ◌+ℤ◌, ◌-ℤ◌, Bool, true, false, ◌&&◌, nat_eq, nat_lt, Option, Some, None, if◌then◌else◌, option_and_then, option_map, bit_and}
+use Rattle.std.specs.Prelude.{ℕ, ℤ, pos, ◌+◌, ◌-◌, ◌+ℤ◌, ◌-ℤ◌, Bool, true, false, ◌&&◌, nat_eq, nat_lt, Option, Some, None, if◌then◌else◌, option_and_then, option_map, bit_and}
 use Rattle.bpf_insn.specs.declared.instruction.Cond.{Cond}
 use Rattle.bpf_insn.specs.declared.instruction.Cond.TheVariants.{Eq, Gt, Ge, Set, Ne, SGt, SGe, Lt, Le, SLt, SLe}
 use Rattle.bpf_insn.specs.declared.instruction.EndBits.TheVariants.{B32 as E32}
@@ -7,6 +7,7 @@ use Rattle.bpf_insn.specs.declared.instruction.Width.{Width}
 use Rattle.bpf_insn.specs.declared.instruction.Width.TheVariants.{W32, W64}
 use Rattle.bpf_num.specs.Word.{signed}
 use Rattle.std.specs.Int.{is_power_of_two}
+use Rattle.bpf_insn.specs.Arithmetic.{numbers32, sign_bit32}
 use Rattle.bpf_num.specs.Tristate.{greatest, bits_meet, bits_setting, bits_clearing}
 use Rattle.bpf_num.specs.Interval.{interval, unsigned_meet, unsigned_without}
 use Rattle.bpf_num.specs.SignedInterval.{signed_interval, signed_meet, signed_without}
@@ -128,7 +129,7 @@ tested32 c a = if is_signed c then num_signed32 a else num_truncate E32 a
 
 -- the test reads all of the number: the low 32 bits give it back
 abbrev pub is_read_whole : Cond → Number → Bool
-is_read_whole c a = nat_lt a.unsigned.hi (if is_signed c then 2 ^ 31 else 2 ^ 32)
+is_read_whole c a = nat_lt a.unsigned.hi (if is_signed c then sign_bit32 else numbers32)
 
 abbrev pub refine32 : Cond → Bool → Number → Number → Option (Number × Number)
 refine32 c taken a b =

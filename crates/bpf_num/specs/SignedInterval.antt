@@ -4,7 +4,8 @@ use Rattle.std.specs.Int.{int_min, int_max, int_shr}
 use Rattle.bpf_insn.specs.declared.instruction.AluOp.{AluOp}
 use Rattle.bpf_insn.specs.declared.instruction.AluOp.TheVariants.{Add, Sub, Mul, SDiv, SMod, Lsh, Rsh, Arsh}
 use Rattle.std.specs.Ordering.{int_eq}
-use Rattle.bpf_num.specs.Word.{M, signed}
+use Rattle.bpf_insn.specs.Arithmetic.{sign_bit64, numbers64}
+use Rattle.bpf_num.specs.Word.{signed}
 
 pub record SignedInterval : Type 0 where
   pub lo : ℤ
@@ -12,10 +13,10 @@ pub record SignedInterval : Type 0 where
 
 -- the least and the greatest number of 64 bits, read as two's complement
 abbrev pub least : ℤ
-least = neg_ℤ (pos (2 ^ 63))
+least = neg_ℤ (pos sign_bit64)
 
 abbrev pub most : ℤ
-most = pos (2 ^ 63 - 1)
+most = pos (sign_bit64 - 1)
 
 pub record IsSignedInterval (r : SignedInterval) : Type 0 where
   pub above : least ≤ℤ r.lo
@@ -24,7 +25,7 @@ pub record IsSignedInterval (r : SignedInterval) : Type 0 where
 
 -- x, read as two's complement, lies in the interval
 pub record SignedWithin (r : SignedInterval) (x : ℕ) : Type 0 where
-  pub fits : x < M
+  pub fits : x < numbers64
   pub above : r.lo ≤ℤ signed x
   pub below : signed x ≤ℤ r.hi
 

@@ -1,7 +1,8 @@
 -- Tristate numbers: what is known of each bit.
 use Rattle.std.specs.Prelude.{◌≡◌, ℕ, ◌+◌, ◌-◌, ◌^◌, ◌<◌, min, Bool, ◌&&◌, nat_eq, Option, Some, None, if◌then◌else◌, bit_and, bit_or, bit_xor}
 use Rattle.std.specs.Int.{bit_at}
-use Rattle.bpf_num.specs.Word.{M, complement, low_zeros, exact, word_add, word_sub}
+use Rattle.bpf_insn.specs.Arithmetic.{numbers64}
+use Rattle.bpf_num.specs.Word.{complement, low_zeros, exact, word_add, word_sub}
 use Rattle.bpf_insn.specs.declared.instruction.AluOp.{AluOp}
 use Rattle.bpf_insn.specs.declared.instruction.AluOp.TheVariants.{Add, Sub, Mul, Or, And, Xor, Lsh, Rsh, Arsh}
 
@@ -12,20 +13,20 @@ pub record Tristate : Type 0 where
 
 -- an unknown bit has the value 0
 pub record IsTristate (t : Tristate) : Type 0 where
-  pub value_fits : t.value < M
-  pub mask_fits : t.mask < M
+  pub value_fits : t.value < numbers64
+  pub mask_fits : t.mask < numbers64
   pub disjoint : bit_and t.value t.mask ≡ 0
 
 -- x agrees with the value at each known bit
 pub record HasBits (t : Tristate) (x : ℕ) : Type 0 where
-  pub fits : x < M
+  pub fits : x < numbers64
   pub agrees : (i : ℕ) → i < 64 → bit_at t.mask i ≡ 0 → bit_at x i ≡ bit_at t.value i
 
 abbrev pub tristate : ℕ → ℕ → Tristate
 tristate v m = record { value = v; mask = m }
 
 abbrev pub bits_top : Tristate
-bits_top = tristate 0 (M - 1)
+bits_top = tristate 0 (numbers64 - 1)
 
 abbrev pub bits_constant : ℕ → Tristate
 bits_constant x = tristate x 0
@@ -66,7 +67,7 @@ bits_xor a b = forget (bit_xor a.value b.value) (bit_or a.mask b.mask)
 
 -- a product has the low zeros of both factors
 abbrev pub bits_mul : Tristate → Tristate → Tristate
-bits_mul a b = tristate 0 (M - 2 ^ min 64 (low_zeros (greatest a) + low_zeros (greatest b)))
+bits_mul a b = tristate 0 (numbers64 - 2 ^ min 64 (low_zeros (greatest a) + low_zeros (greatest b)))
 
 -- an operation on two tristate numbers, shifts aside
 abbrev pub bits_binary : AluOp → Tristate → Tristate → Tristate

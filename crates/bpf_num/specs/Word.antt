@@ -10,10 +10,6 @@ use Rattle.bpf_insn.specs.declared.instruction.EndBits.{EndBits}
 use Rattle.bpf_insn.specs.declared.instruction.EndKind.TheVariants.{Swap}
 use Rattle.bpf_insn.specs.declared.order.Order.TheVariants.{Little}
 
--- how many 64-bit numbers there are
-abbrev pub M : ℕ
-M = 2 ^ 64
-
 -- a number read as two's complement, and back
 abbrev pub signed : ℕ → ℤ
 signed x = cast_signed w64 x
@@ -25,7 +21,7 @@ unsigned z = cast_unsigned w64 z
 abbrev pub exact : AluOp → ℕ → ℕ → ℕ
 exact op x y = compute w64 op x y
 
--- the sum and the difference modulo M
+-- the sum and the difference modulo their number
 abbrev pub word_add : ℕ → ℕ → ℕ
 word_add x y = exact Add x y
 

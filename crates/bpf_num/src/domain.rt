@@ -2,11 +2,11 @@
 
 ghost use Rattle.std.specs.Prelude.{◌≡◌, ℕ, ◌*◌, ◌<◌, ◌↔◌, Option, IsTrue, IfSome};
 ghost use Rattle.std.specs.Option.{ForSome};
-ghost use Rattle.bpf_insn.specs.Arithmetic.{swap_size};
+ghost use Rattle.bpf_insn.specs.Arithmetic.{swap_size, numbers64};
 ghost use Rattle.bpf_insn.specs.declared.instruction.AluOp.{AluOp};
 ghost use Rattle.bpf_insn.specs.declared.instruction.SignBits.{SignBits};
 ghost use Rattle.bpf_insn.specs.declared.instruction.EndBits.{EndBits};
-ghost use Rattle.bpf_num.specs.Word.{M, exact, truncated, sign_extended, reversed};
+ghost use Rattle.bpf_num.specs.Word.{exact, truncated, sign_extended, reversed};
 
 use bpf_insn::{AluOp, EndBits, SignBits};
 
@@ -72,9 +72,9 @@ pub trait WordDomain: Copy {
         ensures { result ≡ turned size self };
 
     /// Each number is one of all, and the member of its own set.
-    ghost all_have: { (x : ℕ) → x < M → has all x };
+    ghost all_have: { (x : ℕ) → x < numbers64 → has all x };
 
-    ghost only_has: { (x : ℕ) → x < M → has (only x) x };
+    ghost only_has: { (x : ℕ) → x < numbers64 → has (only x) x };
 
     /// The exact result on members is a member.
     ghost binary_keeps: { (op : AluOp) (a b : Self) (x y : ℕ) → is_valid a → is_valid b → has a x → has b y → has (binary op a b) (exact op x y) };

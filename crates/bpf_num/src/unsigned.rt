@@ -26,7 +26,7 @@ impl Model for Unsigned {
 
 impl Unsigned {
     ghost use Rattle.std.specs.Prelude.{◌≡◌, ◌≤◌, ◌<◌, ◌+◌, ◌-◌, ◌*◌, ◌/◌, ◌^◌, nat_lt};
-    ghost use Rattle.bpf_num.specs.Word.{M};
+    ghost use Rattle.bpf_insn.specs.Arithmetic.{numbers64};
     ghost use Rattle.bpf_num.specs.Interval.{interval, unsigned_top, unsigned_meet, unsigned_join, unsigned_entail, unsigned_without, unsigned_add, unsigned_sub, unsigned_mul, unsigned_div, unsigned_mod, unsigned_if, most_bits};
 
     /// The numbers from lo to hi, which is at least lo.
@@ -184,7 +184,7 @@ impl Unsigned {
     // Both ends times a power of two.
     fn multiple(self, amount: u32) -> Self
         requires { amount < 64 }
-        ensures { result ≡ unsigned_if (nat_lt (self.hi * 2 ^ amount) M) (interval (self.lo * 2 ^ amount) (self.hi * 2 ^ amount)) }
+        ensures { result ≡ unsigned_if (nat_lt (self.hi * 2 ^ amount) numbers64) (interval (self.lo * 2 ^ amount) (self.hi * 2 ^ amount)) }
     {
         if self.hi <= u64::MAX >> amount {
             Unsigned {

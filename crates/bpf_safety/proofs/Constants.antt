@@ -1,9 +1,8 @@
 -- The constants of instructions as abstract numbers.
 use Rattle.std.proofs.Common.{ℕ, ℤ, pos, negsuc, ◌<◌, refl, arith, Some}
 use Rattle.std.proofs.lemmas.Nat.{mod_below}
-use Rattle.bpf_insn.specs.Arithmetic.{extended}
+use Rattle.bpf_insn.specs.Arithmetic.{extended, numbers64 as M}
 use Rattle.bpf_semantics.specs.declared.value.Value.TheVariants.{Number as NumberValue}
-use Rattle.bpf_num.specs.Word.{M}
 use Rattle.bpf_num.specs.Number.{constant}
 use Rattle.bpf_num.specs.Laws.{ConstantHas}
 use Rattle.bpf_state.specs.declared.known.RegState.TheVariants.{Num}

@@ -13,7 +13,7 @@ use Rattle.bpf_insn.specs.declared.instruction.Size.TheVariants.{B, H, W, DW}
 use Rattle.bpf_insn.specs.declared.instruction.SignBits.{SignBits}
 use Rattle.bpf_insn.specs.declared.instruction.SignBits.TheVariants.{B8 as S8, B16 as S16, B32 as S32}
 use Rattle.bpf_insn.specs.declared.instruction.Insn.TheVariants.{LoadSx}
-use Rattle.bpf_insn.specs.Arithmetic.{modulo, sign_type}
+use Rattle.bpf_insn.specs.Arithmetic.{modulo, sign_type, numbers64 as M}
 use Rattle.bpf_insn.specs.Instruction.{register_number, Instructions, byte_count}
 use Rattle.bpf_insn.specs.Image.{HasEncoding}
 use Rattle.bpf_insn.specs.Order.{number_of}
@@ -21,7 +21,7 @@ use Rattle.bpf_semantics.specs.Step.{Step, does, next, size_type}
 use Rattle.bpf_semantics.specs.Stuck.{reason_at}
 use Rattle.bpf_semantics.specs.State as machine
 use Rattle.bpf_semantics.specs.State.{put}
-use Rattle.bpf_num.specs.Word.{M, sign_extended}
+use Rattle.bpf_num.specs.Word.{sign_extended}
 use Rattle.bpf_num.specs.Laws.WordLaws.{modulo_fits}
 use Rattle.bpf_num.specs.Laws.SignedLaws.{in_signed_top}
 use Rattle.bpf_num.specs.Laws.SignedKeeps.{signed_sign_extend_keeps}

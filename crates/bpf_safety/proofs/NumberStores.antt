@@ -21,7 +21,7 @@ use Rattle.bpf_insn.specs.Order.{number_of, bytes_of}
 use Rattle.bpf_semantics.specs.State as machine
 use Rattle.bpf_semantics.specs.State.{Cell, IsFrame, cell}
 use Rattle.bpf_semantics.specs.Memory.{with_bytes}
-use Rattle.bpf_num.specs.Word.{M}
+use Rattle.bpf_insn.specs.Arithmetic.{numbers64 as M}
 use Rattle.bpf_num.specs.Number.{IsNumber, top}
 use Rattle.bpf_state.specs.declared.known.RegState.{RegState}
 use Rattle.bpf_state.specs.declared.known.RegState.TheVariants.{Any, Num, Ptr}

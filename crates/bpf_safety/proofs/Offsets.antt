@@ -6,9 +6,9 @@ use Rattle.std.proofs.lemmas.Int.{ints, int_wrap_fits, int_wrap-add_right, int_w
 use Rattle.std.proofs.lemmas.Bool.{and_parts, not-false, cond_both}
 use Rattle.bpf_semantics.specs.declared.value.Value.TheVariants.{Pointer as PointerValue}
 use Rattle.bpf_semantics.specs.declared.value.Region.{Region}
-use Rattle.bpf_insn.specs.Arithmetic.{modulo}
+use Rattle.bpf_insn.specs.Arithmetic.{modulo, numbers64 as M}
 use Rattle.bpf_semantics.specs.Step.{wrapped}
-use Rattle.bpf_num.specs.Word.{M, signed}
+use Rattle.bpf_num.specs.Word.{signed}
 use Rattle.bpf_num.specs.Laws.WordLaws.{modulo_fits}
 use Rattle.bpf_num.specs.Tristate.{bits_top}
 use Rattle.bpf_num.specs.Laws.TristateBitLaws.{in_bits_top}

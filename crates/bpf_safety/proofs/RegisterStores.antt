@@ -17,7 +17,7 @@ use Rattle.bpf_insn.specs.declared.instruction.Size.{Size}
 use Rattle.bpf_insn.specs.declared.instruction.Size.TheVariants.{B, H, W, DW}
 use Rattle.bpf_insn.specs.declared.instruction.Insn.TheVariants.{Store}
 use Rattle.bpf_insn.specs.Instruction.{Instructions, byte_count}
-use Rattle.bpf_insn.specs.Arithmetic.{modulo}
+use Rattle.bpf_insn.specs.Arithmetic.{modulo, numbers64 as M}
 use Rattle.bpf_semantics.specs.Step.{Step, does}
 use Rattle.bpf_semantics.specs.Stuck.{reason_at}
 use Rattle.bpf_insn.specs.Order.{bytes_of}
@@ -26,7 +26,6 @@ use Rattle.bpf_semantics.specs.State.{Cell, cell}
 use Rattle.bpf_semantics.specs.State.Cell.{Part}
 use Rattle.bpf_semantics.specs.Memory.{with_bytes, with_parts, store_pointer, part_after, location_of, stack_of, with_stack}
 use Rattle.bpf_semantics.specs.Memory.Location.{InFrame}
-use Rattle.bpf_num.specs.Word.{M}
 use Rattle.bpf_state.specs.declared.known.RegState.{RegState}
 use Rattle.bpf_state.specs.declared.known.RegState.TheVariants.{Any, Num, Ptr}
 use Rattle.bpf_state.specs.declared.known.SlotState.{SlotState}

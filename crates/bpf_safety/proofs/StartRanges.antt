@@ -12,7 +12,8 @@ use Rattle.std.proofs.lemmas.Nat.{pow_pos, mod_below, shr_split, leading_length,
 use Rattle.std.proofs.lemmas.Nat.Bits.{bit_at-lt, bit_at-zero, bit_at_and, bit_at_or, bit_at_xor, bit_at_ones, same_from_bits}
 use Rattle.std.proofs.Math.Pow.{shr_mono, pow_mono}
 use Rattle.std.proofs.Math.Nat.{div-eq_of_lt}
-use Rattle.bpf_num.specs.Word.{M, signed, unsigned, complement, bit_length}
+use Rattle.bpf_insn.specs.Arithmetic.{numbers64 as M}
+use Rattle.bpf_num.specs.Word.{signed, unsigned, complement, bit_length}
 use Rattle.bpf_num.specs.Laws.WordLaws.{le_from_bits, shared_bits, ones_fit, below_length, no_bit, same_bits, signed_low, bit_at_and_not}
 use Rattle.bpf_num.specs.Tristate.{Tristate, tristate, bits_top, bits_entail, greatest}
 use Rattle.bpf_num.specs.Interval.{Interval, interval, unsigned_meet, unsigned_entail}

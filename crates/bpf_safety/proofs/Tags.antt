@@ -14,10 +14,10 @@ use Rattle.bpf_insn.specs.declared.instruction.AluOp.{AluOp}
 use Rattle.bpf_insn.specs.declared.instruction.AluOp.TheVariants.{Add, Sub, Mov}
 use Rattle.bpf_semantics.specs.declared.value.Value.{Value}
 use Rattle.bpf_semantics.specs.declared.value.Value.TheVariants.{Number as NumberValue}
-use Rattle.bpf_insn.specs.Arithmetic.{alu, modulo}
+use Rattle.bpf_insn.specs.Arithmetic.{alu, modulo, numbers64 as M}
 use Rattle.bpf_semantics.specs.State as machine
 use Rattle.bpf_semantics.specs.Step.{operand as machine_operand, alu_result}
-use Rattle.bpf_num.specs.Word.{M, signed}
+use Rattle.bpf_num.specs.Word.{signed}
 use Rattle.bpf_num.specs.Laws.WordLaws.{signed_is}
 use Rattle.bpf_num.specs.Number.{Number, IsNumber, Has, is_constant}
 use Rattle.bpf_num.specs.Laws.{ConstantHas, ConstantIs}

@@ -9,7 +9,7 @@ use Rattle.bpf_insn.specs.declared.order.Order.TheVariants.{Little, Big}
 use Rattle.bpf_insn.specs.Order.{number_of}
 use Rattle.bpf_semantics.specs.State.{Cell}
 use Rattle.bpf_semantics.specs.State.Cell.{Byte}
-use Rattle.bpf_num.specs.Word.{M}
+use Rattle.bpf_insn.specs.Arithmetic.{numbers64 as M}
 use Rattle.bpf_num.specs.Number.{Has, top}
 use Rattle.bpf_num.specs.Laws.SignedLaws.{in_signed_top}
 use Rattle.bpf_state.specs.declared.known.SlotState.{SlotState}

@@ -1,5 +1,6 @@
 -- The run of a program on a packet is the same run inside of a block that holds the packet. Each law is proved as the contract of a function of its own.
-use Rattle.std.specs.Prelude.{◌≡◌, ℕ, ◌+◌, ◌-◌, ◌^◌, ◌<◌, ◌≤◌, ◌↔◌, min, ℤ, pos, List, length, take, drop, ◌++◌, Some}
+use Rattle.std.specs.Prelude.{◌≡◌, ℕ, ◌+◌, ◌-◌, ◌<◌, ◌≤◌, ◌↔◌, min, ℤ, pos, List, length, take, drop, ◌++◌, Some}
+use Rattle.bpf_insn.specs.Arithmetic.{numbers32, numbers64}
 use Rattle.bpf_insn.specs.Laws.{AreBytes}
 use Rattle.bpf_insn.specs.Order.{bytes_of}
 use Rattle.bpf_insn.specs.Image.{IsProgram}
@@ -21,7 +22,7 @@ use Rattle.bpf_semantics.specs.Blocks.{head_bytes, told_length, IsBlock, inside_
 pub record StandsOn (p : Instructions) (packet block : List ℕ) (s : State) : Type 0 where
   pub program : IsProgram p.list
   pub is_block : IsBlock p.order packet block
-  pub short : length packet < 2 ^ 32
+  pub short : length packet < numbers32
   pub state : IsState s
   pub context_is : s.context ≡ packet
 
@@ -38,7 +39,7 @@ StepInside = (p : Instructions) (packet block : List ℕ) (s t : State) → Stan
 
 abbrev pub StepsInside : Type 0
 StepsInside =
-    (p : Instructions) (packet block : List ℕ) (k : ℕ) (s : State) → IsProgram p.list → IsBlock p.order packet block → AreBytes packet → length packet < 2 ^ 32
+    (p : Instructions) (packet block : List ℕ) (k : ℕ) (s : State) → IsProgram p.list → IsBlock p.order packet block → AreBytes packet → length packet < numbers32
     → Steps p k (start packet) s → Steps p k (inside block (start packet)) (inside block s)
 
 abbrev pub FinishesInside : Type 0
@@ -76,4 +77,4 @@ HeadOfBlock = (order : Order) (packet block : List ℕ) → IsBlock order packet
 
 -- A frame behind its length, with padding, is cut to the room that is there: the packet is the frame, cut alike.
 abbrev pub BlockOfFrame : Type 0
-BlockOfFrame = (order : Order) (frame padding : List ℕ) (room : ℕ) → length frame < 2 ^ 64 → IsBlock order (take room frame) (bytes_of order head_bytes (length frame) ++ take room (frame ++ padding))
+BlockOfFrame = (order : Order) (frame padding : List ℕ) (room : ℕ) → length frame < numbers64 → IsBlock order (take room frame) (bytes_of order head_bytes (length frame) ++ take room (frame ++ padding))

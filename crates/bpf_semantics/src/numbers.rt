@@ -3,7 +3,7 @@
 ghost use Rattle.std.specs.Prelude.{◌≡◌, ◌<◌, ◌%◌, ◌^◌, Some};
 ghost use Rattle.std.specs.Int.{cast_signed};
 ghost use Rattle.std.specs.Option.{option_map};
-ghost use Rattle.bpf_insn.specs.Arithmetic.{modulo};
+ghost use Rattle.bpf_insn.specs.Arithmetic.{modulo, numbers64};
 ghost use Rattle.bpf_insn.specs.Instruction.{byte_count, word_size};
 ghost use Rattle.bpf_semantics.specs.Step.{atomic_result, modified, size_type};
 
@@ -13,7 +13,7 @@ use bpf_insn::{AtomicOp, Modify, Size};
 #[inline(always)]
 pub fn sign_extend_from(size: Size, x: u64) -> u64
     requires { x < 256 ^ byte_count size }
-    ensures { result ≡ modulo (cast_signed (size_type size) x) (2 ^ 64) }
+    ensures { result ≡ modulo (cast_signed (size_type size) x) numbers64 }
 {
     let signed = match size {
         Size::B => (x as u8).cast_signed() as i64,
@@ -28,7 +28,7 @@ pub fn sign_extend_from(size: Size, x: u64) -> u64
 #[tactic(auto, using(crate::proofs::NumberLemmas::or_fits, crate::proofs::NumberLemmas::xor_fits))]
 #[inline(always)]
 fn modify(by: Modify, old: u64, x: u64) -> u64
-    ensures { result ≡ modified by old x % 2 ^ 64 }
+    ensures { result ≡ modified by old x % numbers64 }
 {
     match by {
         Modify::Add => old.wrapping_add(x),
@@ -42,7 +42,7 @@ fn modify(by: Modify, old: u64, x: u64) -> u64
 /// there, of the source's and of r0's, whose low 32 or 64 bits CMPXCHG compares with the old one.
 #[inline(always)]
 pub fn atomic_result(op: AtomicOp, wide: bool, old: u64, x: u64, r0: u64) -> u64
-    ensures { option_map (λ n. n % 2 ^ 64) (atomic_result op (word_size wide) old x (Some r0)) ≡ Some result }
+    ensures { option_map (λ n. n % numbers64) (atomic_result op (word_size wide) old x (Some r0)) ≡ Some result }
 {
     match op {
         AtomicOp::Modify { by, fetch: _ } => modify(by, old, x),

@@ -143,9 +143,13 @@ reads_part s i =
 abbrev pub has_wrong_kinds : AbstractState → Insn → Bool
 has_wrong_kinds s i = not (have_right_kinds s i) || reads_part s i
 
--- the bounds of a pointer stay within 2 ^ 31
+-- how far from the first byte of its region a pointer may be known to be
+abbrev pub max_distance : ℕ
+max_distance = 2 ^ 31
+
+-- the bounds of a pointer stay within that distance
 abbrev pub leaves_bounds : RegState → Bool
-leaves_bounds (Ptr p) = not (int_le (neg_ℤ (pos (2 ^ 31))) p.lo && int_le p.hi (pos (2 ^ 31)))
+leaves_bounds (Ptr p) = not (int_le (neg_ℤ (pos max_distance)) p.lo && int_le p.hi (pos max_distance))
 leaves_bounds _ = false
 
 abbrev pub makes_far_pointer : AbstractState → Insn → Bool

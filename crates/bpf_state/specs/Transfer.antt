@@ -13,8 +13,8 @@ use Rattle.bpf_insn.specs.declared.instruction.AluOp.{AluOp}
 use Rattle.bpf_insn.specs.declared.instruction.AluOp.TheVariants.{Add, Sub, Mov}
 use Rattle.bpf_insn.specs.declared.instruction.Insn.{Insn}
 use Rattle.bpf_insn.specs.declared.instruction.Insn.TheVariants.{Alu, Neg, MovSx, End, LoadImm64, Load, LoadSx, Store, StoreImm, Atomic, JumpIf}
-use Rattle.bpf_insn.specs.Arithmetic.{extended}
-use Rattle.bpf_num.specs.Word.{M, signed}
+use Rattle.bpf_insn.specs.Arithmetic.{extended, numbers64}
+use Rattle.bpf_num.specs.Word.{signed}
 use Rattle.bpf_num.specs.Tristate.{bits_top}
 use Rattle.bpf_num.specs.Interval.{interval, unsigned_top}
 use Rattle.bpf_num.specs.SignedInterval.{signed_top, signed_of_width}
@@ -52,7 +52,7 @@ added _ b = None
 
 -- each member of an interval and c have a sum that is an unsigned number
 abbrev pub never_wraps : Number → ℤ → Bool
-never_wraps n c = int_le (pos 0) (pos n.unsigned.lo +ℤ c) && int_le (pos n.unsigned.hi +ℤ c) (pos (M - 1))
+never_wraps n c = int_le (pos 0) (pos n.unsigned.lo +ℤ c) && int_le (pos n.unsigned.hi +ℤ c) (pos (numbers64 - 1))
 
 abbrev pub max_offset : ℤ
 max_offset = pos (2 ^ 40)

@@ -1,5 +1,6 @@
 -- Counted work: how many transfers and comparisons were made.
-use Rattle.std.specs.Prelude.{ℕ, ◌+◌, ◌-◌, ◌^◌, min}
+use Rattle.std.specs.Prelude.{ℕ, ◌+◌, ◌-◌, min}
+use Rattle.bpf_insn.specs.Arithmetic.{numbers32}
 
 pub record Counts : Type 0 where
   pub transfers : ℕ
@@ -10,7 +11,7 @@ no_work = record { transfers = 0; comparisons = 0 }
 
 -- one more; the greatest number of 32 bits stays
 abbrev pub counted : ℕ → ℕ
-counted n = min (n + 1) (2 ^ 32 - 1)
+counted n = min (n + 1) (numbers32 - 1)
 
 abbrev pub with_transfer : Counts → Counts
 with_transfer work = record work { transfers = counted work.transfers }

@@ -1,6 +1,7 @@
 -- Which number a word writes, and the ranges of numbers.
-use Rattle.std.specs.Prelude.{ℕ, ◌+◌, ◌*◌, Bool, false, ◌&&◌, List, [], ◌∷◌, Option, Some, None, ℤ, pos, length, drop, nat_le, nat_lt, ◌==◌, if◌then◌else◌, ◌^◌, negsuc, int_le}
+use Rattle.std.specs.Prelude.{ℕ, ◌+◌, ◌*◌, Bool, false, ◌&&◌, List, [], ◌∷◌, Option, Some, None, ℤ, pos, length, drop, nat_le, nat_lt, ◌==◌, if◌then◌else◌, negsuc, int_le}
 use Rattle.std.specs.Char.{digit_value}
+use Rattle.bpf_insn.specs.Arithmetic.{numbers64}
 
 -- the number of the digits in the base, behind a number that digits before them write
 abbrev pub value_after : ℕ → ℕ → List ℕ → Option ℕ
@@ -31,5 +32,5 @@ abbrev pub fits_32 : ℤ → Option ℤ
 fits_32 z = in_range (negsuc 2147483647) (pos 2147483647) z
 
 abbrev pub fits_wide : ℤ → Option ℕ
-fits_wide (pos n) = if nat_lt n (2 ^ 64) then Some n else None
+fits_wide (pos n) = if nat_lt n numbers64 then Some n else None
 fits_wide (negsuc n) = None

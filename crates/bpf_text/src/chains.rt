@@ -1,6 +1,7 @@
 //! Labels chained by a hash of their names.
 
-ghost use Rattle.std.specs.Prelude.{◌≡◌, ◌<◌, ◌≤◌, [], length, map, IfOk};
+ghost use Rattle.std.specs.Prelude.{◌≡◌, ◌<◌, ◌≤◌, ◌-◌, [], length, map, IfOk};
+ghost use Rattle.bpf_insn.specs.Arithmetic.{numbers32};
 ghost use Rattle.bpf_text.specs.Assembly.{slot_of};
 ghost use Rattle.bpf_text.specs.code.Seen.{label_seen};
 ghost use Rattle.bpf_text.specs.code.Chains.{hash_of, bucket_of, IsChained, Seeks, entry_label, entry_link, IsAdded};
@@ -15,7 +16,7 @@ const MAX_CHAIN: usize = 32;
 #[tactic(auto, unfolding(crate::specs::code::Chains::hash_of))]
 fn hash_of(name: &[u8]) -> u64
     ensures hash { result ≡ hash_of name.now }
-    ensures small { result < 4294967296 }
+    ensures small { result < numbers32 }
 {
     let mut hash = 0;
     for byte in name {
@@ -55,7 +56,7 @@ impl<'a> Chains<'a> {
     /// No labels, and so many buckets.
     pub fn new(alloc: Global, buckets: usize) -> Result<Self, AllocError>
         requires some { 0 < buckets }
-        requires few { buckets < 4294967296 }
+        requires few { buckets < numbers32 }
         ensures { IfOk result (λ c. c.entries.items ≡ []) }
     {
         let heads = vec![in alloc; 0; buckets]?;
@@ -114,7 +115,7 @@ impl<'a> Chains<'a> {
 
     /// Adds a label, if its name is new and its chain is short.
     pub fn add(&mut self, label: Label<'a>) -> Result<Added, AllocError>
-        requires { length self.old.entries.items < 4294967295 }
+        requires { length self.old.entries.items < numbers32 - 1 }
         ensures { IfOk result (IsAdded (map entry_label self.old.entries.items) (label_seen label.entry) (map entry_label self.new.entries.items)) }
     {
         let bucket = self.bucket(label.name);

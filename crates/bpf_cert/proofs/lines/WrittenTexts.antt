@@ -12,9 +12,8 @@ use Rattle.bpf_cert.specs.Numeral.{is_decimal_digit, is_numeral, digits_of_int, 
 use Rattle.bpf_cert.specs.Line.{Part, Number, Content, PlaceText, Measure as MeasureText, Term as TermText, signed_text, range_text, part_text, number_text, content_text, place_text, measure_text, term_text, is_part, is_number, is_content, is_place, is_measure, is_term}
 use Rattle.bpf_cert.specs.Limits.{is_int_range, is_range, is_bits, is_limited_num, is_limited_place, is_limited_measure, is_limited_term, is_limited_pointer}
 use Rattle.bpf_cert.specs.Spelling.{unsigned_parts, signed_parts, bits_parts, of_parts, number_of, spelled_place, measure_of, term_of, bounds_in, content_of}
-use Rattle.bpf_cert.specs.code.Sums.{least, greatest}
 use Rattle.bpf_num.specs.Interval.{Interval}
-use Rattle.bpf_num.specs.SignedInterval.{SignedInterval}
+use Rattle.bpf_num.specs.SignedInterval.{SignedInterval, least, most as greatest}
 use Rattle.bpf_num.specs.Tristate.{Tristate}
 use Rattle.bpf_num.specs.Number.{Number as AbstractNumber}
 use Rattle.bpf_state.specs.declared.known.Pointer.{Pointer}

@@ -5,12 +5,11 @@ use Rattle.std.specs.List.{list_all}
 use Rattle.std.proofs.lemmas.Bool.{leb-true, ltb-true}
 use Rattle.bpf_num.specs.Tristate.{tristate}
 use Rattle.bpf_num.specs.Interval.{interval}
-use Rattle.bpf_num.specs.SignedInterval.{signed_interval}
+use Rattle.bpf_num.specs.SignedInterval.{signed_interval, least, most as greatest}
 use Rattle.bpf_cert.specs.Numeral.{SignedDigits, is_numeral, is_plain, number, signed_number, is_plain_signed}
 use Rattle.bpf_cert.specs.Line.{Part, Number, is_part, is_number}
 use Rattle.bpf_cert.specs.Faults.{part_before, is_plain_part, is_top, is_limited_part, is_canonical_number, is_limited_number}
 use Rattle.bpf_cert.specs.Limits.{is_rising, is_limited_num}
-use Rattle.bpf_cert.specs.code.Sums.{least, greatest}
 use Rattle.bpf_cert.specs.Spelling.{unsigned_parts, signed_parts, bits_parts, of_parts, number_of}
 use Rattle.bpf_cert.proofs.NumeralLaws.{plain_decimal}
 use Rattle.bpf_cert.proofs.Bools.{both_true}

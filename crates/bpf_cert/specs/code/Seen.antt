@@ -1,5 +1,5 @@
 -- Forms that the code keeps, without where their digits lie in memory.
-use Rattle.std.specs.Prelude.{◌≡◌, ℕ, Bool, true, not, ◌&&◌, List, codes, Option, Some, None, ℤ, pos, neg_ℤ, min, ◌^◌, if◌then◌else◌}
+use Rattle.std.specs.Prelude.{◌≡◌, ℕ, Bool, true, not, ◌&&◌, List, codes, Option, Some, None, ℤ, pos, neg_ℤ, min, if◌then◌else◌}
 use Rattle.bpf_streams.specs.Words.{behind}
 use Rattle.bpf_cert.specs.Numeral.{SignedDigits, number, is_numeral, is_plain}
 use Rattle.bpf_cert.specs.Line.{Part, PlaceText, Content, Measure, Term, Lengths, Line, is_place}
@@ -12,6 +12,7 @@ use Rattle.bpf_cert.specs.declared.part.PartForm.TheVariants as part
 use Rattle.bpf_cert.specs.declared.content.PointerForm.{PointerForm}
 use Rattle.bpf_cert.specs.declared.term.TermForm.{TermForm}
 use Rattle.std.specs.Borrow.{Bor}
+use Rattle.bpf_insn.specs.Arithmetic.{numbers64}
 use Rattle.bpf_cert.specs.declared.place.PlaceForm.{PlaceForm}
 use Rattle.bpf_cert.specs.declared.place.PlaceForm.TheVariants as place
 use Rattle.bpf_cert.specs.declared.header.HeaderForm.{HeaderForm}
@@ -46,7 +47,7 @@ place_seen (place.Slot k) = PlaceText.slot k.now
 
 -- the number that is written, or 2^64 or -2^64 where it is past that
 abbrev pub capped_signed : SignedDigits → ℤ
-capped_signed s = if s.minus then neg_ℤ (pos (min (number s.digits) (2 ^ 64))) else pos (min (number s.digits) (2 ^ 64))
+capped_signed s = if s.minus then neg_ℤ (pos (min (number s.digits) numbers64)) else pos (min (number s.digits) numbers64)
 
 abbrev pub pointer_seen : PointerForm → Content
 pointer_seen p = bounds_in p.area (signed_seen p.low) (signed_seen p.high)

@@ -1,6 +1,7 @@
 -- A line that was read: what it says, and what is kept of the lines before it.
-use Rattle.std.specs.Prelude.{◌≡◌, ◌≤◌, ◌<◌, ◌^◌, ℕ, Bool, true, false, not, ◌&&◌, ◌==◌, List, [], ◌∷◌, count_by, Option, Some, None, option_map, IfSome, Result, Ok, Err, map, if◌then◌else◌, decimal}
+use Rattle.std.specs.Prelude.{◌≡◌, ◌≤◌, ◌<◌, ℕ, Bool, true, false, not, ◌&&◌, ◌==◌, List, [], ◌∷◌, count_by, Option, Some, None, option_map, IfSome, Result, Ok, Err, map, if◌then◌else◌, decimal}
 use Rattle.std.specs.List.{list_all, slice_split}
+use Rattle.bpf_insn.specs.Arithmetic.{numbers32}
 use Rattle.bpf_cert.specs.Line.{Line, PlaceText, is_place, is_content, is_line}
 use Rattle.bpf_state.specs.declared.known.Place.{Place as PlaceValue}
 use Rattle.bpf_state.specs.declared.known.SlotState.{SlotState}
@@ -36,8 +37,8 @@ pub record IsEntry (place : PlaceValue) (content : SlotState) : Type 0 where
 
 abbrev pub IsValue : LineValue → Type 0
 IsValue (value.Entry place content) = IsEntry place content
-IsValue (value.Function first depth ret) = first < 2 ^ 32
-IsValue (value.Label slot base terms) = (slot < 2 ^ 32) × (list_all is_limited_term terms.items ≡ true)
+IsValue (value.Function first depth ret) = first < numbers32
+IsValue (value.Label slot base terms) = (slot < numbers32) × (list_all is_limited_term terms.items ≡ true)
 IsValue (value.Header h) = is_limited_header h ≡ true
 IsValue value.End = Unit {0}
 

@@ -2,6 +2,7 @@
 use Rattle.std.specs.Prelude.{ℕ, zero, suc, ◌+◌, ◌*◌, ◌-◌, ◌^◌, ◌==◌, ◌&&◌, nat_le, nat_lt, List, [], ◌∷◌, ◌++◌, Bool, false, not, Option, Some, None, option_map, if◌then◌else◌, Result, Ok, Err, codes, set, replicate}
 use Rattle.std.specs.List.{slice_get}
 use Rattle.std.specs.Option.{is_some, option_map_or}
+use Rattle.bpf_insn.specs.Arithmetic.{numbers32, numbers64}
 use Rattle.bpf_insn.specs.Options.{◌>>=◌}
 use Rattle.bpf_streams.specs.Words.{behind}
 use Rattle.bpf_insn.specs.declared.instruction.Reg.{Reg}
@@ -37,7 +38,7 @@ or_usual x (Some y) = y
 -- ---- numbers
 
 abbrev pub with_digit : ℕ → ℕ → Option ℕ
-with_digit n c = if nat_lt (n * 10 + (c - 48)) (2 ^ 64) then Some (n * 10 + (c - 48)) else None
+with_digit n c = if nat_lt (n * 10 + (c - 48)) numbers64 then Some (n * 10 + (c - 48)) else None
 
 -- the number n with the digits at the front
 unfoldable pub digits_in : ℕ → List ℕ → Option (ℕ × List ℕ)
@@ -53,7 +54,7 @@ unfoldable pub number_in : List ℕ → List ℕ → Option (ℕ × List ℕ)
 number_in word text = behind word text >>= numeral_in
 
 abbrev pub short : ℕ → Option ℕ
-short n = if nat_lt n (2 ^ 32) then Some n else None
+short n = if nat_lt n numbers32 then Some n else None
 
 -- one of 32 bits
 unfoldable pub short_in : List ℕ → List ℕ → Option (ℕ × List ℕ)
@@ -101,7 +102,7 @@ unfoldable pub holder_in : List ℕ → Option (Option Holder × List ℕ)
 holder_in text = or_else (register_in text) (or_else (slot_in text) (or_else (length_in text) (zero_in text)))
 
 abbrev pub opposite : ℕ → ℕ
-opposite n = if n == 0 then 0 else 2 ^ 64 - n
+opposite n = if n == 0 then 0 else numbers64 - n
 
 unfoldable pub minus_in : List ℕ → List ℕ → Option (ℕ × List ℕ)
 minus_in minus text = number_in minus text >>= λ n. Some (opposite n.0, n.1)

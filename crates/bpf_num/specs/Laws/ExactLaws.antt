@@ -4,10 +4,10 @@ use Rattle.std.specs.Prelude.{nat_eq, cond}
 use Rattle.std.specs.Int.{w64, int_shr}
 use Rattle.std.proofs.lemmas.Nat.{mod_below, pow_pos, or_lt, xor_lt, and_le_l, shr_le}
 use Rattle.std.proofs.Math.Nat.{lt_of_le_of_lt, div-le_self, mod-le}
-use Rattle.bpf_insn.specs.Arithmetic.{modulo, quotient}
+use Rattle.bpf_insn.specs.Arithmetic.{modulo, quotient, numbers64 as M}
 use Rattle.bpf_insn.specs.declared.instruction.AluOp.{AluOp}
 use Rattle.bpf_insn.specs.declared.instruction.AluOp.TheVariants.{Add, Sub, Mul, Div, SDiv, Or, And, Lsh, Rsh, Mod, SMod, Xor, Mov, Arsh}
-use Rattle.bpf_num.specs.Word.{M, exact, signed, word_sub}
+use Rattle.bpf_num.specs.Word.{exact, signed, word_sub}
 use Rattle.bpf_num.specs.Laws.WordLaws.{sub_is, modulo_fits}
 
 either_fits : (b : Bool) (x y : ℕ) → x < M → y < M → cond b x y < M

@@ -8,14 +8,14 @@ use Rattle.std.proofs.lemmas.Bool.{or_cases, cond_both, ltb-true, leb-true, eqb-
 use Rattle.std.proofs.lemmas.Nat.{mod_below, or_lt, xor_lt, and_le_l, and_le_r, le_or_l, le_or_r, shr_le, mul-le, le-div}
 use Rattle.std.proofs.Math.Nat.{div-le_self, mod-le, mul-le-mul_left, div-mul-le_self}
 use Rattle.std.proofs.Math.Pow.{shr_mono}
-use Rattle.bpf_insn.specs.Arithmetic.{modulo, swap_size, sign_type}
+use Rattle.bpf_insn.specs.Arithmetic.{modulo, swap_size, sign_type, numbers64 as M}
 use Rattle.bpf_insn.specs.declared.instruction.AluOp.{AluOp}
 use Rattle.bpf_insn.specs.declared.instruction.AluOp.TheVariants.{Add, Sub, Mul, Div, Or, And, Lsh, Rsh, Mod, Xor, Arsh}
 use Rattle.bpf_insn.specs.declared.instruction.SignBits.{SignBits}
 use Rattle.bpf_insn.specs.declared.instruction.SignBits.TheVariants.{B8 as S8, B16 as S16, B32 as S32}
 use Rattle.bpf_insn.specs.declared.instruction.EndBits.{EndBits}
 use Rattle.bpf_insn.specs.declared.instruction.EndBits.TheVariants.{B16 as E16, B32 as E32, B64 as E64}
-use Rattle.bpf_num.specs.Word.{M, exact, signed, truncated, sign_extended, reversed, bit_length}
+use Rattle.bpf_num.specs.Word.{exact, signed, truncated, sign_extended, reversed, bit_length}
 use Rattle.bpf_num.specs.Laws.WordLaws.{modulo_fits, below_length, signed_is, Half, signed_low}
 use Rattle.bpf_num.specs.Laws.ExactLaws.{exact_fits, sub_down, sub_up}
 use Rattle.bpf_num.specs.Laws.MovedLaws.{reversed_is, turned_below, cast_low}

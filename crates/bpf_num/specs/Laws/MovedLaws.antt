@@ -11,13 +11,13 @@ use Rattle.std.proofs.lemmas.Nat.{mod_below, pow_pos, pow-add, shr_le, shr-shr, 
 use Rattle.std.proofs.lemmas.Nat.Bits.{bit_at-lt, bit_at-zero, bit_at_and, bit_at_not, bit_at_above, bit_at_cat_low, bit_at_cat_high}
 use Rattle.std.proofs.Math.Nat.{lt_of_le_of_lt, pow-suc}
 use Rattle.std.proofs.Math.Pow.{pow_mono}
-use Rattle.bpf_insn.specs.Arithmetic.{modulo, swap_size}
+use Rattle.bpf_insn.specs.Arithmetic.{modulo, swap_size, numbers64 as M}
 use Rattle.bpf_insn.specs.declared.instruction.AluOp.TheVariants.{Lsh, Rsh, Arsh}
 use Rattle.bpf_insn.specs.declared.instruction.SignBits.{SignBits}
 use Rattle.bpf_insn.specs.declared.instruction.SignBits.TheVariants.{B8 as S8, B16 as S16, B32 as S32}
 use Rattle.bpf_insn.specs.declared.instruction.EndBits.{EndBits}
 use Rattle.bpf_insn.specs.declared.instruction.EndBits.TheVariants.{B16 as E16, B32 as E32, B64 as E64}
-use Rattle.bpf_num.specs.Word.{M, exact, signed, truncated, sign_extended, reversed}
+use Rattle.bpf_num.specs.Word.{exact, signed, truncated, sign_extended, reversed}
 use Rattle.bpf_num.specs.Laws.WordLaws.{Half, signed_is, bit_at_low, bit_at_truncated, zero_from_bits, modulo_fits}
 use Rattle.bpf_num.specs.Tristate.{Tristate, IsTristate, HasBits, bits_moved}
 use Rattle.bpf_num.specs.Laws.TristateBitLaws.{apart_at}

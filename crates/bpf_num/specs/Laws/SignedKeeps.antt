@@ -10,14 +10,14 @@ use Rattle.std.proofs.Math.Nat.{div-le_self, mod-le, mod-eq_of_lt}
 use Rattle.std.proofs.Math.Pow.{shr_mono}
 use Rattle.std.proofs.Math.IntN.{*ℤ_comm}
 use Rattle.bpf_num.specs.Laws.IntegerLaws.{mul_le_pos}
-use Rattle.bpf_insn.specs.Arithmetic.{modulo, quotient, swap_size, sign_type}
+use Rattle.bpf_insn.specs.Arithmetic.{modulo, quotient, swap_size, sign_type, numbers64 as M}
 use Rattle.bpf_insn.specs.declared.instruction.AluOp.{AluOp}
 use Rattle.bpf_insn.specs.declared.instruction.AluOp.TheVariants.{Add, Sub, Mul, SDiv, SMod, Lsh, Rsh, Arsh}
 use Rattle.bpf_insn.specs.declared.instruction.SignBits.{SignBits}
 use Rattle.bpf_insn.specs.declared.instruction.SignBits.TheVariants.{B8 as S8, B16 as S16, B32 as S32}
 use Rattle.bpf_insn.specs.declared.instruction.EndBits.{EndBits}
 use Rattle.bpf_insn.specs.declared.instruction.EndBits.TheVariants.{B16 as E16, B32 as E32, B64 as E64}
-use Rattle.bpf_num.specs.Word.{M, exact, signed, truncated, sign_extended, reversed}
+use Rattle.bpf_num.specs.Word.{exact, signed, truncated, sign_extended, reversed}
 use Rattle.bpf_num.specs.Laws.WordLaws.{sub_is, Half, signed_is, signed_low, signed_high, modulo_fits}
 use Rattle.bpf_num.specs.Laws.ExactLaws.{exact_fits}
 use Rattle.bpf_num.specs.Laws.MovedLaws.{reversed_is, turned_below, cast_low, cast_high}

@@ -5,7 +5,8 @@ use Rattle.std.specs.Prelude.{FitsSigned, ◌⊎◌, int_le, ◌&&◌, cond}
 use Rattle.std.specs.Int.{w64}
 use Rattle.std.proofs.lemmas.Int.{wrapping_add-bits, int_wrap_fits, ints}
 use Rattle.std.proofs.lemmas.Nat.{mod_below, pow_pos}
-use Rattle.bpf_num.specs.Word.{M, exact, signed}
+use Rattle.bpf_insn.specs.Arithmetic.{numbers64 as M}
+use Rattle.bpf_num.specs.Word.{exact, signed}
 use Rattle.bpf_num.specs.Laws.WordLaws.{signed_is}
 use Rattle.bpf_insn.specs.declared.instruction.AluOp.TheVariants.{Add}
 use Rattle.bpf_num.specs.SignedInterval.{SignedInterval, IsSignedInterval, SignedWithin, signed_interval, signed_top, if_fits, signed_add, least, most}

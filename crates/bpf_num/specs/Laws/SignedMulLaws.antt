@@ -5,7 +5,8 @@ use Rattle.std.proofs.lemmas.Int.{ints, clamps, wrapping_mul-bits, int_wrap_fits
 use Rattle.std.proofs.lemmas.Nat.{mod_below, pow_pos}
 use Rattle.std.proofs.Math.IntN.{*ℤ_comm}
 use Rattle.bpf_insn.specs.declared.instruction.AluOp.TheVariants.{Mul}
-use Rattle.bpf_num.specs.Word.{M, exact, signed}
+use Rattle.bpf_insn.specs.Arithmetic.{numbers64 as M}
+use Rattle.bpf_num.specs.Word.{exact, signed}
 use Rattle.bpf_num.specs.Laws.IntegerLaws.{least_at_end, product_affine}
 use Rattle.bpf_num.specs.SignedInterval.{SignedInterval, IsSignedInterval, SignedWithin, signed_interval, signed_mul, least, most}
 use Rattle.bpf_num.specs.Laws.SignedLaws.{fits_64, if_fits_keeps}

@@ -6,7 +6,8 @@ use Rattle.std.proofs.lemmas.Bool.{cases_lt}
 use Rattle.std.proofs.lemmas.Nat.{mod_below, pow_pos, or_lt, xor_lt, and_le_l, trailing_le}
 use Rattle.std.proofs.lemmas.Nat.Bits.{bit_at-lt, bit_at-zero, bit_at_and, bit_at_or, bit_at_xor, bit_at_ones, bit_at_mask_inside, bit_at-trailing_zeros, same_from_bits_below}
 use Rattle.std.proofs.Math.Nat.{lt_of_le_of_lt}
-use Rattle.bpf_num.specs.Word.{M, exact, complement, low_zeros}
+use Rattle.bpf_insn.specs.Arithmetic.{numbers64 as M}
+use Rattle.bpf_num.specs.Word.{exact, complement, low_zeros}
 use Rattle.bpf_insn.specs.declared.instruction.AluOp.TheVariants.{And, Or, Xor, Mul}
 use Rattle.bpf_num.specs.Laws.WordLaws.{bit_at_low, bit_at_and_not, no_bit, low_bits_of_product, bit_at_truncated}
 use Rattle.bpf_num.specs.Tristate.{Tristate, IsTristate, HasBits, bits_top, greatest, bits_and, bits_or, bits_xor, bits_mul}

@@ -1,13 +1,13 @@
 -- Every operation on tristate numbers keeps members.
 use Rattle.std.proofs.Common.{◌≡◌, ℕ, ◌*◌, ◌<◌, ◌≤◌, refl, sym, subst, arith, Option, Some, None}
 use Rattle.std.specs.Prelude.{IfSome}
-use Rattle.bpf_insn.specs.Arithmetic.{swap_size}
+use Rattle.bpf_insn.specs.Arithmetic.{swap_size, numbers64 as M}
 use Rattle.bpf_insn.specs.declared.instruction.AluOp.{AluOp}
 use Rattle.bpf_insn.specs.declared.instruction.AluOp.TheVariants.{Add, Sub, Mul, Or, And, Xor, Lsh, Rsh, Arsh}
 use Rattle.bpf_insn.specs.declared.instruction.SignBits.{SignBits}
 use Rattle.bpf_insn.specs.declared.instruction.EndBits.{EndBits}
 use Rattle.bpf_insn.specs.declared.instruction.EndBits.TheVariants.{B16 as E16, B32 as E32, B64 as E64}
-use Rattle.bpf_num.specs.Word.{M, exact, truncated, sign_extended, reversed}
+use Rattle.bpf_num.specs.Word.{exact, truncated, sign_extended, reversed}
 use Rattle.bpf_num.specs.Laws.ExactLaws.{exact_fits}
 use Rattle.bpf_num.specs.Laws.TristateLaws.{bits_add_keeps}
 use Rattle.bpf_num.specs.Laws.TristateSubLaws.{bits_sub_keeps}

@@ -4,7 +4,8 @@ use Rattle.std.specs.Int.{bit_at, w64}
 use Rattle.std.specs.Int.Bits.{bit_and, bit_or, bit_xor, or_disjoint}
 use Rattle.std.proofs.lemmas.Nat.{mod_below, pow_pos, or_lt, xor_lt}
 use Rattle.std.proofs.lemmas.Nat.Bits.{bit_at-lt, bit_at_and, bit_at_or, bit_at_not, bit_at-zero}
-use Rattle.bpf_num.specs.Word.{M, exact, complement, word_add}
+use Rattle.bpf_insn.specs.Arithmetic.{numbers64 as M}
+use Rattle.bpf_num.specs.Word.{exact, complement, word_add}
 use Rattle.bpf_insn.specs.declared.instruction.AluOp.TheVariants.{Add}
 use Rattle.bpf_num.specs.Tristate.{Tristate, IsTristate, HasBits, forget, bits_add}
 use Rattle.bpf_num.specs.Laws.Carry.{Between, carry_known}

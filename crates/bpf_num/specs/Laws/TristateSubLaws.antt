@@ -5,7 +5,8 @@ use Rattle.std.specs.Int.Bits.{bit_or, bit_xor, or_disjoint}
 use Rattle.std.proofs.lemmas.Nat.{mod_below, pow_pos, or_lt, xor_lt}
 use Rattle.std.proofs.lemmas.Nat.Bits.{bit_at_or, bit_at_not}
 use Rattle.bpf_insn.specs.declared.instruction.AluOp.TheVariants.{Sub}
-use Rattle.bpf_num.specs.Word.{M, exact, complement, word_add, word_sub}
+use Rattle.bpf_insn.specs.Arithmetic.{numbers64 as M}
+use Rattle.bpf_num.specs.Word.{exact, complement, word_add, word_sub}
 use Rattle.bpf_num.specs.Tristate.{Tristate, IsTristate, HasBits, bits_sub}
 use Rattle.bpf_num.specs.Laws.Carry.{Between, carry_known}
 use Rattle.bpf_num.specs.Laws.TristateLaws.{member_between, known_ends, bit_at_forget}

@@ -9,8 +9,8 @@ use Rattle.std.proofs.lemmas.Nat.{shr_split, pow-add, shr-shr, pow_pos, mod_belo
 use Rattle.std.proofs.lemmas.Nat.Bits.{bit_at-lt, bit_at-zero, bit_at-suc, bit_at_lowest, bit_at_and, bit_at_xor, bit_at_not, bit_at_cat_low, bit_at_ones, same_from_bits, same_from_bits_below, ones_shr}
 use Rattle.std.proofs.Math.Pow.{shr_mono, pow_mono}
 use Rattle.std.proofs.Math.Nat.{div-eq_of_lt}
-use Rattle.bpf_insn.specs.Arithmetic.{modulo}
-use Rattle.bpf_num.specs.Word.{M, signed, complement, bit_length, word_sub}
+use Rattle.bpf_insn.specs.Arithmetic.{modulo, numbers64 as M}
+use Rattle.bpf_num.specs.Word.{signed, complement, bit_length, word_sub}
 
 -- ---- bits
 

@@ -1,7 +1,8 @@
 -- What parts of the code compute.
-use Rattle.std.specs.Prelude.{◌≡◌, ℕ, suc, ◌^◌, ◌≤◌, ◌<◌, nat_le, nat_lt, ℤ, pos, neg_ℤ, ◌-ℤ◌, int_lt, ◌≤ℤ◌, unsigned_abs, Bool, true, false, not, ◌&&◌, ◌||◌, Option, Some, None, option_map, option_and_then, if◌then◌else◌}
+use Rattle.std.specs.Prelude.{◌≡◌, ℕ, suc, ◌≤◌, ◌<◌, nat_le, nat_lt, ℤ, pos, neg_ℤ, ◌-ℤ◌, int_lt, ◌≤ℤ◌, unsigned_abs, Bool, true, false, not, ◌&&◌, ◌||◌, Option, Some, None, option_map, option_and_then, if◌then◌else◌}
 use Rattle.std.specs.Int.{int_min, int_max}
 use Rattle.std.specs.Option.{option_map_or}
+use Rattle.bpf_insn.specs.Arithmetic.{numbers64}
 use Rattle.bpf_insn.specs.Instruction.{byte_count}
 use Rattle.bpf_insn.specs.Limits.{frame_bytes}
 use Rattle.bpf_insn.specs.Effects.{is_frame_pointer}
@@ -28,9 +29,9 @@ use Rattle.bpf_state.specs.Access.{Span, span_end, is_slot, touches, touched_byt
 
 -- the bytes of an access at an offset from a pointer
 pub record IsSpan (p : Span) : Type 0 where
-  pub above : neg_ℤ (pos (2 ^ 64)) ≤ℤ p.lowest
+  pub above : neg_ℤ (pos numbers64) ≤ℤ p.lowest
   pub ordered : p.lowest ≤ℤ p.highest
-  pub below : p.highest ≤ℤ pos (2 ^ 64)
+  pub below : p.highest ≤ℤ pos numbers64
   pub some : 1 ≤ p.count
   pub few : p.count ≤ 8
 

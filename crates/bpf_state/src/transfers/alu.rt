@@ -1,6 +1,7 @@
 //! Arithmetic, moves and byte swaps.
 
-ghost use Rattle.std.specs.Prelude.{◌≡◌, ℕ, ◌^◌, pos, neg_ℤ, ◌≤ℤ◌, None, Some, Ok, IfSome, option_map, false};
+ghost use Rattle.std.specs.Prelude.{◌≡◌, ℕ, pos, neg_ℤ, ◌≤ℤ◌, None, Some, Ok, IfSome, option_map, false};
+ghost use Rattle.bpf_insn.specs.Arithmetic.{sign_bit64};
 ghost use Rattle.bpf_insn.specs.Effects.{is_frame_pointer};
 ghost use Rattle.bpf_insn.specs.declared.order.Order.{Order};
 ghost use Rattle.bpf_insn.specs.declared.instruction.Width.{Width};
@@ -45,8 +46,8 @@ fn constant_of(b: RegState) -> Option<i64>
 /// The constant that an operation adds to its destination.
 fn added(op: AluOp, b: RegState) -> Option<i128>
     ensures value { result ≡ added op b }
-    ensures low { IfSome result (λ c. neg_ℤ (pos (2 ^ 63)) ≤ℤ c) }
-    ensures high { IfSome result (λ c. c ≤ℤ pos (2 ^ 63)) }
+    ensures low { IfSome result (λ c. neg_ℤ (pos sign_bit64) ≤ℤ c) }
+    ensures high { IfSome result (λ c. c ≤ℤ pos sign_bit64) }
 {
     match op {
         AluOp::Add => match constant_of(b) {
@@ -63,8 +64,8 @@ fn added(op: AluOp, b: RegState) -> Option<i128>
 
 /// Whether the sum of each member and a constant is an unsigned number.
 fn never_wraps(n: Num, c: i128) -> bool
-    requires low { neg_ℤ (pos (2 ^ 63)) ≤ℤ c }
-    requires high { c ≤ℤ pos (2 ^ 63) }
+    requires low { neg_ℤ (pos sign_bit64) ≤ℤ c }
+    requires high { c ≤ℤ pos sign_bit64 }
     ensures { result ≡ never_wraps n c }
 {
     0 <= n.unsigned().lo() as i128 + c && n.unsigned().hi() as i128 + c <= u64::MAX as i128
@@ -72,8 +73,8 @@ fn never_wraps(n: Num, c: i128) -> bool
 
 /// The counter with a constant added, if its offset stays within bounds.
 fn shifted_tag(c: i128, tag: Tag) -> Option<Tag>
-    requires low { neg_ℤ (pos (2 ^ 63)) ≤ℤ c }
-    requires high { c ≤ℤ pos (2 ^ 63) }
+    requires low { neg_ℤ (pos sign_bit64) ≤ℤ c }
+    requires high { c ≤ℤ pos sign_bit64 }
     ensures { result ≡ shifted_tag c tag }
 {
     let offset = tag.offset as i128 + c;
@@ -89,8 +90,8 @@ fn shifted_tag(c: i128, tag: Tag) -> Option<Tag>
 
 /// The counter in a number after a constant is added to it.
 fn tag_after(a: RegState, c: Option<i128>, tag: Option<Tag>) -> Option<Tag>
-    requires low { IfSome c (λ c. neg_ℤ (pos (2 ^ 63)) ≤ℤ c) }
-    requires high { IfSome c (λ c. c ≤ℤ pos (2 ^ 63)) }
+    requires low { IfSome c (λ c. neg_ℤ (pos sign_bit64) ≤ℤ c) }
+    requires high { IfSome c (λ c. c ≤ℤ pos sign_bit64) }
     ensures { result ≡ tag_after a c tag }
 {
     match a {

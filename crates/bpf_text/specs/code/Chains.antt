@@ -1,5 +1,6 @@
 -- Labels chained by a hash of their names: from each label one goes on to one above it whose name comes to the same bucket.
 use Rattle.std.specs.Prelude.{ℕ, ◌+◌, ◌-◌, ◌*◌, ◌/◌, ◌%◌, ◌<◌, ◌≤◌, List, [], ◌∷◌, ◌++◌, None, ◌≡◌, length, take, get_or, is_some, true}
+use Rattle.bpf_insn.specs.Arithmetic.{numbers32}
 use Rattle.bpf_text.specs.declared.chains.ChainedLabel.{ChainedLabel}
 use Rattle.bpf_text.specs.declared.chains.Added.{Added}
 use Rattle.bpf_text.specs.declared.chains.Added.TheVariants.{Behind, Again, Crowded}
@@ -16,14 +17,14 @@ entry_link e = e.link
 -- a number below 2^32 for a name, behind the number of the characters before
 abbrev pub hash_after : ℕ → List ℕ → ℕ
 hash_after h [] = h
-hash_after h (c ∷ cs) = hash_after ((h + c) * 2654435761 % 4294967296) cs
+hash_after h (c ∷ cs) = hash_after ((h + c) * 2654435761 % numbers32) cs
 
 unfoldable pub hash_of : List ℕ → ℕ
 hash_of name = hash_after 0 name
 
 -- its bucket among so many
 unfoldable pub bucket_of : ℕ → List ℕ → ℕ
-bucket_of buckets name = hash_of name * buckets / 4294967296
+bucket_of buckets name = hash_of name * buckets / numbers32
 
 -- The chain of a bucket goes on, for the labels below n, with the one below this number, or ends with 0: it is one of the bucket,
 -- and from it up to n there is no other.
@@ -35,7 +36,7 @@ pub record ChainLeads (buckets : ℕ) (ls : List Label) (bucket n at : ℕ) : Ty
 -- what the chains of labels are: where each begins, and where it goes on from each label
 pub record IsChained (buckets : ℕ) (ls : List Label) (heads links : List ℕ) : Type 0 where
   pub some : 0 < buckets
-  pub few : buckets < 4294967296
+  pub few : buckets < numbers32
   pub counted : length heads ≡ buckets
   pub linked : length links ≡ length ls
   pub begins : (bucket d : ℕ) → bucket < buckets → ChainLeads buckets ls bucket (length ls) (get_or heads bucket d)

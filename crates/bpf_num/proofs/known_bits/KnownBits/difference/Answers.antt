@@ -1,5 +1,6 @@
 use Rattle.std.proofs.Common.{pos, ◌-ℤ◌, ◌<◌}
-use Rattle.bpf_num.specs.Word.{M, word_sub}
+use Rattle.bpf_insn.specs.Arithmetic.{numbers64 as M}
+use Rattle.bpf_num.specs.Word.{word_sub}
 use Rattle.bpf_num.specs.Laws.WordLaws.{modulo_fits}
 use Rattle.bpf_num.proofs.Parts.{wrapping_sub_is}
 use Rattle.bpf_num.proofs.known_bits.KnownBits.difference.Goals as goal
