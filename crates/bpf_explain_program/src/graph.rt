@@ -1,4 +1,5 @@
-//! The control-flow graph of a program, as DOT text.
+//! The control-flow graph of a program, as DOT text. It isn't the searches' (`Cfg` and `Blocks` of `bpf_infer_base`): it takes no memory,
+//! and draws also what they refuse, and what a certificate says.
 
 ghost use Rattle.std.specs.Prelude.{IfNone};
 ghost use Rattle.bpf_check.specs.CheckedProgram.{IsCertifiedBy};

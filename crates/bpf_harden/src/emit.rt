@@ -68,7 +68,7 @@ impl<'a> TextWriter<'a> {
     /// Puts what stands in front of an old instruction. At a label no pointer is known that was made.
     fn begin_slot(&mut self, slot: u32) -> Result<(), HardenError> {
         let blocks = &self.old.cfg.blocks;
-        if blocks.label(blocks.block_of(slot)) == slot {
+        if blocks.begins_at(slot) {
             self.made = None;
         }
         if let Some(counter) = self.rooms.counter(slot) {

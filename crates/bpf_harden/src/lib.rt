@@ -14,7 +14,6 @@ mod heads;
 mod inner;
 mod judge;
 mod kinds;
-mod live;
 mod mend;
 mod old;
 mod parts;

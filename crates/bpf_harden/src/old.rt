@@ -3,10 +3,10 @@
 ghost use Rattle.std.specs.Prelude.{◌≤◌};
 
 use crate::kinds::RegisterKind;
-use crate::live::Liveness;
 use crate::uses::FunctionUses;
 use bpf_infer_base::{
-    Cfg, Flow, HardenError, InferError, Meter, PlaceSet, Quest, Task, Watch, get_or,
+    Cfg, Flow, HardenError, InferError, Liveness, Meter, Needs, PlaceSet, Quest, Task, Watch,
+    get_or,
 };
 use bpf_infer_states::{Survey, surveyed};
 use bpf_insn::{Access, AluOp, Insn, Operand, Program, Reg, Width};
@@ -19,6 +19,7 @@ pub struct Old<'a> {
     pub program: &'a Program,
     pub cfg: Cfg,
     pub survey: Survey,
+    /// Of registers.
     pub live: Liveness,
     /// By the functions' numbers.
     pub uses: Vec<FunctionUses>,
@@ -59,12 +60,14 @@ impl<'a> Old<'a> {
         requires { quest.least ≤ quest.most }
     {
         let cfg = Cfg::of(alloc, quest.program).map_err(refusal)?;
-        let survey = surveyed(Task::whole(alloc, quest, &cfg), meter).map_err(refusal)?;
+        let task = Task::whole(alloc, quest, &cfg);
+        let survey = surveyed(task, meter).map_err(refusal)?;
+        let live = Liveness::of(task, &Needs::of_registers(alloc, quest.program)?)?;
         let mut old = Old {
             program: quest.program,
             cfg,
             survey,
-            live: Liveness::of(alloc, quest.program)?,
+            live,
             uses: Vec::new(alloc),
         };
         old.note_uses()?;

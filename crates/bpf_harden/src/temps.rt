@@ -1,5 +1,5 @@
-//! Registers that are taken for a while: one that holds nothing more that is read, by liveness (`live.rt`), or one that
-//! is saved to the frame meanwhile.
+//! Registers that are taken for a while: one that holds nothing more that is read, by liveness, or one that is saved to the
+//! frame meanwhile.
 
 use crate::kinds::RegisterKind;
 use crate::parts::{fetch, keep};

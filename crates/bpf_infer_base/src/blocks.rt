@@ -100,6 +100,11 @@ impl Blocks {
     pub fn block_of(&self, slot: u32) -> usize {
         get_or(&self.numbers, self.index(slot), 0)
     }
+
+    /// Whether a block begins at a slot.
+    pub fn begins_at(&self, slot: u32) -> bool {
+        self.label(self.block_of(slot)) == slot
+    }
 }
 
 // ---- where blocks lead

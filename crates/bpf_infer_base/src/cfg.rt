@@ -1,4 +1,5 @@
-//! The functions of a program with the depths of their calls, and its basic blocks.
+//! The functions of a program with the depths of their calls, and its basic blocks, as the searches and hardening take them. Explanations
+//! draw a graph of their own, without memory and of any program (`bpf_explain_program/src/graph.rt`).
 
 use crate::blocks::Blocks;
 use crate::error::InferError;

@@ -4,7 +4,7 @@
 
 mod dead;
 mod judge;
-mod liveness;
+mod needed;
 mod nest;
 mod repair;
 mod settle;

@@ -3,11 +3,11 @@
 ghost use Rattle.std.specs.Prelude.{◌≤◌};
 
 use crate::judge::lower;
-use crate::liveness::{keep_live, least_number, places_read};
+use crate::needed::{NeedsInStates, keep_live, least_number};
 use crate::states::Analysis;
 use bpf_cert::{Function, Label};
 use bpf_infer_base::{
-    InferError, Meter, PlaceSet, SearchStop, SlotFailure, Task, Watch, get_or, held, labels_of, put,
+    InferError, Liveness, Meter, Needs, SearchStop, SlotFailure, Task, Watch, held, labels_of,
 };
 use bpf_num::Num;
 use std::alloc::AllocError;
@@ -32,26 +32,19 @@ impl<'a> Analysis<'a> {
         lowest
     }
 
-    /// What a function reads of what it begins with; its labels' states say no more than is read. Its callees come before it.
-    fn keep_live(&mut self, function: usize, read: &[PlaceSet]) -> Result<PlaceSet, AllocError> {
-        let Some(judged) = held(&self.judged, function) else {
-            return Ok(PlaceSet::ALL);
-        };
-        let (alloc, task) = (self.whole.alloc, self.task(&judged.blocks));
-        let live = places_read(task, &judged.states, read)?;
-        if let Some(Some(judged)) = self.judged.get_mut(function) {
-            keep_live(alloc, &mut judged.states, &live)?;
-        }
-        Ok(get_or(&live, 0, PlaceSet::ALL))
-    }
-
     /// Makes all labels' states say no more than is read.
     pub(super) fn keep_all_live(&mut self) -> Result<(), AllocError> {
-        let mut read = vec![in self.whole.alloc; PlaceSet::ALL; self.judged.len()]?;
-        let cfg = self.whole.cfg;
-        for function in &cfg.callees_first {
-            let places = self.keep_live(*function, &read)?;
-            put(&mut read, *function, places);
+        let (alloc, program) = (self.whole.alloc, self.whole.program);
+        let mut needs = NeedsInStates {
+            list: Needs::of_registers(alloc, program)?,
+        };
+        for judged in self.judged.iter().flatten() {
+            self.task(&judged.blocks)
+                .walk_all(&judged.states, &mut needs)?;
+        }
+        let live = Liveness::of(self.whole, &needs.list)?;
+        for judged in self.judged.iter_mut().flatten() {
+            keep_live(alloc, &judged.blocks, &mut judged.states, &live)?;
         }
         Ok(())
     }
