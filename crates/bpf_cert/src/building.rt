@@ -3,7 +3,7 @@
 ghost use Rattle.std.specs.Prelude.{◌≡◌, ◌≤◌, ◌∷◌, [], List, length, get_or, true, false, IfOk, Ok};
 ghost use Rattle.bpf_cert.specs.Line.{Line};
 ghost use Rattle.bpf_cert.specs.code.Standing.{IsValue, IsEntry, value_line, IsRuled};
-ghost use Rattle.bpf_cert.specs.code.Building.{IsBuilt, IsRegisterContent, ClosesLabel, Closes, Puts, index_of, fault_at, Takes, AreLinesOf};
+ghost use Rattle.bpf_cert.specs.code.Building.{IsBuilt, IsRegisterContent, ClosesLabel, Closes, Puts, index_of, fault_at, Pushes, Takes, AreLinesOf};
 ghost use Rattle.bpf_cert.specs.Spelling.{contents};
 ghost use Rattle.bpf_state.specs.declared.known.SlotState.TheVariants.{Bytes};
 ghost use Rattle.bpf_cert.specs.Faults.{is_ended};
@@ -153,7 +153,7 @@ impl Builder {
     fn push(&mut self, value: LineValue) -> Result<(), AllocError>
         requires value { IsValue value }
         requires built { (lines : List Line) × IsBuilt lines self.old × IsRuled lines (value_line value) }
-        ensures { (lines : List Line) → IsBuilt lines self.old → is_ended lines ≡ false → IsRuled lines (value_line value) → IfOk result (λ u. IsBuilt (value_line value ∷ lines) self.new) }
+        ensures { Pushes (value_line value) self.old self.new result }
     {
         let standing = self.standing.after(&value);
         match value {

@@ -21,7 +21,7 @@ pub mod RefusalNumbers
 pub mod Written
 -- what is read from a reader
 pub mod Reading
--- laws above these definitions
-pub mod Laws
 -- what mirrors code
 pub mod code
+-- laws above these definitions
+pub mod Laws

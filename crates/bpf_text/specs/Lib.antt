@@ -23,9 +23,9 @@ pub mod Listing
 pub mod Annotated
 -- the numbers of refusals, and the lines that they name
 pub mod RefusalNumbers
--- laws above these definitions
-pub mod Laws
 -- the parts by the word in front
 pub mod Lookup
 -- what mirrors code
 pub mod code
+-- laws above these definitions
+pub mod Laws

@@ -120,6 +120,10 @@ Takes n lines text new (Err errors.Memory) = Unit {0}
 Takes n lines text new (Err (errors.Read k)) = ⊥
 Takes n lines text new (Err e) = judged n lines text ≡ Err e
 
+-- what a builder makes of a line that the rules allow
+abbrev pub Pushes : Line → Builder → Builder → Result (Unit {0}) AllocError → Type 0
+Pushes line old new result = (lines : List Line) → IsBuilt lines old → is_ended lines ≡ false → IsRuled lines line → IfOk result (λ u. IsBuilt (line ∷ lines) new)
+
 -- the lines, with the last one first, are the certificate's
 pub record AreLinesOf (lines : List Line) (c : CertificateView) : Type 0 where
   pub valid : IsCertificate c
