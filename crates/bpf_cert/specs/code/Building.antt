@@ -1,8 +1,9 @@
 -- A certificate in the making, and the lines that it was made of.
-use Rattle.std.specs.Prelude.{◌≡◌, ℕ, ◌+◌, true, List, length, [], ◌∷◌, ◌++◌, reverse, flat_map, drop, Option, Some, None, slice_set, Result, Ok, Err}
+use Rattle.std.specs.Prelude.{◌≡◌, ℕ, ◌+◌, true, List, length, [], ◌∷◌, ◌++◌, reverse, flat_map, drop, Option, Some, None, slice_set, Result, Ok, Err, IfOk}
 use Rattle.std.specs.List.{list_all}
+use Rattle.std.specs.declared.alloc.AllocError.{AllocError}
 use Rattle.bpf_cert.specs.Line.{Line, line_text}
-use Rattle.bpf_cert.specs.Faults.{judged}
+use Rattle.bpf_cert.specs.Faults.{judged, is_ended}
 use Rattle.bpf_cert.specs.Limits.{IsCertificate}
 use Rattle.bpf_cert.specs.declared.finding.PartFault.{PartFault}
 use Rattle.bpf_cert.specs.declared.finding.PartFault.TheVariants as flaws
@@ -10,7 +11,7 @@ use Rattle.bpf_cert.specs.declared.error.CertError.{CertError}
 use Rattle.bpf_cert.specs.declared.error.CertError.TheVariants as errors
 use Rattle.bpf_cert.specs.View.{CertificateView, label_view, function_view}
 use Rattle.bpf_cert.specs.Spelling.{is_unknown, contents, header_line, function_lines, label_lines, certificate_lines}
-use Rattle.bpf_cert.specs.code.Standing.{Stands}
+use Rattle.bpf_cert.specs.code.Standing.{Stands, IsRuled}
 use Rattle.bpf_cert.specs.code.Sound.{IsLabelState, IsSound, closed, function_at, functions_at}
 use Rattle.bpf_insn.specs.Instruction.{register_number}
 use Rattle.bpf_state.specs.State.{AbstractState, IsSlot}
