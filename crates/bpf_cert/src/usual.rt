@@ -1,7 +1,8 @@
 //! What most certificates say of a number or a register, read in one pass. A text that is spelled otherwise is left to others.
 
-ghost use Rattle.std.specs.Prelude.{◌≡◌, List, ℕ, ◌++◌, ◌≤◌, ◌<◌, ◌^◌, take, length, true, pos, IfSome, decimal};
+ghost use Rattle.std.specs.Prelude.{◌≡◌, List, ℕ, ◌++◌, ◌≤◌, ◌<◌, take, length, true, pos, IfSome, decimal};
 ghost use Rattle.std.specs.List.{list_all};
+ghost use Rattle.bpf_insn.specs.Arithmetic.{numbers64, sign_bit64};
 ghost use Rattle.bpf_num.specs.Interval.{interval};
 ghost use Rattle.bpf_num.specs.SignedInterval.{signed_interval};
 ghost use Rattle.bpf_num.specs.Tristate.{tristate, IsTristate};
@@ -42,7 +43,7 @@ fn digits_in_front(text: &[u8]) -> Option<(u64, usize)>
 
 /// A word of 64 bits is below 2^64.
 fn is_word(number: u64)
-    ensures { number < 2 ^ 64 }
+    ensures { number < numbers64 }
 {}
 
 /// The number that is plainly written in front of a text, and what stands behind it.
@@ -80,7 +81,7 @@ fn is_whole(lo: u64, hi: u64) -> bool
 
 /// The same number, read as two's complement.
 fn half(number: u64) -> i64
-    requires { number < 2 ^ 63 }
+    requires { number < sign_bit64 }
     ensures { result ≡ pos number }
 {
     number as i64
@@ -105,7 +106,7 @@ fn unsigned(text: &[u8]) -> Option<(u64, u64, &[u8])>
 fn signed(text: &[u8]) -> Option<(u64, u64, &[u8])>
     ensures begins { IfSome result (λ x. Begins text.now (signed_parts (signed_interval (pos x.0) (pos x.1))) x.2.now) }
     ensures order { IfSome result (λ x. x.0 ≤ x.1) }
-    ensures small { IfSome result (λ x. x.1 < 2 ^ 63) }
+    ensures small { IfSome result (λ x. x.1 < sign_bit64) }
 {
     let range = behind(text, b"s")?;
     let (lo, hi, rest) = two_in_front(range, b"..")?;

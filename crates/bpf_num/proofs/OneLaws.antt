@@ -7,7 +7,8 @@ use Rattle.std.specs.Int.Bits.{or_zero_r, or_self, xor_self}
 use Rattle.std.proofs.lemmas.Int.{ints, clamps, of_z-to_z}
 use Rattle.std.proofs.lemmas.Bool.Decides.{nat_tests}
 use Rattle.std.proofs.lemmas.Nat.{and_mask}
-use Rattle.bpf_num.specs.Word.{M, signed, unsigned, complement, bit_length}
+use Rattle.bpf_insn.specs.Arithmetic.{numbers64}
+use Rattle.bpf_num.specs.Word.{signed, unsigned, complement, bit_length}
 use Rattle.bpf_num.specs.Tristate.{tristate}
 use Rattle.bpf_num.specs.Interval.{interval, unsigned_meet}
 use Rattle.bpf_num.specs.SignedInterval.{signed_interval, signed_meet}
@@ -40,7 +41,7 @@ beq_self : (b : Bool) → beq b b ≡ true
 beq_self true = refl
 beq_self false = refl
 
-by_signed : (x : ℕ) → x < M → unsigned_from_signed (constant x) ≡ Some (constant x)
+by_signed : (x : ℕ) → x < numbers64 → unsigned_from_signed (constant x) ≡ Some (constant x)
 by_signed x fits =
     let back : unsigned (signed x) ≡ x = of_z-to_z w64 x fits in
     ap (λ b. cond b (option_map (λ u. record (constant x) { unsigned = u }) (unsigned_meet (interval x x) (interval (unsigned (signed x)) (unsigned (signed x))))) (Some (constant x))) (beq_self (is_negative (signed x)))
@@ -53,13 +54,13 @@ bits_by x d =
     cond (nat_eq (bit_and (bit_and d (complement 0)) (complement (2 ^ bit_length d - 1))) 0)
     (Some (record (constant x) { bits = tristate (bit_or x (bit_and x (complement (2 ^ bit_length d - 1)))) (bit_and 0 (2 ^ bit_length d - 1)) })) None
 
-by_ends : (x : ℕ) → x < M → bits_from_unsigned (constant x) ≡ Some (constant x)
+by_ends : (x : ℕ) → x < numbers64 → bits_from_unsigned (constant x) ≡ Some (constant x)
 unfolding lib.Count.count_leading_zeros
 by_ends x fits =
     let whole : bit_and x (2 ^ 64 - 1) ≡ x = and_mask x 64 ∙ omega arith in
     ap (bits_by x) (xor_self x) ∙ ap (λ v. Some (record (constant x) { bits = tristate v 0 })) (ap (bit_or x) whole ∙ or_self x)
 
-pub tighten_one : (x : ℕ) → x < M → tighten (constant x) ≡ Some (constant x)
+pub tighten_one : (x : ℕ) → x < numbers64 → tighten (constant x) ≡ Some (constant x)
 tighten_one x fits =
     ap (λ o. option_and_then signed_from_unsigned (option_and_then unsigned_from_bits (option_and_then bits_from_unsigned (option_and_then unsigned_from_signed (option_and_then signed_from_unsigned o))))) (by_bits x)
     ∙ ap (λ o. option_and_then signed_from_unsigned (option_and_then unsigned_from_bits (option_and_then bits_from_unsigned (option_and_then unsigned_from_signed o)))) (by_unsigned x)
