@@ -1,9 +1,9 @@
 #!/usr/bin/env python3
 """Whether docs/README.md shows the crates as crates.txt has them. Its list names each crate once, with the crates that it uses, but for
 those that one of these uses already. Its picture is what `tests/crates.py --picture` prints: a box for each part of the list, and an
-arrow where a crate of one box uses a crate of another. No two boxes use one another. And whether each type's name stands in one crate alone, but for those that
-tests/types.txt lists, in as many crates as it says; and whether clauses of contracts are short enough to be read
-at once, but for those that are known."""
+arrow where a crate of one box uses a crate of another. No two boxes use one another. And whether each type's name
+stands in one crate alone, but for those that tests/types.txt lists, in as many crates as it says; and whether clauses
+of contracts are short enough to be read at once."""
 import collections
 import pathlib
 import re
@@ -11,8 +11,6 @@ import sys
 
 # The most characters of a clause, each blank space counted once. A part of what is longer gets a name in specs/.
 LONGEST = 160
-# The crates in which a clause may be longer, each with how many.
-LONGER = {"bpf_cert": 1}
 ROOT = pathlib.Path(__file__).resolve().parent.parent
 
 
@@ -122,14 +120,12 @@ def clauses(text):
 
 
 def clause_faults():
-    """Which clauses are too long, where a crate has another number of them than LONGER says."""
-    found = collections.defaultdict(list)
+    """Which clauses are too long."""
     for path in sorted(ROOT.glob("crates/*/src/**/*.rt")):
         text, name = path.read_text(), path.relative_to(ROOT)
-        found[name.parts[1]] += [f"{name}:{text.count(chr(10), 0, at) + 1}: a clause of {len(clause)} characters, more than {LONGEST}"
-                                 for at, clause in clauses(text) if len(clause) > LONGEST]
-    return [fault for crate, faults in found.items() if len(faults) != LONGER.get(crate, 0)
-            for fault in faults or [f"{crate} has no clause of more than {LONGEST} characters any more: take it out of LONGER"]]
+        for at, clause in clauses(text):
+            if len(clause) > LONGEST:
+                yield f"{name}:{text.count(chr(10), 0, at) + 1}: a clause of {len(clause)} characters, more than {LONGEST}"
 
 
 def main():
@@ -149,7 +145,7 @@ def main():
     if f"```mermaid\n{picture(uses)}\n```" not in page():
         faults.append("the picture in docs/README.md isn't what tests/crates.py --picture prints")
     faults += circles(uses)
-    faults += type_faults() + clause_faults()
+    faults += [*type_faults(), *clause_faults()]
     shared = f"{len(types())} names of types stand in several crates"
     print("\n".join(faults) or f"the list of crates in docs/README.md is that of crates.txt: {len(listed)} crates; {shared}")
     return bool(faults)
