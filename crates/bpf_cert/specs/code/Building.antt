@@ -1,5 +1,5 @@
 -- A certificate in the making, and the lines that it was made of.
-use Rattle.std.specs.Prelude.{◌≡◌, ℕ, ◌+◌, true, List, length, [], ◌∷◌, ◌++◌, reverse, flat_map, drop, Option, Some, None, slice_set, Result, Ok, Err, IfOk}
+use Rattle.std.specs.Prelude.{◌≡◌, ℕ, ◌+◌, true, false, List, length, [], ◌∷◌, ◌++◌, reverse, flat_map, drop, Option, Some, None, slice_set, Result, Ok, Err, IfOk}
 use Rattle.std.specs.List.{list_all}
 use Rattle.std.specs.declared.alloc.AllocError.{AllocError}
 use Rattle.bpf_cert.specs.Line.{Line, line_text}
