@@ -31,7 +31,7 @@ fn function_note(old: &Old, rooms: &Rooms, draft: &Draft, function: usize) -> Op
     Some(FunctionNote {
         old: uses.first,
         new,
-        depth: room.reach,
+        reach: room.reach,
         base: room.base,
         end: room.end,
         handed: if function > 0 { room.handed } else { None },

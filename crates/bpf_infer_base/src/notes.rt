@@ -58,7 +58,7 @@ pub struct FunctionNote {
     pub old: u32,
     pub new: u32,
     /// How many bytes of its frame registers other than r10 may reach.
-    pub depth: u32,
+    pub reach: u32,
     /// Where the pointer to the context's start is kept.
     pub base: Option<Place>,
     /// Where the end of a block's packet is kept, as an offset.

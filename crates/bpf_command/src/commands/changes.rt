@@ -40,11 +40,11 @@ fn write_kept(text: &mut String, word: &str, place: Option<Place>) -> Result<(),
     }
 }
 
-/// A line such as `fn 0 0 depth 16 base r9`. It tells where a function begins in the old program and in the new one, and how many bytes of its frame it may
+/// A line such as `fn 0 0 reach 16 base r9`. It tells where a function begins in the old program and in the new one, and how many bytes of its frame it may
 /// reach. It tells where the function keeps the context's start and a packet's end, what it is handed, and what its trap answers its caller.
 fn write_function(text: &mut String, note: &FunctionNote) -> Result<(), AllocError> {
-    let (old, new, depth) = (note.old, note.new, note.depth);
-    write!(text, "fn {old} {new} depth {depth}")?;
+    let (old, new, reach) = (note.old, note.new, note.reach);
+    write!(text, "fn {old} {new} reach {reach}")?;
     write_kept(text, "base", note.base)?;
     write_kept(text, "end", note.end)?;
     let handed: Option<Reg> = note.handed;
