@@ -309,7 +309,7 @@ def modules_of(folder):
 
 def function_at(folder, file, text, at):
     """The path of the function whose body has this place, by the layout of `rt fmt`: what begins an item and its closing brace stand
-    in one column, and so does the brace that opens the body of a function with a contract."""
+    in one column, and so does the brace that opens the body of a function with a contract, or both braces of an empty one."""
     lines, number = text.split("\n"), text.count("\n", 0, at)
     module, modules = module_of(file), modules_of(folder)
     names, is_in_body = [], False
@@ -318,7 +318,7 @@ def function_at(folder, file, text, at):
         if not item or line.endswith(";"):
             continue
         column = item["column"]
-        last = next((i for i in range(first, len(lines)) if lines[i] == column + "}"), first)
+        last = next((i for i in range(first, len(lines)) if lines[i] in (column + "}", column + "{}")), first)
         if last < number:
             continue
         opened = next(i for i in range(first, last + 1) if re.match(column + r"(\S.*)?\{$", lines[i]))
