@@ -29,7 +29,7 @@ impl Hardened {
     {
         let mut deepest = 0;
         for function in &self.functions {
-            deepest = function.depth.max(deepest);
+            deepest = function.reach.max(deepest);
         }
         (FRAME_BYTES as u32).saturating_sub(deepest)
     }
