@@ -2,7 +2,7 @@
 # jumps.sh BPF: that the loops of the flat runner have a jump of their own behind each common instruction. `bpf_flat` is written so that LLVM copies the
 # jump of its match into the arms of the twelve commonest opcodes. No contract says that it does, and with one jump for all a run takes up to twice as
 # long. One loop runs the outermost function, and one goes on from the first call, each over a little-endian image beside its
-# opcodes. Those of a big-endian one call the step, and aren't counted.
+# opcodes. Those of a big-endian one, which the library alone runs, call the step, and aren't counted.
 set -euo pipefail
 bpf=$1
 wanted=16
