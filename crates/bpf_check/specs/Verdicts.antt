@@ -1,6 +1,5 @@
 -- What is answered of an image and a certificate's text.
 use Rattle.std.specs.Prelude.{◌≡◌, ◌≤◌, ℕ, List}
-use Rattle.bpf_insn.specs.Instruction.{Instructions}
 use Rattle.bpf_insn.specs.Limits.{max_context}
 use Rattle.bpf_insn.specs.Laws.{IsImageOfProgram}
 use Rattle.bpf_insn.specs.Refusal.{IsRefused}
@@ -11,14 +10,12 @@ use Rattle.bpf_cert.specs.Certificates.{Spells}
 use Rattle.bpf_cert.specs.ReadAnswers.{IsFaultOf, IsFromOutside}
 use Rattle.bpf_safety.specs.Certified.{Certified, IsLeastFlaw}
 use Rattle.bpf_safety.specs.Theorems.{IsSafe, IsFlatSafe}
+pub use Rattle.bpf_flat.specs.code.Ordered.{program_in}
 use Rattle.bpf_check.specs.RefusalNumbers.{refusal_slot, refusal_number}
 use Rattle.bpf_check.specs.declared.refusal.Refusal.{Refusal}
 use Rattle.bpf_check.specs.declared.verifier.Verdict.{Verdict}
 use Rattle.bpf_check.specs.declared.verifier.VerifyError.{VerifyError}
 use Rattle.bpf_check.specs.declared.verifier.VerifyError.TheVariants.{Image as InImage, Cert as InCert, Check as InCheck}
-
-abbrev pub program_in : Order → List Insn → Instructions
-program_in order is = record { order = order; list = is }
 
 -- The promise of a yes: the image is in its order that of exactly one program, the range isn't empty, and on every context of a length
 -- in it the machine is never stuck, and ends within the bound with a number; so do all runs of the flat machine.

@@ -1,8 +1,6 @@
 -- What the numbers that C sees tell.
-use Rattle.std.specs.Prelude.{◌≡◌, ◌⊎◌, ℕ, ℤ, zero, suc, Bool, if◌then◌else◌}
+use Rattle.std.specs.Prelude.{◌≡◌, ◌⊎◌, ℕ, ℤ, Bool, if◌then◌else◌}
 use Rattle.bpf_insn.specs.RefusalNumbers.{decode_number, decode_slot}
-use Rattle.bpf_insn.specs.declared.order.Order.{Order}
-use Rattle.bpf_insn.specs.declared.order.Order.TheVariants.{Little, Big}
 use Rattle.bpf_insn.specs.declared.refusal.DecodeError.{DecodeError}
 use Rattle.bpf_semantics.specs.ReasonNumbers.{reason_number}
 use Rattle.bpf_cert.specs.View.{CertificateView}
@@ -13,6 +11,8 @@ use Rattle.bpf_check.specs.declared.verifier.VerifyError.{VerifyError}
 use Rattle.bpf_check.specs.declared.verifier.VerifyError.TheVariants.{Image as InImage, Cert as InCert, Check as InCheck}
 use Rattle.bpf_machine.specs.declared.outcome.Outcome.{Outcome}
 use Rattle.bpf_machine.specs.declared.outcome.Outcome.TheVariants.{Done, Fault, OutOfFuel}
+-- 0 is little-endian and 1 big-endian; a call refuses any other number
+pub use Rattle.bpf_flat.specs.code.Ordered.{order_named}
 use Rattle.bpf_refusals.specs.Letters.{code_of}
 use Rattle.bpf_refusals.specs.Told.{at_number, named, told_image, told_certificate, told_check}
 use Rattle.bpf_refusals.specs.declared.told.Told.{Told}
@@ -20,11 +20,6 @@ use Rattle.bpf_host_calls.specs.declared.answers.TheConstants.{NO_MEMORY}
 use Rattle.bpf_host_calls.specs.declared.answers.BpfVerdict.{BpfVerdict}
 use Rattle.bpf_host_calls.specs.declared.answers.BpfRefusal.{BpfRefusal}
 use Rattle.bpf_host_calls.specs.declared.answers.BpfOutcome.{BpfOutcome}
-
--- 0 is little-endian and 1 big-endian; a call refuses any other number
-abbrev pub order_named : ℕ → Order
-order_named zero = Little
-order_named (suc n) = Big
 
 -- 1 for yes
 abbrev pub number_of : Bool → ℕ

@@ -8,7 +8,7 @@ ghost use Rattle.bpf_check.specs.Verdicts.{program_in};
 ghost use Rattle.bpf_machine.specs.Answers.{IsRun};
 ghost use Rattle.bpf_host_calls.specs.Answers.{HoldsProgram, IsRunOfPrepared};
 ghost use Rattle.bpf_host_calls.specs.Prepared.{IsMarked, IsWhole, prepared_head};
-ghost use Rattle.bpf_flat.specs.code.Ordered.{order_numbered};
+ghost use Rattle.bpf_flat.specs.code.Ordered.{order_named};
 
 use crate::prepared::found_in;
 use bpf_flat::Imaged;
@@ -17,9 +17,9 @@ use bpf_machine::{Outcome, run};
 
 /// How the program of an image in the byte order of a number ends on a context.
 fn outcome_in<const ORDER: u32>(image: &[u8], context: &[u8], fuel: u64) -> Outcome
-    requires image { (is : List Instruction) × IsImageOfProgram (order_numbered ORDER) image.now is }
+    requires image { (is : List Instruction) × IsImageOfProgram (order_named ORDER) image.now is }
     requires short { length context.now ≤ max_context }
-    ensures { (is : List Instruction) → IsImageOfProgram (order_numbered ORDER) image.now is → IsRun (program_in (order_numbered ORDER) is) context.now fuel result }
+    ensures { (is : List Instruction) → IsImageOfProgram (order_named ORDER) image.now is → IsRun (program_in (order_named ORDER) is) context.now fuel result }
 {
     let program: Imaged<'_, ORDER> = Imaged::of(image);
     run(&program, context, fuel)
