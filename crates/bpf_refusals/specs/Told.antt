@@ -156,7 +156,7 @@ hardening_condition error = None
 abbrev pub told_hardening : HardenError → Told
 told_hardening e = record { letter = letters.Hardening; number = harden_number e; at = hardening_at e; condition = hardening_condition e }
 
--- H13: the slot of the old program at which notes fail, and the number of what fails, from 1 to 9
+-- H13: the slot of the old program at which notes fail, and the number of what fails, from 1 to 10
 abbrev pub told_not_shown : Mismatch → Told
 told_not_shown m = record { letter = letters.Hardening; number = NOT_SHOWN; at = Slot (mismatch_slot m); condition = Some (mismatch_number m) }
 
