@@ -1,6 +1,6 @@
 -- What fails first.
 use Rattle.std.proofs.Common.{◌≡◌, ℕ, ◌<◌, ◌^◌, sym, subst}
-use Rattle.std.specs.Prelude.{Result, Ok, Err, IfErr, IsOk}
+use Rattle.std.specs.Prelude.{Result, IfErr, IsOk}
 use Rattle.std.specs.Result.{IsErrAnd}
 use Rattle.std.proofs.lemmas.Bool.{false≢true}
 use Rattle.std.proofs.lemmas.Result.{err_from_is_err_and}

@@ -1,9 +1,8 @@
 use Rattle.std.proofs.Common.{◌<◌, ◌^◌, ℕ, refl, sym, subst, ◌∙◌, inr, rules}
-use Rattle.std.specs.Prelude.{◌↔◌, IsTrue}
 use Rattle.std.proofs.lemmas.Bool.{false≢true}
 use Rattle.bpf_insn.specs.Instruction.{Instructions}
 use Rattle.bpf_cert.specs.View.{CertificateView}
-use Rattle.bpf_kept.specs.Matching.{HoldsAt, Matches, MayEnd}
+use Rattle.bpf_kept.specs.Matching.{HoldsAt, MayEnd}
 use Rattle.bpf_kept.specs.Meaning.{with_turns}
 use Rattle.bpf_kept.specs.States.{states_of}
 use Rattle.bpf_kept.specs.Mismatches.{IsAt, IsLowest, IsFor, MatchesBeside, IsMismatch}
