@@ -1,4 +1,4 @@
-use Rattle.std.proofs.Common.{sym, ap, ◌∙◌, ◌∷◌, []}
+use Rattle.std.proofs.Common.{sym, ap, ◌∙◌, ◌∷◌}
 use Rattle.std.specs.Prelude.{codes, decimal}
 use Rattle.bpf_streams.proofs.WordLemmas.{behind_is}
 use Rattle.bpf_cert.proofs.UsualLemmas.{heading, none_left}

@@ -1,4 +1,4 @@
-use Rattle.std.proofs.Common.{leb, arith}
+use Rattle.std.proofs.Common.{leb}
 use Rattle.std.proofs.lemmas.Bool.{leb-true}
 use Rattle.bpf_cert.proofs.Bools.{both_true}
 use Rattle.bpf_cert.proofs.UsualHeads.{function_ruled}
