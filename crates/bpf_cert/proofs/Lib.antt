@@ -19,6 +19,7 @@ pub mod TermLemmas
 pub mod StandingLemmas
 pub mod JudgeLemmas
 pub mod UsualEntries
+pub mod UsualHeads
 pub mod AfterLemmas
 pub mod fine
 pub mod BuildingLemmas

@@ -84,3 +84,8 @@ number_form n limited = (number_short n limited).form
 -- a line of a register
 pub entry_text : (text rest said : List ℕ) (n : ℕ) (c : Content) → text ≡ place_text (PlaceText.register (decimal n)) ++ rest → rest ≡ codes " " ++ said → said ≡ content_text c → text ≡ line_text (Line.entry (PlaceText.register (decimal n)) c)
 entry_text text rest said n c e f g = e ∙ ap (λ z. place_text (PlaceText.register (decimal n)) ++ z) (f ∙ ap (λ z. 32 ∷ z) g)
+
+-- a line that begins with a word and two numbers
+pub heading : (text numbers rest end word first second : List ℕ) → text ≡ word ++ numbers → numbers ≡ first ++ codes " " ++ second ++ rest → rest ≡ end → text ≡ word ++ (first ++ 32 ∷ (second ++ end))
+heading text numbers rest end word first second e f g =
+    e ∙ ap (λ z. word ++ z) (f ∙ append_assoc (first ++ codes " ") second rest ∙ append_assoc first (codes " ") (second ++ rest) ∙ ap (λ z. first ++ 32 ∷ (second ++ z)) g)

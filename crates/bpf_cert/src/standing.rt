@@ -23,7 +23,7 @@ use crate::limits::{LAST_SLOT, MAX_BASE, MAX_DEPTH, MAX_FUNCTIONS, MAX_LABELS, p
 use crate::num::{are_plain, number_in};
 use crate::place::{PlaceForm, is_limited_place, is_plain_place, place, place_value};
 use crate::term::all_terms;
-use crate::usual::usual_entry;
+use crate::usual::{usual_entry, usual_function, usual_header, usual_label};
 use arrayvec::ArrayVec;
 use bpf_insn::Reg;
 use bpf_num::Num;
@@ -329,12 +329,76 @@ impl Standing {
         }
     }
 
+    /// What a line says behind the lines so far, if it is a usual label and in order.
+    #[inline(always)]
+    fn label_in_order(self, text: &[u8]) -> Option<LineValue>
+        ensures value { IfSome result (λ v. (before : List Line) → Stands before self → Ok (value_line v) ≡ ruled before (line_in text.now)) }
+        ensures kept { IfSome result IsValue }
+    {
+        let (slot, base) = usual_label(text)?;
+        if !self.may_have_label() || self.labels >= MAX_LABELS as u32 {
+            return None;
+        }
+        if !rises(self.slot, slot as u128) {
+            return None;
+        }
+        Some(LineValue::Label {
+            slot,
+            base,
+            terms: ArrayVec::new(),
+        })
+    }
+
+    /// What a line says behind the lines so far, if it is a usual function and in order.
+    #[inline(always)]
+    fn function_in_order(self, text: &[u8]) -> Option<LineValue>
+        ensures value { IfSome result (λ v. (before : List Line) → Stands before self → Ok (value_line v) ≡ ruled before (line_in text.now)) }
+        ensures kept { IfSome result IsValue }
+    {
+        let (first, depth) = usual_function(text)?;
+        if self.is_at_start() || !self.has_room_for_function() {
+            return None;
+        }
+        if !rises(self.first, first as u128) {
+            return None;
+        }
+        Some(LineValue::Function {
+            first,
+            depth,
+            ret: Num::top(),
+        })
+    }
+
+    /// What a line says behind the lines so far, if it is a usual first line and the first.
+    #[inline(always)]
+    fn header_in_order(self, text: &[u8]) -> Option<LineValue>
+        ensures value { IfSome result (λ v. (before : List Line) → Stands before self → Ok (value_line v) ≡ ruled before (line_in text.now)) }
+        ensures kept { IfSome result IsValue }
+    {
+        if !self.is_at_start() {
+            return None;
+        }
+        match usual_header(text) {
+            Some(header) => Some(LineValue::Header(header)),
+            None => None,
+        }
+    }
+
     /// What a line says behind the lines so far, or the gravest flaw of it.
     pub fn judge(self, text: &[u8]) -> Result<LineValue, PartFault>
         ensures value { (before : List Line) → Stands before self → valued value_line result ≡ ruled before (line_in text.now) }
         ensures kept { IfOk result IsValue }
     {
-        match self.usual(text) {
+        if let Some(value) = self.usual(text) {
+            return Ok(value);
+        }
+        if let Some(value) = self.label_in_order(text) {
+            return Ok(value);
+        }
+        if let Some(value) = self.function_in_order(text) {
+            return Ok(value);
+        }
+        match self.header_in_order(text) {
             Some(value) => Ok(value),
             None => self.judge_fields(text),
         }

@@ -1,22 +1,25 @@
-//! What most certificates say of a number or a register, read in one pass. A text that is spelled otherwise is left to others.
+//! What most certificates say of a number or a register, and their other usual lines, read in one pass. A text that is spelled otherwise is left to others.
 
-ghost use Rattle.std.specs.Prelude.{◌≡◌, List, ℕ, ◌++◌, ◌≤◌, ◌<◌, take, length, true, pos, IfSome, decimal};
+ghost use Rattle.std.specs.Prelude.{◌≡◌, List, [], ℕ, ◌++◌, ◌≤◌, ◌<◌, take, length, true, pos, IfSome, decimal};
 ghost use Rattle.std.specs.List.{list_all};
 ghost use Rattle.bpf_insn.specs.Arithmetic.{numbers64, sign_bit64};
+ghost use Rattle.bpf_insn.specs.Limits.{greatest_slot};
 ghost use Rattle.bpf_num.specs.Interval.{interval};
 ghost use Rattle.bpf_num.specs.SignedInterval.{signed_interval};
 ghost use Rattle.bpf_num.specs.Tristate.{tristate, IsTristate};
 ghost use Rattle.bpf_cert.specs.Numeral.{is_decimal_digit, number};
-ghost use Rattle.bpf_cert.specs.Line.{PlaceText, Line, is_content, number_text, content_text, place_text, line_text};
-ghost use Rattle.bpf_cert.specs.Spelling.{unsigned_parts, signed_parts, bits_parts, number_of, content_of, spelled_place};
-ghost use Rattle.bpf_cert.specs.Limits.{is_limited_num};
+ghost use Rattle.bpf_cert.specs.Line.{PlaceText, Line, Number, is_content, number_text, content_text, place_text, line_text};
+ghost use Rattle.bpf_cert.specs.Spelling.{unsigned_parts, signed_parts, bits_parts, number_of, content_of, spelled_place, header_line};
+ghost use Rattle.bpf_cert.specs.Limits.{is_limited_num, is_limited_header, is_depth, max_base};
 ghost use Rattle.bpf_cert.specs.code.Sums.{is_whole};
 ghost use Rattle.bpf_cert.specs.code.Contents.{IsContent};
 ghost use Rattle.bpf_cert.specs.code.Standing.{IsEntry};
 ghost use Rattle.bpf_cert.specs.code.Usual.{Begins};
 
 use crate::decimal::{is_plain, with_digit};
-use bpf_insn::Reg;
+use crate::header::Header;
+use crate::limits::{LAST_SLOT, MAX_BASE, MAX_DEPTH};
+use bpf_insn::{MAX_CONTEXT, Reg};
 use bpf_num::{KnownBits, Num, Signed, Unsigned};
 use bpf_state::{Area, Place, Pointer, SlotState};
 use bpf_streams::behind;
@@ -217,4 +220,59 @@ pub fn usual_entry(text: &[u8]) -> Option<(Place, SlotState)>
         Some(content) => Some((Place::Register(Reg::numbered(number)), content)),
         None => None,
     }
+}
+
+/// The line of a label without terms, if it keeps the limits: its slot and its base.
+#[inline(always)]
+pub fn usual_label(text: &[u8]) -> Option<(u32, u64)>
+    ensures spelled { IfSome result (λ x. text.now ≡ line_text (Line.label (decimal x.0) (decimal x.1) [])) }
+    ensures slot { IfSome result (λ x. x.0 ≤ greatest_slot) }
+    ensures base { IfSome result (λ x. x.1 ≤ max_base) }
+{
+    let numbers = behind(text, b"at ")?;
+    let (slot, base, rest) = two_in_front(numbers, b" ")?;
+    if !rest.is_empty() || slot > LAST_SLOT as u64 || base > MAX_BASE {
+        return None;
+    }
+    Some((slot as u32, base))
+}
+
+/// The line of a function of whose result nothing is known, if it keeps the limits: its first slot and its depth.
+#[inline(always)]
+pub fn usual_function(text: &[u8]) -> Option<(u32, u32)>
+    ensures spelled { IfSome result (λ x. text.now ≡ line_text (Line.function (decimal x.0) (decimal x.1) Number.top)) }
+    ensures first { IfSome result (λ x. x.0 ≤ greatest_slot) }
+    ensures depth { IfSome result (λ x. is_depth x.1 ≡ true) }
+{
+    let numbers = behind(text, b"fn ")?;
+    let (first, depth, rest) = two_in_front(numbers, b" ")?;
+    let rest = behind(rest, b" *")?;
+    if !rest.is_empty() || first > LAST_SLOT as u64 || depth < 1 || depth > MAX_DEPTH as u64 {
+        return None;
+    }
+    Some((first as u32, depth as u32))
+}
+
+/// The first line of version 2, if it keeps the limits.
+#[inline(always)]
+pub fn usual_header(text: &[u8]) -> Option<Header>
+    ensures spelled { IfSome result (λ h. text.now ≡ line_text (header_line h)) }
+    ensures limited { IfSome result (λ h. is_limited_header h ≡ true) }
+{
+    let numbers = behind(text, b"bpfcert 2 ")?;
+    let (least, most, rest) = two_in_front(numbers, b" ")?;
+    let last = behind(rest, b" ")?;
+    let (steps, rest) = number_in_front(last)?;
+    if !rest.is_empty() || most < least || most > MAX_CONTEXT as u64 {
+        return None;
+    }
+    if steps < 1 || steps > 0xffff_ffff {
+        return None;
+    }
+    Some(Header {
+        version: 2,
+        least: least as u32,
+        most: most as u32,
+        steps: steps as u32,
+    })
 }
