@@ -3,6 +3,7 @@ pub mod Valid
 pub mod ConstantLaws
 pub mod TightenLaws
 pub mod OneLaws
+pub mod TightLaws
 pub mod NumberLaws
 pub mod OrderLaws
 pub mod RefineLaws

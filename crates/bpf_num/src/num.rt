@@ -26,8 +26,10 @@ impl Model for Num {
 }
 
 impl Num {
-    ghost use Rattle.std.specs.Prelude.{◌≡◌, ℕ, ◌-◌, ◌^◌, ◌<◌, true, Option, Some, None, IsTrue};
-    ghost use Rattle.bpf_num.specs.Word.{bit_length};
+    ghost use Rattle.std.specs.Prelude.{◌≡◌, ℕ, ◌-◌, ◌^◌, ◌<◌, ◌≤◌, true, Option, Some, None, IsTrue};
+    ghost use Rattle.bpf_num.specs.Word.{bit_length, signed};
+    ghost use Rattle.bpf_num.specs.Tristate.{greatest};
+    ghost use Rattle.bpf_num.specs.SignedInterval.{signed_interval};
     ghost use Rattle.bpf_num.specs.Number.{IsNumber, Has, number, top, constant, is_constant, tighten, join, entails, unsigned_from_bits, signed_from_unsigned, unsigned_from_signed, bits_from_unsigned};
     ghost use Rattle.bpf_num.specs.Laws.{Holds};
 
@@ -184,6 +186,39 @@ impl Num {
     {
         self.valid();
         self.narrowed()
+    }
+
+    // Whether the bounds agree when read as two's complement, and lie within what the bits allow.
+    fn agrees(self) -> bool
+        ensures signed { result ≡ true → self.signed ≡ signed_interval (signed self.unsigned.lo) (signed self.unsigned.hi) }
+        ensures low { result ≡ true → self.bits.value ≤ self.unsigned.lo }
+        ensures high { result ≡ true → self.unsigned.hi ≤ greatest self.bits }
+    {
+        let value = self.bits.value();
+        self.signed.lo() == self.unsigned.lo().cast_signed()
+            && self.signed.hi() == self.unsigned.hi().cast_signed()
+            && value <= self.unsigned.lo()
+            && self.unsigned.hi() <= value | self.bits.mask()
+    }
+
+    // Whether the bounds tell no bit.
+    fn tells_no_bit(self) -> bool
+        ensures { result ≡ true → bits_from_unsigned self ≡ Some self }
+    {
+        let value = self.bits.value();
+        let mask = self.bits.mask();
+        let lo = self.unsigned.lo();
+        let open = ones_up_to(lo ^ self.unsigned.hi());
+        (value ^ lo) & !mask & !open == 0 && value | (lo & !open) == value && mask & open == mask
+    }
+
+    /// Whether the parts tell each other nothing.
+    #[inline]
+    pub fn is_tight(self) -> bool
+        ensures { result ≡ true → tighten self ≡ Some self }
+    {
+        self.valid();
+        self.agrees() && self.tells_no_bit()
     }
 
     // Whether each part says the same one number.
