@@ -16,7 +16,7 @@ use crate::finding::{PartFault, tested};
 use crate::num::{are_plain_signed, is_int_range, narrow, number_in, says_some, signed_value};
 use crate::part::signed_range;
 use crate::place::PlaceForm;
-use bpf_state::{Area, Pointer, SlotState};
+use bpf_state::{Area, FARTHEST, Pointer, SlotState};
 use bpf_streams::behind;
 
 /// A pointer by what it points into and the bounds of its offset.
@@ -76,7 +76,7 @@ fn bounds(low: SignedForm<'_>, high: SignedForm<'_>) -> Result<(i64, i64), PartF
 {
     let lo = signed_value(low);
     let hi = signed_value(high);
-    let limited = is_int_range(-0x8000_0000, 0x8000_0000, lo, hi);
+    let limited = is_int_range(-(FARTHEST as i128), FARTHEST as i128, lo, hi);
     match tested(are_plain_signed(low, high), limited) {
         Ok(()) => Ok((narrow(lo), narrow(hi))),
         Err(flaw) => Err(flaw),

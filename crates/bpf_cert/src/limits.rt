@@ -11,7 +11,7 @@ use crate::certificate::{Function, Label, Measure, Term};
 use crate::header::Header;
 use bpf_insn::{MAX_CONTEXT, MAX_FRAMES, MAX_SLOTS, Reg};
 use bpf_num::Num;
-use bpf_state::{Entries, Place, Pointer, RegState, SlotState, State};
+use bpf_state::{Entries, FARTHEST, Place, Pointer, RegState, SlotState, State};
 
 /// The most functions.
 pub const MAX_FUNCTIONS: usize = 256;
@@ -208,7 +208,7 @@ fn is_limited_num(n: Num) -> bool
 fn is_pointer_range(lo: i64, hi: i64) -> bool
     ensures { result ≡ is_pointer_range lo hi }
 {
-    -0x8000_0000 <= lo && hi <= 0x8000_0000 && lo <= hi
+    -FARTHEST <= lo && hi <= FARTHEST && lo <= hi
 }
 
 fn is_limited_pointer(pointer: Pointer) -> bool

@@ -1,4 +1,5 @@
-//! What most certificates say of a number or a register, and their other usual lines, read in one pass. A text that is spelled otherwise is left to others.
+//! What most certificates say of a number or a register, and their other usual lines, read in one pass. A text that is
+//! spelled otherwise is left to others.
 
 ghost use Rattle.std.specs.Prelude.{◌≡◌, List, [], ℕ, ◌++◌, ◌≤◌, ◌<◌, take, length, true, pos, IfSome, decimal};
 ghost use Rattle.std.specs.List.{list_all};
@@ -21,7 +22,7 @@ use crate::header::Header;
 use crate::limits::{LAST_SLOT, MAX_BASE, MAX_DEPTH};
 use bpf_insn::{MAX_CONTEXT, Reg};
 use bpf_num::{KnownBits, Num, Signed, Unsigned};
-use bpf_state::{Area, Place, Pointer, SlotState};
+use bpf_state::{Area, FARTHEST, Place, Pointer, SlotState};
 use bpf_streams::behind;
 
 /// The number that the digits in front of a text write, and how many they are, if 64 bits hold it.
@@ -165,7 +166,7 @@ fn usual_pointer(text: &[u8]) -> Option<SlotState>
 {
     let range = behind(text, b"ctx")?;
     let (lo, hi, rest) = two_in_front(range, b"..")?;
-    if !rest.is_empty() || hi < lo || hi > 0x8000_0000 {
+    if !rest.is_empty() || hi < lo || hi > FARTHEST as u64 {
         return None;
     }
     Some(SlotState::Spilled(Pointer {
@@ -266,7 +267,7 @@ pub fn usual_header(text: &[u8]) -> Option<Header>
     if !rest.is_empty() || most < least || most > MAX_CONTEXT as u64 {
         return None;
     }
-    if steps < 1 || steps > 0xffff_ffff {
+    if steps < 1 || steps > u32::MAX as u64 {
         return None;
     }
     Some(Header {

@@ -22,5 +22,5 @@ returns-clause-form c = λ i.
     let high : SFits w64 c.half-2.result = search rules in
     let first : to_z w64 (of_z w64 c.half.result) ≡ pos c.in_ok-lo.lo = to_z-of_z w64 c.half.result low ∙ c.half.ensures in
     let second : to_z w64 (of_z w64 c.half-2.result) ≡ pos c.in_ok-lo.hi = to_z-of_z w64 c.half-2.result high ∙ c.half-2.ensures in
-    let few = c.if-hi-gt2147483648.false in
+    let few = c.if-hi.false in
     rw (first, second) (are_numerals c.in_ok-lo.lo c.in_ok-lo.hi c.if-hi-lo.false (omega arith))
