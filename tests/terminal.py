@@ -78,7 +78,7 @@ CASES = [
     ("harden index.img 128 out --padded", 0, "shown to keep the meaning of each run"),
     ("harden order.img 16 out", 0, "shown to keep the meaning of each run"),
     ("harden null.img 16 out --unproved", 0, "at slot 3: the hardened program isn't shown to keep the meaning: M5: the instruction reads what may be something else in the new program; "
-     "where it puts pointers into the frame in order, compare offsets, not pointers"),
+     "where it compares pointers, compare offsets, or hand back a flag in the place of NULL"),
     ("harden null.img 16 out", 1, "`bpf explain null.img --harden 16` tells why"),
     ("harden null.img 16 out --padded", 1, "`bpf explain null.img --harden 16 --padded` tells why"),
     ("harden itself.img 0 out", 1, "`bpf explain itself.img --harden 0` tells why"),

@@ -5,10 +5,10 @@ use bpf_kept::{Mismatch, NoteFault, mismatch_text};
 use bpf_refusals::NOT_SHOWN;
 use std::fmt::{self, Display};
 
-/// What to change where an instruction reads what may be something else: pointers into the frame may be offsets in the new program, and their order
-/// isn't shown.
-const OF_ORDER: &str =
-    "; where it puts pointers into the frame in order, compare offsets, not pointers";
+/// What to change where an instruction reads what may be something else: pointers may be offsets in the new program, and no order of them is shown,
+/// nor a test for NULL.
+const OF_POINTERS: &str =
+    "; where it compares pointers, compare offsets, or hand back a flag in the place of NULL";
 
 /// Why no hardened program comes out.
 #[derive(Clone, Copy)]
@@ -70,7 +70,7 @@ impl Display for Unshown {
             Mismatch::At {
                 fault: NoteFault::Read,
                 ..
-            } => OF_ORDER,
+            } => OF_POINTERS,
             _ => "",
         };
         write!(

@@ -27,7 +27,7 @@ answer_texts =
     codes "a run may take more instructions than are paid for" ∷
     codes "the context has a length for which the image isn't run" ∷
     codes "the words are not those that this version of the library wrote, or not all of them" ∷
-    codes "a pointer is null or not aligned, or an answer would be written over what is read or written beside it" ∷
+    codes "a pointer is null or not aligned, a length is above PTRDIFF_MAX, or an answer would be written over what is read or written beside it" ∷
     []
 
 abbrev pub answer_text : ℤ → List ℕ

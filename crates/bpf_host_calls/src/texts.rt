@@ -42,7 +42,7 @@ pub(crate) fn answer_words(answer: i32) -> &'static [u8]
         -5 => "the context has a length for which the image isn't run",
         -6 => "the words are not those that this version of the library wrote, or not all of them",
         -7 =>
-            "a pointer is null or not aligned, or an answer would be written over what is read or written beside it",
+            "a pointer is null or not aligned, a length is above PTRDIFF_MAX, or an answer would be written over what is read or written beside it",
         _ => "",
     };
     text.as_bytes()
