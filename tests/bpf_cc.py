@@ -296,6 +296,15 @@ def sources(folder):
         holds(CC.dependencies(text) == wanted, f'the names of {text!r} are {CC.dependencies(text)}')
 
 
+def helps():
+    """The line of the source is told as the compilers tell it; clang 14 writes its words behind the place of an instruction."""
+    divides = 'Unsupport signed division for DAG: 0x24f6c948: i32 = sdiv 0x24f6ca80, Constant:i32<2>, x/a.c:19:26'
+    for said, place in ((f'Error at line 19: {divides}Please convert to unsigned div/mod.\n', 'x/a.c:19'), (f'{divides}\n', 'x/a.c:19'),
+                        ('x/a.c:6:3: error: unsupported signed division\n', 'x/a.c:6'), ('unsupported signed division\n', 'b.c')):
+        words = CC.helped(said, 'b.c', CC.Compiler('clang', True, 14))
+        holds(words.startswith(f'{place}: divides numbers with a sign'), f'of {said!r} bpf-cc says {words!r}')
+
+
 def served(room, count, seed):
     """Altered object files by way of the whole tool: OUT is there, or a line says why not, and nothing else is written."""
     rng = random.Random(seed)
@@ -329,6 +338,7 @@ def main():
             part(Room(room))
         (folder / 'sources').mkdir()
         sources(folder / 'sources')
+        helps()
         (folder / 'served').mkdir()
         served(Room(folder / 'served'), 20, seed)
     print('bpf_cc: names, links, folders, devices, a full disk and lines are as they are told')

@@ -146,6 +146,23 @@ C
         fails "$BPF_CC: no line for slot 0: $(cat "$dir/case.img.lines")"
 }
 
+# compares COMPILER: memcmp of constant lengths with a table in the frame, and with the packet's own bytes, is certified and right.
+compares() {
+    cat >"$dir/case.c" <<'C'
+#include "filter.h"
+static const u8 line[24] = "GET /index.html HTTP/1.1";
+u64 filter(const u8 *bytes, u64 size)
+{
+	return (memcmp(bytes, line, 24) == 0) | (memcmp(bytes, line, 16) < 0) << 1 | (memcmp(bytes, line, 6) > 0) << 2 | (memcmp(bytes, bytes + 24, 7) < 0) << 3;
+}
+C
+    local front=474554202f middle=696e6465782e68746d6c rear=485454502f312e31
+    printf '%s\n' "$front${middle}20${rear}4848484848484848" "$front${middle}00${rear}4848484848484848" "${front}ff${middle}${rear}4141414141414141" >"$dir/contexts"
+    "$build" "$dir/case.c" "$dir/case.img" -Werror >"$dir/said" 2>&1 && "$bpf" certify "$dir/case.img" 32 "$dir/made.img" "$dir/made.cert" >"$dir/said" 2>&1 &&
+        "$bpf" run-checked "$dir/made.img" "$dir/made.cert" --contexts "$dir/contexts" >"$dir/said" 2>&1
+    [ "$(cat "$dir/said")" = "$(printf 'done %s\n' 9 10 4)" ] || fails "memcmp by $1: $(cat "$dir/said")"
+}
+
 # Each compiler that is there, once; bpf-cc's words by the first and the last of them.
 mapfile -t found < <(compgen -c | grep -xE 'clang(-[0-9]+)?|bpf-gcc(-[0-9]+)?' | sort -u |
     while read -r name; do echo "$(realpath "$(command -v "$name")") $name"; done | sort -u -k 1,1 | cut -d ' ' -f 2 | sort -V)
@@ -157,6 +174,7 @@ for compiler in ${found[@]+"${found[@]}"}; do
         continue
     fi
     tries "$compiler"
+    compares "$compiler"
     case $compiler in
     "${found[0]}" | "${found[-1]}") refusals ;;
     esac

@@ -62,9 +62,20 @@ int main(int, char **argv) {
     try {
         bpf::certify(image, BPF_LITTLE, 128, &one);
     } catch (const bpf::Refused &why) {
-        thrown = std::string(why.what()).compare(0, 14, "refused by H14") == 0;
+        thrown = std::string(why.what()) == "refused by H14 at slot 0: a run of the hardened program may take more instructions than are paid for: 37 instructions" &&
+                 why.refusal().condition == 37;
     }
     want(thrown, "a bound of 1");
+    /* A pointer that is compared with a number: the meaning isn't shown to be kept. */
+    const bpf::Bytes compared = {0xb7, 0, 0, 0, 0, 0, 0, 0, 0x71, 0x13, 0, 0, 0, 0, 0, 0, 0x0f, 0x13, 0, 0, 0, 0, 0, 0,
+                                 0x15, 3, 1, 0, 5, 0, 0, 0, 0x71, 0x30, 0, 0, 0, 0, 0, 0, 0x95, 0, 0, 0, 0, 0, 0, 0};
+    thrown = false;
+    try {
+        bpf::harden(compared, BPF_LITTLE, 16);
+    } catch (const bpf::Refused &why) {
+        thrown = why.refusal().place == 3 && std::string(why.what()).find(": M5: the instruction reads ") != std::string::npos;
+    }
+    want(thrown, "a pointer that is compared with a number");
     const bpf_hardening two = {0, 2, 0, 0, 0};
     thrown = false;
     try {
@@ -77,7 +88,7 @@ int main(int, char **argv) {
     try {
         bpf::infer(image, BPF_LITTLE, 0, 0);
     } catch (const bpf::Refused &why) {
-        thrown = std::string(why.what()).compare(0, 13, "refused by I4") == 0;
+        thrown = std::string(why.what()).compare(0, 13, "refused by I4") == 0 && std::string(why.what()).find(": C5: an access ") != std::string::npos;
     }
     want(thrown, "no certificate for no bytes");
     const struct {

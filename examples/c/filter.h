@@ -38,18 +38,20 @@ struct context {
 /* Keeps the compiler from reasoning about a number, so that a test or a mask before an access stays. */
 #define HIDE(x) asm volatile("" : "+r"(x))
 
-/* Loops that stay loops, and functions whose code stands in the caller's lines. */
+/* Loops that stay loops, loops of a constant number of turns that are spelled out, and functions whose code stands in the caller's lines. */
 #ifdef __clang__
 #define FILTER_LOOP _Pragma("clang loop unroll(disable)")
+#define FILTER_ROW _Pragma("clang loop unroll(full)")
 #define FILTER_INLINE static inline __attribute__((always_inline, nodebug))
 #else
 #define FILTER_LOOP
+#define FILTER_ROW _Pragma("GCC unroll 64")
 #define FILTER_INLINE static inline __attribute__((always_inline, artificial))
 #endif
 
 /* As in <string.h>; whoever includes that of a C library does so in front of this file. Copies and fills are of a constant length. A comparison
- * is of any: clang spells out one of a constant length, and else it is a loop, in the caller's own lines, so that the bytes may lie in the frame
- * as in the context.
+ * is of any, in the caller's own lines, so that the bytes may lie in the frame as in the context: words in a row where the length is constant
+ * and no more than a frame has, else a loop over the bytes.
  */
 void *memcpy(void *to, const void *from, __SIZE_TYPE__ size);
 void *memset(void *to, int byte, __SIZE_TYPE__ size);
@@ -64,11 +66,31 @@ FILTER_INLINE int bytes_compared(const void *left, const void *right, u64 size)
 	}
 	return difference;
 }
-#ifdef __clang__
-#define memcmp(left, right, size) (__builtin_constant_p(size) ? __builtin_memcmp(left, right, size) : bytes_compared(left, right, size))
+#if __BYTE_ORDER__ == __ORDER_LITTLE_ENDIAN__
+#define FIRST_BYTE_FIRST(word) __builtin_bswap64(word)
 #else
-#define memcmp(left, right, size) bytes_compared(left, right, size)
+#define FIRST_BYTE_FIRST(word) (word)
 #endif
+#define COMPARE_WORD(type) do { \
+	u64 l_ = *(const type *)(a + at), r_ = *(const type *)(b + at); \
+	if (l_ != r_) \
+		return FIRST_BYTE_FIRST(l_) < FIRST_BYTE_FIRST(r_) ? -1 : 1; \
+	at += sizeof(type); \
+} while (0)
+FILTER_INLINE int words_compared(const void *left, const void *right, u64 size)
+{
+	const u8 *a = left, *b = right;
+	u64 at = 0;
+
+	FILTER_ROW for (u64 words = size / 8; words > 0; words--)
+		COMPARE_WORD(u64);
+	if (size & 4)
+		COMPARE_WORD(u32);
+	if (size & 2)
+		COMPARE_WORD(u16);
+	return size & 1 ? a[at] - b[at] : 0;
+}
+#define memcmp(left, right, size) (__builtin_constant_p(size) && (size) <= 512 ? words_compared(left, right, size) : bytes_compared(left, right, size))
 
 /* A loop of at most n turns over i, from 0 on; the counter itself is tested. */
 #define TIMES(i, n) FILTER_LOOP for (u64 i = 0; ({ HIDE(i); i < (n); }); i++)

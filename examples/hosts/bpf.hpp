@@ -3,6 +3,7 @@
 #define BPF_HPP
 
 #include <bpf.h>
+#include <algorithm>
 #include <cstddef>
 #include <cstdint>
 #include <memory>
@@ -18,28 +19,50 @@ using Bytes = std::vector<std::uint8_t>;
 /* Why nothing is loaded, proposed, hardened, certified or converted: the image or the filter is refused, or a bound is above what the host pays for. */
 class Refused : public std::runtime_error {
 public:
-    explicit Refused(const std::string &why) : std::runtime_error(why) {}
+    explicit Refused(const std::string &words, const bpf_refusal &refusal = bpf_refusal()) : std::runtime_error(words), refusal_(refusal) {}
+
+    /* What the call told; all 0 where `bpf_load` found the bound too great. */
+    const bpf_refusal &refusal() const noexcept { return refusal_; }
+
+private:
+    bpf_refusal refusal_;
 };
 
 /* What an answer below 0 says. */
 inline std::string answer_text(std::int32_t answer) {
     char text[256];
-    return std::string(text, bpf_answer_text(answer, text, sizeof text));
+    return std::string(text, std::min(bpf_answer_text(answer, text, sizeof text), sizeof text - 1));
+}
+
+/* The sentence of a refusal by its letter and number; none of a pair that there isn't. */
+inline std::string sentence(std::uint32_t kind, std::uint32_t number) {
+    char text[256];
+    return std::string(text, std::min(bpf_refusal_text(kind, number, text, sizeof text), sizeof text - 1));
+}
+
+/* Of a refusal that names a condition of another letter: its letter, number and sentence; of H14 the bound. */
+inline std::string condition_text(const bpf_refusal &why) {
+    const bool is_hardening = why.kind == BPF_HARDENING;
+    if (is_hardening && why.number == 14) return ": " + std::to_string(why.condition) + " instructions";
+    const bool is_check = is_hardening ? why.number == 7 || why.number == 15 : why.kind == BPF_INFERENCE && why.number == 4;
+    const bool is_mismatch = is_hardening && why.number == 13;
+    if (why.condition == 0 || (!is_check && !is_mismatch)) return std::string();
+    const bpf_kind kind = is_check ? BPF_CHECK : BPF_MISMATCH;
+    return std::string(": ") + static_cast<char>(kind) + std::to_string(why.condition) + ": " +
+           sentence(kind, static_cast<std::uint32_t>(why.condition));
 }
 
 /* Why something is refused: by what, where, and in words. */
 inline std::string refusal_text(const bpf_refusal &why) {
-    char text[128];
-    bpf_refusal_text(why.kind, why.number, text, sizeof text);
     return std::string("refused by ") + static_cast<char>(why.kind) + std::to_string(why.number) +
            (why.kind == BPF_CERTIFICATE ? " at line " : why.kind == BPF_CLASSIC ? " at instruction " : " at slot ") + std::to_string(why.place) +
-           ": " + text;
+           ": " + sentence(why.kind, why.number) + condition_text(why);
 }
 
 /* Throws what an answer other than BPF_YES says: Refused, std::bad_alloc, or std::invalid_argument. */
 inline void expect_yes(std::int32_t answer, const bpf_refusal &why) {
     if (answer == BPF_YES) return;
-    if (answer == BPF_NO) throw Refused(refusal_text(why));
+    if (answer == BPF_NO) throw Refused(refusal_text(why), why);
     if (answer == BPF_NO_MEMORY) throw std::bad_alloc();
     throw std::invalid_argument(answer_text(answer));
 }

@@ -194,24 +194,47 @@ const TOO_LONG: i32 = -4;
 /// The greatest image that there is, in bytes.
 const IMAGE_MOST: usize = 524_288;
 
+/// The sentence of a refusal, by its letter and number.
+fn sentence(kind: u32, number: u32) -> String {
+    let mut text = [0; 256];
+    // SAFETY: the pointer and the length are the array's.
+    let len = unsafe { bpf_host_refusal_text(kind, number, text.as_mut_ptr(), text.len()) };
+    String::from_utf8_lossy(&text[..len.min(text.len())]).into_owned()
+}
+
+impl Refusal {
+    /// The letter of the condition, where that is one of the checker's (C) or of the notes' (M).
+    fn condition_letter(&self) -> Option<char> {
+        let letter = match (char::from_u32(self.kind)?, self.number) {
+            ('I', 4) | ('H', 7 | 15) => 'C',
+            ('H', 13) => 'M',
+            _ => return None,
+        };
+        (self.condition != 0).then_some(letter)
+    }
+}
+
 impl fmt::Display for Refusal {
     fn fmt(&self, f: &mut fmt::Formatter) -> fmt::Result {
-        let mut text = [0; 128];
-        // SAFETY: the pointer and the length are the array's.
-        let len =
-            unsafe { bpf_host_refusal_text(self.kind, self.number, text.as_mut_ptr(), text.len()) };
+        let (number, place, condition) = (self.number, self.place, self.condition);
         let kind = char::from_u32(self.kind).unwrap_or('?');
-        let place = match kind {
+        let places = match kind {
             'B' => "instruction",
             'K' => "line",
             _ => "slot",
         };
-        let words = String::from_utf8_lossy(&text[..len.min(text.len())]);
-        write!(
-            f,
-            "{kind}{} at {place} {}: {words}",
-            self.number, self.place
-        )
+        let words = sentence(self.kind, number);
+        write!(f, "{kind}{number} at {places} {place}: {words}")?;
+        if (kind, number) == ('H', 14) {
+            return write!(f, ": {condition} instructions");
+        }
+        match self.condition_letter() {
+            Some(letter) => {
+                let words = sentence(letter.into(), condition.try_into().unwrap_or(0));
+                write!(f, ": {letter}{condition}: {words}")
+            }
+            None => Ok(()),
+        }
     }
 }
 

@@ -95,7 +95,10 @@ fn proposes_certificates() {
     let short = infer(PORT.0, Order::Little, 0, 0, true)
         .unwrap_err()
         .to_string();
-    assert!(short.starts_with("refused by I4 at slot "), "{short}");
+    assert!(
+        short.starts_with("refused by I4 at slot ") && short.contains(": C5: an access "),
+        "{short}"
+    );
     let no_range = infer(PORT.0, Order::Little, 1, 0, true).unwrap_err();
     assert!(matches!(no_range, Error::Answer(-2)) && no_range.to_string().contains("a length"));
 }
@@ -128,7 +131,8 @@ fn hardens_images() {
     .concat();
     let why = harden(&compared, Order::Little, 16, &asked).unwrap_err();
     assert!(
-        why.to_string().starts_with("refused by H13 at slot 3: "),
+        why.to_string().starts_with("refused by H13 at slot 3: ")
+            && why.to_string().contains(": M5: the instruction reads "),
         "{why}"
     );
     let unproved = Hardening {
@@ -172,7 +176,8 @@ fn certifies_images() {
     let poor = Wish { bound: 1, ..wish };
     let why = certify(PORT.0, Order::Little, 128, &poor).unwrap_err();
     assert!(
-        why.to_string().starts_with("refused by H14 at slot 0: "),
+        why.to_string().starts_with("refused by H14 at slot 0: ")
+            && why.to_string().ends_with(": 37 instructions"),
         "{why}"
     );
 }
