@@ -51,7 +51,7 @@ fn set_label_state(label: &Label, state: &mut State) -> bool
     ensures { edge_told result state.new ≡ label_state (label_view label.now) }
 {
     label.state.put_into(state);
-    if !state.tighten() {
+    if !label.state.are_tight() && !state.tighten() {
         return false;
     }
     state.clear_tags();
