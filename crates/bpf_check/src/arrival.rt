@@ -5,6 +5,7 @@ ghost use Rattle.bpf_insn.specs.Limits.{greatest_slot};
 ghost use Rattle.bpf_cert.specs.View.{label_view};
 ghost use Rattle.bpf_cert.specs.Limits.{is_limited_label};
 ghost use Rattle.bpf_state.specs.Answer.{edge_told};
+ghost use Rattle.bpf_state.specs.State.{tightened};
 ghost use Rattle.bpf_safety.specs.Flow.{label_state, at_label_arrival, callee, call_cost, cost_after};
 ghost use Rattle.bpf_check.specs.code.Slack.{IsWithin};
 ghost use Rattle.bpf_check.specs.code.Arrivals.{arrival_of, walk_of, IsReaching};
@@ -44,14 +45,24 @@ impl<'a> Walk<'a> {
     }
 }
 
+/// Makes a state the label's own, each number tightened. False only if a number has no member.
+fn put_tightened(label: &Label, state: &mut State) -> bool
+    ensures { edge_told result state.new ≡ tightened label.now.state }
+{
+    label.state.put_into(state);
+    if label.state.are_tight() {
+        return true;
+    }
+    state.tighten()
+}
+
 /// Makes a state the one at a label: each number tightened, and a tag for each term. False only if a number
 /// has no member.
 fn set_label_state(label: &Label, state: &mut State) -> bool
     requires { IsTrue (is_limited_label (label_view label.now)) }
     ensures { edge_told result state.new ≡ label_state (label_view label.now) }
 {
-    label.state.put_into(state);
-    if !state.tighten() {
+    if !put_tightened(label, state) {
         return false;
     }
     state.clear_tags();

@@ -1,6 +1,6 @@
 //! Whether a certificate's functions and labels fit each other and the program.
 
-ghost use Rattle.std.specs.Prelude.{◌≡◌, find, flat_map, option_copied, is_none, is_some, IsTrue};
+ghost use Rattle.std.specs.Prelude.{◌≡◌, [], Some, find, flat_map, option_copied, is_none, is_some, IsTrue};
 ghost use Rattle.std.specs.List.{list_any};
 ghost use Rattle.bpf_insn.specs.Instruction.{insn_at};
 ghost use Rattle.bpf_state.specs.State.{tightened};
@@ -118,6 +118,27 @@ fn seen_with<'a, C: Code>(
     }
 }
 
+/// What is seen of a label without terms whose state is tight as it is.
+fn seen_plain<'a, C: Code>(
+    program: &C,
+    certificate: &Index,
+    function: &Function,
+    label: &'a Label,
+) -> SeenLabel<'a>
+    requires terms { (label_view label.now).terms ≡ [] }
+    requires state { tightened label.now.state ≡ Some label.now.state }
+    ensures label { result.label.now ≡ label.now }
+    ensures seen { IsSeenLabel (C.program program.now) certificate.now (function_view function.now) result }
+{
+    SeenLabel {
+        label,
+        is_misplaced: is_misplaced(program, label),
+        bad: None,
+        is_outside: is_outside(certificate.certificate(), function, label),
+        is_empty: false,
+    }
+}
+
 /// Sees a label of a function, with room for its state tightened.
 pub fn see_label<'a, C: Code>(
     program: &C,
@@ -130,6 +151,9 @@ pub fn see_label<'a, C: Code>(
     ensures label { result.label.now ≡ label.now }
     ensures seen { IsSeenLabel (C.program program.now) certificate.now (function_view function.now) result }
 {
+    if label.budget.terms.is_empty() && label.state.are_tight() {
+        return seen_plain(program, certificate, function, label);
+    }
     label.state.put_into(room);
     if room.tighten() {
         seen_with(program, certificate, function, label, Some(room))

@@ -11,5 +11,6 @@ pub mod LaneLemmas
 pub mod CoverLemmas
 pub mod EntryLemmas
 pub mod EntryEntailment
+pub mod TightEntries
 pub mod MixLemmas
 pub mod PlaceLemmas

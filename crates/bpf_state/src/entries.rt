@@ -1,12 +1,12 @@
 //! What is known of places, entry by entry.
 
-ghost use Rattle.std.specs.Prelude.{◌≡◌, ◌↔◌, ◌==◌, ◌≢◌, ◌≤◌, ◌<◌, ◌++◌, ◌∷◌, [], take, replicate, IfOk, IsTrue};
+ghost use Rattle.std.specs.Prelude.{◌≡◌, ◌↔◌, ◌==◌, ◌≢◌, ◌≤◌, ◌<◌, ◌++◌, ◌∷◌, [], take, replicate, true, All, IfOk, IsTrue};
 ghost use Rattle.bpf_insn.specs.Instruction.{register_number};
 ghost use Rattle.bpf_state.specs.State.{IsRegister, IsSlot, IsPlace, start_of, blank, register, slot};
 ghost use Rattle.bpf_state.specs.Held.{held};
 ghost use Rattle.bpf_state.specs.Entails.{state_entails};
 ghost use Rattle.std.specs.List.{list_all};
-ghost use Rattle.bpf_state.specs.code.Entries.{AreEntries, IsPlaced, state_of, keeps};
+ghost use Rattle.bpf_state.specs.code.Entries.{AreEntries, IsPlaced, IsTight, state_of, keeps};
 ghost use Rattle.bpf_state.specs.declared.known.RegState.TheVariants.{Ptr};
 ghost use Rattle.bpf_state.specs.declared.known.Area.TheVariants.{Frame};
 ghost use Rattle.bpf_state.specs.declared.known.SlotState.TheVariants.{Bytes};
@@ -123,6 +123,28 @@ fn put_entries(entries: &[Entry], state: &mut State)
     }
 }
 
+/// Whether no part of an entry's number tells another anything.
+fn is_tight(entry: &Entry) -> bool
+    ensures { result ≡ true → IsTight entry.now }
+{
+    match entry {
+        Entry::Register(_, value) => value.is_tight(),
+        Entry::Slot(_, value) => value.is_tight(),
+    }
+}
+
+/// Whether no part of any entry's number tells another anything.
+fn are_tight(entries: &[Entry]) -> bool
+    ensures { result ≡ true → All IsTight entries.now }
+{
+    for entry in entries {
+        if !is_tight(entry) {
+            return false;
+        }
+    }
+    true
+}
+
 /// Whether what is known of the entry's place lies in what it says.
 fn keeps(state: &State, entry: Entry) -> bool
     requires { IsPlaced entry }
@@ -176,7 +198,8 @@ fn put_slots(entries: &mut Entries, state: &State) -> Result<(), AllocError>
 }
 
 impl Entries {
-    ghost use Rattle.bpf_state.specs.State.{IsAbstractState, with_register, with_slot};
+    ghost use Rattle.std.specs.Prelude.{Some};
+    ghost use Rattle.bpf_state.specs.State.{IsAbstractState, with_register, with_slot, tightened};
     ghost use Rattle.bpf_state.specs.declared.known.RegState.TheVariants.{Any};
     ghost use Rattle.bpf_state.specs.Bare.{IsBare, bare};
     ghost use Rattle.bpf_state.specs.code.Entries.{IsOrdered, IsKnown, IsNew, put};
@@ -282,6 +305,13 @@ impl Entries {
             SlotState::Word(_) => self.push(Entry::Slot(k, value)),
             SlotState::Spilled(_) => self.push(Entry::Slot(k, value)),
         }
+    }
+
+    /// Whether no part of a number tells another anything, so that each number is tight as it is.
+    pub fn are_tight(&self) -> bool
+        ensures { result ≡ true → tightened self.now ≡ Some self.now }
+    {
+        are_tight(&self.entries)
     }
 
     /// Makes a state the one that these say.

@@ -77,7 +77,8 @@ pub struct Tag {
 }
 
 impl RegState {
-    ghost use Rattle.std.specs.Prelude.{◌≡◌};
+    ghost use Rattle.std.specs.Prelude.{◌≡◌, true, Some};
+    ghost use Rattle.bpf_state.specs.State.{tightened_register};
     ghost use Rattle.bpf_state.specs.Fault.{is_any, is_number, is_pointer};
     ghost use Rattle.bpf_state.specs.Transfer.{number_state};
 
@@ -96,6 +97,17 @@ impl RegState {
         match self {
             RegState::Num(_) => true,
             RegState::Any | RegState::Ptr(_) => false,
+        }
+    }
+
+    /// Whether no part of a number tells another anything.
+    #[inline]
+    pub(crate) fn is_tight(&self) -> bool
+        ensures { result ≡ true → tightened_register self.now ≡ Some self.now }
+    {
+        match self {
+            RegState::Num(number) => number.is_tight(),
+            RegState::Any | RegState::Ptr(_) => true,
         }
     }
 
@@ -170,8 +182,19 @@ impl Moved {
 }
 
 impl SlotState {
-    ghost use Rattle.std.specs.Prelude.{◌≡◌};
-    ghost use Rattle.bpf_state.specs.State.{slot_value};
+    ghost use Rattle.std.specs.Prelude.{◌≡◌, true, Some};
+    ghost use Rattle.bpf_state.specs.State.{slot_value, tightened_slot};
+
+    /// Whether no part of a number tells another anything.
+    #[inline]
+    pub(crate) fn is_tight(&self) -> bool
+        ensures { result ≡ true → tightened_slot self.now ≡ Some self.now }
+    {
+        match self {
+            SlotState::Word(number) => number.is_tight(),
+            SlotState::Bytes(_) | SlotState::Spilled(_) => true,
+        }
+    }
 
     /// What the slot holds as a whole.
     pub(crate) fn value(self) -> RegState

@@ -1,11 +1,11 @@
 -- A state in entries, each of one place.
-use Rattle.std.specs.Prelude.{◌≡◌, ◌≢◌, ◌≤◌, Bool, List, [], ◌∷◌, All}
+use Rattle.std.specs.Prelude.{◌≡◌, ◌≢◌, ◌≤◌, Bool, List, [], ◌∷◌, All, Some}
 use Rattle.bpf_insn.specs.Instruction.{register_number}
 use Rattle.bpf_state.specs.declared.known.RegState.TheVariants.{Any}
 use Rattle.bpf_state.specs.declared.known.SlotState.TheVariants.{Bytes}
 use Rattle.bpf_state.specs.declared.entries.Entry.{Entry}
 use Rattle.bpf_state.specs.declared.entries.Entry.TheVariants.{Register, Slot}
-use Rattle.bpf_state.specs.State.{AbstractState, IsRegister, IsSlot, register, slot, with_register, with_slot, blank}
+use Rattle.bpf_state.specs.State.{AbstractState, IsRegister, IsSlot, register, slot, with_register, with_slot, blank, tightened_register, tightened_slot}
 use Rattle.bpf_state.specs.Entails.{register_entails, slot_entails}
 use Rattle.bpf_state.specs.Bare.{IsBare}
 
@@ -56,6 +56,11 @@ pub record IsEntry (s : AbstractState) (e : Entry) : Type 0 where
 pub record AreEntries (es : List Entry) : Type 0 where
   pub bare : IsBare (state_of es)
   pub each : All (IsEntry (state_of es)) es
+
+-- a number that it says stays as it is when it is tightened
+abbrev pub IsTight : Entry → Type 0
+IsTight (Register r value) = tightened_register value ≡ Some value
+IsTight (Slot k value) = tightened_slot value ≡ Some value
 
 -- what is known of the entry's place lies in what it says
 abbrev pub keeps : AbstractState → Entry → Bool
