@@ -1,8 +1,8 @@
 #!/usr/bin/env bash
 # jumps.sh BPF: that the loops of the flat runner have a jump of their own behind each common instruction. `bpf_flat` is written so that LLVM copies the
 # jump of its match into the arms of the twelve commonest opcodes. No contract says that it does, and with one jump for all a run takes up to twice as
-# long. One loop runs the outermost function, and one goes on from the first call, each over an image beside its opcodes
-# in either byte order. A step that is a function of its own was too long for LLVM to put it into a loop, and a run takes twice as long.
+# long. One loop runs the outermost function, and one goes on from the first call, each over a little-endian image beside its
+# opcodes. Those of a big-endian one, which the library alone runs, call the step, and aren't counted.
 set -euo pipefail
 bpf=$1
 wanted=16
@@ -15,7 +15,3 @@ for loop in bpf_flat::prepared::run_image bpf_flat::runs::go_on; do
     fi
     echo "jumps.sh: $found indirect jumps in $loop"
 done
-if grep -q '<bpf_flat::machine::Flat::step::' <<<"$jumps"; then
-    echo "jumps.sh: $bpf calls a step: see fields_at in crates/bpf_flat/src/image.rt" >&2
-    exit 1
-fi

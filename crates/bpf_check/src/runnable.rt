@@ -6,12 +6,12 @@ ghost use Rattle.bpf_flat.specs.Runs.{RunsTo};
 
 use crate::checked::Checked;
 use bpf_flat::Prepared;
-use bpf_insn::Code;
+use bpf_insn::{Code, Order};
 use bpf_safety::{certified_is_flat_safe, certified_is_safe};
 use std::alloc::Global;
 use std::marker::Model;
 
-/// A checked program, made ready for its runs where memory has room for that.
+/// A checked program, made ready for its runs where that makes them faster and memory has room for it.
 #[derive(Drop)]
 pub struct Runnable<'a, 'p, C: Code> {
     checked: &'a Checked<'p, C>,
@@ -30,14 +30,16 @@ impl<'a, 'p, C: Code> Model for Runnable<'a, 'p, C> {
 }
 
 impl<'a, 'p, C: Code> Runnable<'a, 'p, C> {
-    /// Makes a checked program ready. Where memory has no room, its runs take longer, and end the same.
+    /// Makes a checked program ready. Where memory has no room, its runs take longer, and end the same. A big-endian program is read
+    /// as it is, since LLVM leaves the step of a big-endian image out of its loop.
     pub fn of(alloc: Global, checked: &'a Checked<'p, C>) -> Self
         ensures { result ≡ checked.now }
     {
-        Runnable {
-            checked,
-            prepared: Prepared::of(alloc, checked.program).ok(),
-        }
+        let prepared = match checked.program.order() {
+            Order::Little => Prepared::of(alloc, checked.program).ok(),
+            Order::Big => None,
+        };
+        Runnable { checked, prepared }
     }
 
     /// The checked program.
