@@ -78,11 +78,12 @@ wants 'returns_counted' 1
 # The operands of a test are put back in one place.
 wants 'set_reg' 2
 
-# What the checker takes of bpf_state: its types; the edges; what counts; what makes, fills and tightens one state, and reads one number of it;
+# What the checker takes of bpf_state: its types; the edges; what counts; what makes, fills and tightens one state, or tells that it is tight, and
+# reads one number of it;
 # and what keeps the two operands of a test, and puts them back.
 # `number`, `of`, `slot` and the like are words of other crates, too.
 may_take=" Condition Entries Place RegState State StateFault Tag Work branch enter leave returns_counted transfer_counted entails_label_counted
- begin blank clear_tags copy_from put_into set_reg set_tag tighten tightened held new number of operand reg slot slots start state tag valid "
+ are_tight begin blank clear_tags copy_from put_into set_reg set_tag tighten tightened held new number of operand reg slot slots start state tag valid "
 taken=$({
     # Each function of bpf_state that others may call, if its name stands in these sources; and what is brought in.
     grep -rhoE '(^|[[:space:]])pub (const )?fn [[:alnum:]_]+' ../../bpf_state/src | sed 's/.* //' | sort -u | while read -r name; do
