@@ -1,5 +1,5 @@
 -- The bytes that a reader of lines has left, where they are known, and what taking a line from it does to them.
-use Rattle.std.specs.Prelude.{◌≡◌, ◌≢◌, ◌-◌, ℕ, List, [], ◌∷◌, ◌++◌, length, take, drop, All, Option, Some, None, Result, MatchResult}
+use Rattle.std.specs.Prelude.{◌≡◌, ◌≢◌, ◌-◌, ℕ, List, [], ◌∷◌, ◌++◌, length, take, drop, All, Option, Some, None, Bool, true, false, Result, Ok, Err, MatchResult}
 use Rattle.std.specs.Io.KnownBytes.{Consumes, IsAtEnd, Keeps, prepend_known}
 use Rattle.bpf_streams.specs.declared.line_reader.LineStop.{LineStop}
 use Rattle.bpf_streams.specs.declared.line_reader.LineStop.TheVariants as stop
@@ -15,6 +15,12 @@ Byte old new (Some b) = Consumes old new (b ∷ [])
 -- the next byte was taken; None at the end
 abbrev pub TakesByte : {E : Type 0} → Option (List ℕ) → Option (List ℕ) → Result (Option ℕ) E → Type 0
 TakesByte old new r = MatchResult r (λ o. Byte old new o) (λ _. Keeps old new)
+
+-- nothing was taken, and nothing is left where there is no byte
+abbrev pub Fills : {E : Type 0} → Option (List ℕ) → Option (List ℕ) → Result Bool E → Type 0
+Fills old new (Ok true) = Keeps old new
+Fills old new (Ok false) = Keeps old new × IsAtEnd new
+Fills old new (Err e) = Keeps old new
 
 -- no LF among the bytes
 abbrev pub IsOneLine : List ℕ → Type 0

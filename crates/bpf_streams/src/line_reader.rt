@@ -50,7 +50,7 @@ impl<R: Read + Drop> Model for LineReader<R> {
 }
 
 impl<R: Read + Drop> LineReader<R> {
-    ghost use Rattle.bpf_streams.specs.Taken.{TakesByte, TakesLine, IsOneLine};
+    ghost use Rattle.bpf_streams.specs.Taken.{Fills, TakesByte, TakesLine, IsOneLine};
 
     /// A reader of the lines that another one has left.
     pub fn new(reader: R) -> Self
@@ -67,6 +67,24 @@ impl<R: Read + Drop> LineReader<R> {
     /// Whether the next line is taken without a read. No answer depends on it.
     pub fn has_line(&self) -> bool {
         memchr(b'\n', &self.buffer[self.at..self.end]).is_some()
+    }
+
+    /// Reads into the buffer if nothing is left in it. Whether there is a byte in it then.
+    fn fill(&mut self) -> Result<bool, ReadFault>
+        ensures { Fills self.old self.new result }
+    {
+        if self.at == self.end {
+            self.at = 0;
+            self.end = 0;
+            let Ok(held) = self.reader.read(&mut self.buffer) else {
+                return Err(ReadFault);
+            };
+            if held == 0 {
+                return Ok(false);
+            }
+            self.end = held;
+        }
+        Ok(true)
     }
 
     /// The next byte, or none at the end.
@@ -112,8 +130,8 @@ impl<R: Read + Drop> LineReader<R> {
         }
     }
 
-    /// The next line of at most `MOST` bytes without its LF, and what ended it. The line is empty before.
-    pub fn next_line<const MOST: usize>(&mut self, line: &mut ArrayVec<u8, MOST>) -> LineStop
+    /// A line of which the buffer has a front, or all.
+    fn held_line<const MOST: usize>(&mut self, line: &mut ArrayVec<u8, MOST>) -> LineStop
         requires { line.old.items ≡ [] }
         ensures taken { TakesLine MOST self.old self.new line.new.items result }
         ensures one_line { IsOneLine line.new.items }
@@ -129,6 +147,20 @@ impl<R: Read + Drop> LineReader<R> {
                 Err(_) => self.read_line(line),
             },
             None => self.read_line(line),
+        }
+    }
+
+    /// The next line of at most `MOST` bytes without its LF, and what ended it. The line is empty before.
+    pub fn next_line<const MOST: usize>(&mut self, line: &mut ArrayVec<u8, MOST>) -> LineStop
+        requires { line.old.items ≡ [] }
+        ensures taken { TakesLine MOST self.old self.new line.new.items result }
+        ensures one_line { IsOneLine line.new.items }
+        ensures short { length line.new.items ≤ MOST }
+    {
+        match self.fill() {
+            Err(ReadFault) => LineStop::Failed,
+            Ok(false) => LineStop::End,
+            Ok(true) => self.held_line(line),
         }
     }
 }

@@ -2,7 +2,7 @@ use Rattle.std.proofs.Common.{◌≡◌, ◌<◌, ◌+◌, ◌-◌, ◌∷◌, �
 use Rattle.std.specs.Io.KnownBytes.{Consumes}
 use Rattle.bpf_streams.specs.Taken.{IsOneLine, unread}
 use Rattle.bpf_streams.proofs.HeldLemmas.{ended, line_taken}
-use Rattle.bpf_streams.proofs.line_reader.LineReader.next_line.Goals as goal
+use Rattle.bpf_streams.proofs.line_reader.LineReader.held_line.Goals as goal
 
 pub returns-in-Ok-clause-taken : goal.returns-in-Ok-clause-taken
 returns-in-Ok-clause-taken g c =
