@@ -2,7 +2,7 @@
 
 ghost use Rattle.std.specs.Prelude.{◌≡◌, ◌≤◌, ◌∷◌, [], List, length, get_or, true, false, IfOk, Ok};
 ghost use Rattle.bpf_cert.specs.Line.{Line};
-ghost use Rattle.bpf_cert.specs.code.Standing.{IsValue, IsEntry, value_line, IsRuled};
+ghost use Rattle.bpf_cert.specs.code.Standing.{IsValue, IsEntry, entry_line, value_line, IsRuled};
 ghost use Rattle.bpf_cert.specs.code.Building.{IsBuilt, IsRegisterContent, ClosesLabel, Closes, Puts, index_of, fault_at, Pushes, Takes, AreLinesOf};
 ghost use Rattle.bpf_cert.specs.Spelling.{contents};
 ghost use Rattle.bpf_state.specs.declared.known.SlotState.TheVariants.{Bytes};
@@ -149,6 +149,18 @@ impl Builder {
         Ok(())
     }
 
+    /// Takes an entry. Nothing is said of the builder once memory ran out.
+    fn push_entry(&mut self, place: Place, content: SlotState) -> Result<(), AllocError>
+        requires entry { IsEntry place content }
+        requires built { (lines : List Line) × IsBuilt lines self.old × IsRuled lines (entry_line place content) }
+        ensures { Pushes (entry_line place content) self.old self.new result }
+    {
+        let standing = self.standing.after_entry(place);
+        self.put(place, content)?;
+        self.standing = standing;
+        Ok(())
+    }
+
     /// Takes what a line says. Nothing is said of the builder once memory ran out.
     fn push(&mut self, value: LineValue) -> Result<(), AllocError>
         requires value { IsValue value }
@@ -176,7 +188,7 @@ impl Builder {
                     budget: Budget { base, terms },
                 };
             }
-            LineValue::Entry { place, content } => self.put(place, content)?,
+            LineValue::Entry { place, content } => return self.push_entry(place, content),
             LineValue::End => self.close()?,
         }
         self.standing = standing;
@@ -200,6 +212,12 @@ impl Builder {
         requires built { (lines : List Line) × IsBuilt lines self.old × (is_ended lines ≡ false) }
         ensures { (lines : List Line) → IsBuilt lines self.old → is_ended lines ≡ false → Takes line lines text.now self.new result }
     {
+        if let Some((place, content)) = self.standing.entry_in_order(text) {
+            return match self.push_entry(place, content) {
+                Ok(()) => Ok(()),
+                Err(_) => Err(CertError::Memory),
+            };
+        }
         let value = match self.standing.judge(text) {
             Ok(value) => value,
             Err(flaw) => return Err(at_line(flaw, line)),

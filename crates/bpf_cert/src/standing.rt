@@ -11,7 +11,7 @@ ghost use Rattle.bpf_cert.specs.Reading.{header_in, function_in, label_in, entry
 ghost use Rattle.bpf_cert.specs.code.Findings.{found, valued};
 ghost use Rattle.bpf_cert.specs.Spelling.{spelled_place};
 ghost use Rattle.bpf_cert.specs.code.Seen.{place_seen};
-ghost use Rattle.bpf_cert.specs.code.Standing.{Stands, IsValue, FunctionIs, LabelIs, EntryIs, value_line, value_place, stage_of, is_start, may_have_label, may_have_entry, ruled, IsRuled, fields_in};
+ghost use Rattle.bpf_cert.specs.code.Standing.{Stands, IsValue, IsEntry, entry_line, FunctionIs, LabelIs, EntryIs, value_line, value_place, stage_of, is_start, may_have_label, may_have_entry, ruled, IsRuled, fields_in};
 
 use crate::certificate::Term;
 use crate::content::content;
@@ -308,11 +308,11 @@ impl Standing {
         self.entry(name, rest)
     }
 
-    /// What a line says behind the lines so far, if it is a usual entry and in order.
+    /// The place and the content that a line gives behind the lines so far, if it is a usual entry and in order.
     #[inline(always)]
-    fn usual(self, text: &[u8]) -> Option<LineValue>
-        ensures value { IfSome result (λ v. (before : List Line) → Stands before self → Ok (value_line v) ≡ ruled before (line_in text.now)) }
-        ensures kept { IfSome result IsValue }
+    pub fn entry_in_order(self, text: &[u8]) -> Option<(Place, SlotState)>
+        ensures value { IfSome result (λ x. (before : List Line) → Stands before self → Ok (entry_line x.0 x.1) ≡ ruled before (line_in text.now)) }
+        ensures kept { IfSome result (λ x. IsEntry x.0 x.1) }
     {
         if !self.may_have_entry() {
             return None;
@@ -320,7 +320,7 @@ impl Standing {
         match usual_entry(text) {
             Some((place, content)) => {
                 if follows(self.place, place) {
-                    Some(LineValue::Entry { place, content })
+                    Some((place, content))
                 } else {
                     None
                 }
@@ -389,9 +389,6 @@ impl Standing {
         ensures value { (before : List Line) → Stands before self → valued value_line result ≡ ruled before (line_in text.now) }
         ensures kept { IfOk result IsValue }
     {
-        if let Some(value) = self.usual(text) {
-            return Ok(value);
-        }
         if let Some(value) = self.label_in_order(text) {
             return Ok(value);
         }
@@ -401,6 +398,18 @@ impl Standing {
         match self.header_in_order(text) {
             Some(value) => Ok(value),
             None => self.judge_fields(text),
+        }
+    }
+
+    /// What is kept once an entry of the place is there, too.
+    pub fn after_entry(self, place: Place) -> Standing
+        ensures place { result.place ≡ Some place }
+        ensures stands { (before : List Line) (content : SlotState) → Stands before self → IsRuled before (entry_line place content) → Stands (entry_line place content ∷ before) result }
+    {
+        Standing {
+            stage: Stage::Label,
+            place: Some(place),
+            ..self
         }
     }
 
@@ -431,11 +440,7 @@ impl Standing {
                 labels: self.labels.saturating_add(1),
                 ..self
             },
-            LineValue::Entry { place, .. } => Standing {
-                stage: Stage::Label,
-                place: Some(place),
-                ..self
-            },
+            LineValue::Entry { place, .. } => self.after_entry(place),
             LineValue::End => Standing {
                 stage: Stage::Ended,
                 place: None,

@@ -21,12 +21,16 @@ use Rattle.bpf_cert.specs.declared.standing.Standing.{Standing}
 use Rattle.bpf_cert.specs.declared.standing.LineValue.{LineValue}
 use Rattle.bpf_cert.specs.declared.standing.LineValue.TheVariants as value
 
+-- the line of an entry
+abbrev pub entry_line : PlaceValue → SlotState → Line
+entry_line place content = Line.entry (spelled_place place) (content_of content)
+
 -- the line that says so
 abbrev pub value_line : LineValue → Line
 value_line (value.Header h) = header_line h
 value_line (value.Function first depth ret) = Line.function (decimal first) (decimal depth) (number_of ret)
 value_line (value.Label slot base terms) = Line.label (decimal slot) (decimal base) (map term_of terms.items)
-value_line (value.Entry place content) = Line.entry (spelled_place place) (content_of content)
+value_line (value.Entry place content) = entry_line place content
 value_line value.End = Line.end
 
 -- what is known of an entry besides
