@@ -66,7 +66,7 @@ makes_tree() {
     cp "$root/tests/prebuilt.sh" "$root/tests/library.sh" "$tree/tests"
     printf 'bpf_host staticlib:\nother:\nbpf:\n' >"$tree/crates.txt"
     echo one >"$tree/crates/bpf/src/main.rt"
-    touch "$tree"/crates/bpf_host/src/{lib,explaining,certifying,converting}.rt "$tree/crates/bpf_host/specs/Lib.antt" "$tree/crates/other/src/lib.rt" "$tree/crates/bpf/proofs/Answers.antt"
+    touch "$tree"/crates/bpf_host/src/{lib,explaining,certifying,converting,trapping}.rt "$tree/crates/bpf_host/specs/Lib.antt" "$tree/crates/other/src/lib.rt" "$tree/crates/bpf/proofs/Answers.antt"
     ln -s "$kit/toolchain" "$kit/c" "$kit/rlibs" "$dir/kit"
     cat >"$dir/kit/bin/rattle" <<'RATTLE'
 #!/usr/bin/env bash
